@@ -2,12 +2,12 @@
 """Whether the pages say what is there: scripts/pages.py [--check] [--clauses]
 
 --check prints what is wrong, a line each, and its status is then 1: README.md has more than 150 lines or 900 words, or all pages
-have more than 25,000; a page has a word that CONTRIBUTING.md's last table refuses; a relative link in
-a page (*.md at the top and in docs/) leads to no file; a name that reads as a crate of the repository is not in crates.txt; one in backticks that
-reads as a file (`name.rt`, `Name.antt`, `name.rows`, `name.edit`, `name.py`) is the name of no file; a name in the first column of
-docs/DEFINITIONS.md is none of `specs/`; docs/PROMISES.md or docs/MAP.md says nothing of a crate of crates.txt; a line of a block
-that begins behind `<!-- from PATH -->` does not stand in that file behind the lines before it; a public clause is longer than 160
-characters.
+(*.md at the top and in docs/) have more than 25,000 words; a page has a word that the last table of CONTRIBUTING.md refuses; a
+relative link of a page leads to no file; a name that reads as a crate of the repository is not in crates.txt; one in backticks
+that reads as a file (`name.rt`, `Name.antt`, `name.rows`, `name.edit`, `name.py`) is the name of no file; a table of
+docs/PROMISES.md names a function, a clause or a definition that is not there; docs/PROMISES.md or docs/MAP.md says nothing of a
+crate of crates.txt; a line of a block after `<!-- from PATH -->` is not in that file, after the lines before it; a public clause
+is longer than 160 characters.
 
 What reads as a crate: a word that begins with `graphql_`; one that begins as the crates of an area do (`tree_`, `read_`, ..), if the
 sources have nothing else of that name, neither an item, a definition nor a file; and, whatever it begins with, a name in backticks
@@ -53,6 +53,8 @@ def other_names(library):
     """The names of the sources that are no crates: of items, of definitions, and of files."""
     paths = [path for part in ("src", "data", "planted", "must-fail") for path in sources.paths(f"crates/*/{part}/*")]
     known = {os.path.basename(path).split(".")[0] for path in paths}
+    for source in sources.paths("crates/graphql_checked/src/*.rt"):
+        known |= {label for function in sources.functions(sources.read(source)) for _, label, _, _ in function.clauses}
     for file in library.files.values():
         known |= set(file.definitions) | set(file.owners)
     for source in sources.paths("crates/*/src/*.rt"):
@@ -94,22 +96,33 @@ def unknown_files(path, text, files):
                 yield f"{path}:{number}: `{word}` is the name of no file"
 
 
-def unknown_definitions(path, library):
-    """The names of definitions that are not there."""
-    known = set(sources.crates())
-    for file_path, file in library.files.items():
-        known |= set(file.definitions) | set(file.owners) | {os.path.basename(file_path)[: -len(".antt")]}
-        for definition in file.definitions.values():
-            known |= set(re.findall(r"pub (\w+) :", "\n".join(definition.parts)))
-            known |= {part for part in definition.name.split("◌") if part}
+def unknown_clauses(path, library):
+    """The functions, clauses and definitions that the tables of a page name as what promises, and that are not there.
+
+    A cell is parts with `;` between: names of functions, then behind `:` the names of their clauses. A part without a function
+    speaks of those of the part before."""
+    clauses, known = {}, set()
     for source in sources.paths("crates/*/src/*.rt"):
-        known |= set(re.findall(r"^pub (?:struct|enum) (\w+)", sources.read(source), re.M))
+        text = sources.masked(sources.read(source))
+        for function in sources.functions(sources.read(source), text):
+            clauses.setdefault(function.name, set()).update(label.split()[-1] for _, label, _, _ in function.clauses if label)
+        known |= set(re.findall(r"\b(?:fn|struct|enum|trait|type|ghost) (\w+)", text))
+    for file in library.files.values():
+        known |= set(file.definitions) | set(file.owners)
+    functions, by = [], False
     for number, line in enumerate(sources.read(path).split("\n"), 1):
-        if line.startswith("| `"):
-            for word in re.findall(r"`([^`]+)`", line.split("|")[1]):
-                for name in re.split(r"[\s,]+", word):
-                    if name and name != ".." and name not in known:
-                        yield f"{path}:{number}: `{name}` is no definition"
+        cells = [cell.strip() for cell in line.strip("|").split("|")] if line.startswith("|") else []
+        by = len(cells) == 2 and (by or cells[1] == "By")
+        for part in cells[1].split("; ") if by else []:
+            names, _, labels = part.partition(": ")
+            named = [name.split("::")[-1] for name in re.findall(r"`([\w:]+)`", names)]
+            functions = named or functions
+            for name in named:
+                if name not in clauses and name not in known and name not in sources.crates():
+                    yield f"{path}:{number}: `{name}` is no function and no definition"
+            for label in re.findall(r"`(\w+)`", labels):
+                if not any(label in clauses.get(name, ()) for name in functions):
+                    yield f"{path}:{number}: `{label}` is no clause of {', '.join(functions)}"
 
 
 def misquoted(path, text):
@@ -196,7 +209,7 @@ def main(words):
     for name, count, most in (("README.md", counts["README.md"], README_WORDS), ("all pages", sum(counts.values()), ALL_WORDS)):
         if count > most:
             wrong.append(f"{name}: {count} words, more than {most}")
-    wrong += unknown_definitions("docs/DEFINITIONS.md", library)
+    wrong += unknown_clauses("docs/PROMISES.md", library)
     wrong += left_out(crates)
     clauses = long_clauses(library)
     if "--clauses" in words:
