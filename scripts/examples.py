@@ -2,7 +2,7 @@
 """Whether the examples print what they say: scripts/examples.py [--check] [--write]
 
 A run is a command and what it prints. A line that begins with `$ ` is a command, for bash, at the top of the repository; the
-lines behind it are what it prints, to standard output and standard error; the last may be its status in brackets, `[1]`, which
+lines after it are what it prints, to standard output and standard error; the last may be its status in brackets, `[1]`, which
 is 0 where none stands. A line that begins with `# ` is a comment. Runs stand in examples/*/runs.txt, and in README.md, GUIDE.md and CONTRIBUTING.md in each block that
 begins with ```console.
 

@@ -99,8 +99,8 @@ def unknown_files(path, text, files):
 def unknown_clauses(path, library):
     """The functions, clauses and definitions that the tables of a page name as what promises, and that are not there.
 
-    A cell is parts with `;` between: names of functions, then behind `:` the names of their clauses. A part without a function
-    speaks of those of the part before."""
+    A cell is parts with `;` between: names of functions, then after `:` the names of their clauses. A part without a function
+    is about those of the part before."""
     clauses, known = {}, set()
     for source in sources.paths("crates/*/src/*.rt"):
         text = sources.masked(sources.read(source))
