@@ -6,6 +6,7 @@ use graphql_names::Node;
 use std::alloc::{AllocError, Global};
 
 /// A node of `value` with the place of another node.
+#[inline(never)]
 pub(crate) fn node_at<T, U: Drop>(
     alloc: Global,
     other: &Node<T>,

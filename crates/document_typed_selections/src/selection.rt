@@ -21,12 +21,32 @@ pub enum Selection {
 
 impl Drop for Selection {
     #[cycle(drop_selection)]
+    #[inline(never)]
     fn drop(self) {
         match self {
-            Selection::Field(_) | Selection::FragmentSpread(_) | Selection::InlineFragment(_) => {}
+            Selection::Field(node) => drop_field(node),
+            Selection::FragmentSpread(node) => drop_spread(node),
+            Selection::InlineFragment(node) => drop_inline(node),
         }
     }
 }
+
+// What is let go lies on the stack meanwhile. Each kind has a function of its own, which is not inlined, so that a level of
+// selections takes the stack of its kind alone.
+
+#[cycle(drop_selection)]
+#[inline(never)]
+fn drop_field(_node: Node<Field>) {}
+
+#[inline(never)]
+fn drop_spread(_node: Node<FragmentSpread>) {}
+
+#[cycle(drop_selection)]
+#[inline(never)]
+fn drop_inline(_node: Node<InlineFragment>) {}
+
+#[inline(never)]
+fn drop_definition(_node: Node<FieldDefinition>) {}
 
 /// `alias: name(arguments) @directives { selections }` (section 2.5), with the definition of the field by that name of
 /// the type that it is selected on (section 5.3.1).
@@ -45,13 +65,14 @@ impl Drop for Field {
     #[cycle(drop_selection)]
     fn drop(self) {
         let Field {
-            definition: _,
+            definition,
             alias: _,
             name: _,
             arguments: _,
             directives: _,
             selection_set: _,
         } = self;
+        drop_definition(definition);
     }
 }
 

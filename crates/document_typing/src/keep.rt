@@ -1,4 +1,5 @@
-//! Selections with their meaning, put behind those that are kept.
+//! Selections with their meaning, put behind those that are kept. None of these is inlined, so that what they hold takes no
+//! stack at each level of selections.
 ghost use Rattle.std.specs.Prelude.{◌≡◌, ◌++◌, [], ◌∷◌, ℕ, List, Option, OnOk};
 ghost use Rattle.std.specs.Option.{option_map};
 ghost use Rattle.graphql_names.specs.Node.{content, place};
@@ -22,6 +23,7 @@ use tree_type_members::FieldDefinition;
 /// Keeps a field with its definition, which it shares with the schema, and its set. It shares arguments and directives
 /// with the tree.
 #[tactic(auto, using(document_typed_selections::proofs::TypedTrees::typed_tree_rules))]
+#[inline(never)]
 pub(crate) fn keep_field(
     alloc: Global,
     definition: Node<FieldDefinition>,
@@ -53,6 +55,7 @@ pub(crate) fn keep_field(
 
 /// Keeps a spread.
 #[tactic(auto, using(document_typed_selections::proofs::TypedTrees::typed_tree_rules))]
+#[inline(never)]
 pub(crate) fn keep_spread(
     alloc: Global,
     spread: &Node<FragmentSpread>,
@@ -73,6 +76,7 @@ pub(crate) fn keep_spread(
 
 /// Keeps an inline fragment with its set.
 #[tactic(auto, using(document_typed_selections::proofs::TypedTrees::typed_tree_rules))]
+#[inline(never)]
 pub(crate) fn keep_inline(
     alloc: Global,
     inline: &Node<InlineFragment>,

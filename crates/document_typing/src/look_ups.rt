@@ -85,6 +85,8 @@ fn unknown_field(alloc: Global, name: &Name) -> Result<Node<FieldDefinition>, Al
 
 /// The definition of the field of that name on the type of that name, if there is one. It is shared with the schema;
 /// without a schema each field has one.
+// It is not inlined, so that what it holds takes no stack at each level of selections.
+#[inline(never)]
 pub(crate) fn definition_of(
     alloc: Global,
     schema: Option<&Schema>,

@@ -1,4 +1,5 @@
-//! The rules of typing on selections: each gives what breaks it.
+//! The rules of typing on selections: each gives what breaks it. What tells is not inlined, so that it takes no stack at each
+//! level of selections.
 ghost use Rattle.std.specs.Prelude.{◌≡◌, ◌++◌, [], ◌∷◌, true, OnOk};
 ghost use Rattle.fault_document_data.specs.DocumentBreaches as breach;
 ghost use Rattle.fault_document_data.specs.DocumentBreachView.{document_breach_of};
@@ -28,6 +29,7 @@ pub(crate) fn tell(
 }
 
 /// A field is defined on the type that it is selected on (section 5.3.1): this one is not.
+#[inline(never)]
 pub(crate) fn undefined_field(
     location: Option<SourceSpan>,
     type_name: &Name,
@@ -60,6 +62,7 @@ pub(crate) fn may_select(
 }
 
 /// Tells of a set on a leaf, which is a scalar or an enum.
+#[inline(never)]
 pub(crate) fn subselection_on_leaf(
     schema: Option<&Schema>,
     location: Option<SourceSpan>,
@@ -79,6 +82,7 @@ pub(crate) fn subselection_on_leaf(
 }
 
 /// An inline fragment is on a type that is there (section 5.5.1.2): this one is not.
+#[inline(never)]
 pub(crate) fn undefined_type_in_inline_fragment_type_condition(
     location: Option<SourceSpan>,
     type_name: &Name,

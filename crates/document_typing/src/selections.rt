@@ -1,4 +1,4 @@
-//! Typing of selections.
+//! Typing of selections. What holds much is not inlined, so that a level of selections takes the stack of its kind alone.
 ghost use Rattle.std.specs.Prelude.{◌≡◌, ◌++◌, [], ◌∷◌, ℕ, List, IfOk, OnOk};
 ghost use Rattle.std.specs.Option.{option_map};
 ghost use Rattle.graphql_names.specs.Node.{content, place};
@@ -99,8 +99,14 @@ fn type_field(
     }
 }
 
+/// Lets a definition go.
+// It is not inlined, so that what lets go takes no stack at each level of selections.
+#[inline(never)]
+fn drop_definition(_definition: Node<FieldDefinition>) {}
+
 /// Keeps the field with its definition, or tells that it selects from a leaf (section 5.3.3).
 #[cycle(typing)]
+#[inline(never)]
 fn type_defined_field(
     alloc: Global,
     schema: Option<&Schema>,
@@ -116,10 +122,17 @@ fn type_defined_field(
     let inner = inner_name(&definition);
     let selections = &field.content().selection_set;
     if !may_select(schema, inner, selections) {
-        return subselection_on_leaf(schema, field.location(), inner, faults);
+        let told = subselection_on_leaf(schema, field.location(), inner, faults);
+        drop_definition(definition);
+        return told;
     }
-    let set = type_set(alloc, schema, inner, selections, faults)?;
-    keep_field(alloc, definition, field, set, out)
+    match type_set(alloc, schema, inner, selections, faults) {
+        Ok(set) => keep_field(alloc, definition, field, set, out),
+        Err(error) => {
+            drop_definition(definition);
+            Err(error)
+        }
+    }
 }
 
 /// Keeps the inline fragment with its set, on the type of its condition or else on that around it, or tells that its
@@ -154,6 +167,7 @@ fn type_inline(
 
 /// Keeps the inline fragment with its set on that type.
 #[cycle(typing)]
+#[inline(never)]
 fn type_inline_on(
     alloc: Global,
     schema: Option<&Schema>,

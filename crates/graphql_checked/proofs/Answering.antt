@@ -10,11 +10,13 @@ use Rattle.verdict_definitions.specs.Answer.{WritesDocument}
 use Rattle.checker_answers.specs.declared.run_fault.Outcome.{Outcome}
 use Rattle.checker_answers.specs.declared.run_fault.Outcome.TheVariants.{Accepted}
 use Rattle.checker_answers.specs.declared.run_fault.RunFault.{RunFault}
-use Rattle.graphql_checked.specs.CheckerValue.{CheckedSchemaValue, IsCheckedSchemaOf, IsCheckedDocumentOf}
-use Rattle.graphql_checked.specs.Refusals.{RefusalOfSchemas, RefusalOfDocument}
+use Rattle.checker_schemas.specs.CheckedSchemaValue.{CheckedSchemaValue, IsCheckedSchemaOf}
+use Rattle.checker_documents.specs.CheckerValue.{IsCheckedDocumentOf}
+use Rattle.checker_schemas.specs.Refusals.{RefusalOfSchemas}
+use Rattle.checker_documents.specs.DocumentRefusals.{RefusalOfDocument}
 use Rattle.graphql_checked.specs.Run.{BytesOf, IsAnswerTo, AcceptsOrFails, IsWrittenAnswer, IsAnswerOfRefusal}
-use Rattle.graphql_checked.specs.declared.refusal.Refusal.{Refusal}
-use Rattle.graphql_checked.specs.declared.refusal.Refusal.TheVariants.{Faults, Memory, Failed}
+use Rattle.checker_texts.specs.declared.refusal.Refusal.{Refusal}
+use Rattle.checker_texts.specs.declared.refusal.Refusal.TheVariants.{Faults, Memory, Failed}
 use Rattle.graphql_checked.proofs.Verdicts.{accepted_pair, yes_pair, refused_pair}
 
 module _ (terms : Terms) (texts : List SourceText) (text : SourceText) (schema : CheckedSchemaValue) (is : IsCheckedSchemaOf terms texts schema) where

@@ -1,13 +1,3 @@
-pub mod Deciding
-pub mod Adding
-pub mod TextsReading
-pub mod Refusing
-pub mod Filling
-pub mod Building
-pub mod Validating
-pub mod Finishing
-pub mod Checking
-pub mod Typing
 pub mod Verdicts
 pub mod Answering
 pub mod Completing

@@ -13,17 +13,19 @@ use Rattle.verdict_definitions.specs.Says.{AnyFault}
 use Rattle.verdict_definitions.specs.Answer.{RefusesDocument, Refuses}
 use Rattle.book_validity.specs.Yes.{IsYes}
 use Rattle.book_laws.proofs.AcceptedFacts.{accepted_by_the_book}
-use Rattle.graphql_checked.specs.CheckerValue.{CheckerValue, CheckedSchemaValue, IsCheckedSchemaOf, IsCheckedDocumentOf}
-use Rattle.graphql_checked.specs.CheckerAnswers.{IsCheckerAddRefusal, IsFinishRefusal}
-use Rattle.graphql_checked.specs.Refusals.{RefusalOfSchemas, RefusalOfDocument}
+use Rattle.checker_schemas.specs.CheckedSchemaValue.{CheckedSchemaValue, IsCheckedSchemaOf}
+use Rattle.checker_documents.specs.CheckerValue.{CheckerValue, IsCheckedDocumentOf}
+use Rattle.checker_documents.specs.CheckerAnswers.{IsCheckerAddRefusal, IsFinishRefusal}
+use Rattle.checker_schemas.specs.Refusals.{RefusalOfSchemas}
+use Rattle.checker_documents.specs.DocumentRefusals.{RefusalOfDocument}
 use Rattle.graphql_checked.specs.Verdicts.{IsVerdict, refusal_verdict}
-use Rattle.graphql_checked.specs.declared.refusal.Refusal.{Refusal}
-use Rattle.graphql_checked.specs.declared.refusal.Refusal.TheVariants.{Faults, Memory, Failed}
+use Rattle.checker_texts.specs.declared.refusal.Refusal.{Refusal}
+use Rattle.checker_texts.specs.declared.refusal.Refusal.TheVariants.{Faults, Memory, Failed}
 use Rattle.graphql_checked.specs.declared.verdict.Verdict.{Verdict}
 use Rattle.graphql_checked.specs.declared.verdict.Verdict.TheVariants.{Accepted}
 use Rattle.graphql_checked.specs.declared.verdict.CheckError.{CheckError}
 use Rattle.graphql_checked.specs.declared.verdict.CheckError.TheVariants as error
-use Rattle.graphql_checked.proofs.Deciding.{one_list}
+use Rattle.checker_texts.proofs.Deciding.{one_list}
 
 -- ---- a checker that is given texts
 

@@ -1,12 +1,3 @@
-pub mod CheckerValue
-pub mod CheckedView
-pub mod Refusals
-pub mod CheckerAnswers
 pub mod Verdicts
 pub mod Run
 pub mod Called
-pub mod Unread
-pub mod Added
-pub mod TextsView
-pub mod Finishing
-pub mod Checking

@@ -15,9 +15,9 @@ use Rattle.checker_answers.specs.declared.run_fault.Outcome.{Outcome}
 use Rattle.checker_answers.specs.declared.run_fault.Outcome.TheVariants.{Accepted, Refused}
 use Rattle.checker_answers.specs.declared.run_fault.RunFault.{RunFault}
 use Rattle.checker_answers.specs.declared.run_fault.RunFault.TheVariants.{Memory, Reader, NotUtf8, Writer}
-use Rattle.graphql_checked.specs.CheckerValue.{CheckedSchemaValue}
-use Rattle.graphql_checked.specs.declared.refusal.Refusal.{Refusal}
-use Rattle.graphql_checked.specs.declared.refusal.Refusal.TheVariants as refusal
+use Rattle.checker_schemas.specs.CheckedSchemaValue.{CheckedSchemaValue}
+use Rattle.checker_texts.specs.declared.refusal.Refusal.{Refusal}
+use Rattle.checker_texts.specs.declared.refusal.Refusal.TheVariants as refusal
 
 -- the bytes that go with an outcome for these texts
 abbrev pub BytesOf : Terms → Layout → Outcome → List SourceText → SourceText → List ℕ → Type 0

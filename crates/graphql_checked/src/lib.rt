@@ -2,33 +2,24 @@
 //! written anew come out.
 //!
 //! For the layer above: a yes is right, each fault is right, and what is written is the layout's bytes. The definitions are those
-//! of `verdict_definitions` (`Judge`, `Says`, `Answer`, `Out`); contracts of the calls here say which of them holds
-//! (`specs/Refusals.antt`, `specs/Verdicts.antt`, `specs/Run.antt`).
+//! of `verdict_definitions` (`Judge`, `Says`, `Answer`, `Out`); contracts of the calls say which of them holds
+//! (`specs/Verdicts.antt`, `specs/Run.antt` here, `specs/CheckerAnswers.antt` of `checker_documents`).
 //!
-//! A [`Checker`] takes schema texts and gives a [`CheckedSchema`], which checks documents; [`check_texts`] is the two in one
-//! call, and [`run`] the same over readers and a writer. Begin with `checker.rt`, `checked_schema.rt` and `run_texts.rt`.
+//! A [`Checker`] takes schema texts and gives a [`CheckedSchema`], which checks documents (both of `checker_documents`);
+//! [`check_texts`] is the two in one call, and [`run`] the same over readers and a writer. Begin with `verdict.rt` and
+//! `run_texts.rt`.
 #![tactic(auto)]
 
-mod build_errors;
-mod checked_document;
-mod checked_schema;
-mod checker;
-mod finish;
-mod read_text;
-mod refusal;
 mod run_texts;
-mod schema_texts;
 mod verdict;
 
-pub use checked_document::CheckedDocument;
-pub use checked_schema::CheckedSchema;
-pub use checker::{Checker, Limits};
 pub use checker_answers::{Outcome, RunFault, exit_status};
+pub use checker_documents::{CheckedDocument, CheckedSchema, Checker, Limits};
 pub use checker_layouts::Layout;
 pub use checker_settings::Settings;
+pub use checker_texts::Refusal;
 pub use document_typed_operations::ExecutableDocument;
 pub use graphql_faults::{Details, DiagnosticList};
 pub use graphql_schema::Schema;
-pub use refusal::Refusal;
 pub use run_texts::run;
 pub use verdict::{CheckError, Verdict, check_texts};

@@ -2,17 +2,16 @@
 
 ghost use Rattle.std.specs.Prelude.{◌≡◌, ◌⊎◌, Ok, Err, map, IfOk, IfErr};
 ghost use Rattle.verdict_definitions.specs.Judge.{AreSchemasCertain, IsCertain};
-ghost use Rattle.graphql_checked.specs.CheckedView.{schema_value};
-ghost use Rattle.graphql_checked.specs.CheckerValue.{IsCheckedSchemaOf};
-ghost use Rattle.graphql_checked.specs.Refusals.{RefusalOfSchemas};
+ghost use Rattle.checker_documents.specs.CheckedView.{schema_value};
+ghost use Rattle.checker_schemas.specs.CheckedSchemaValue.{IsCheckedSchemaOf};
+ghost use Rattle.checker_schemas.specs.Refusals.{RefusalOfSchemas};
 ghost use Rattle.graphql_checked.specs.Verdicts.{first_terms, IsVerdict, refusal_verdict};
-ghost use Rattle.graphql_checked.specs.declared.refusal.Refusal.TheVariants as refusal;
+ghost use Rattle.checker_texts.specs.declared.refusal.Refusal.TheVariants as refusal;
 ghost use Rattle.graphql_checked.specs.declared.verdict.Verdict.TheVariants.{Accepted};
 ghost use Rattle.graphql_checked.specs.declared.verdict.CheckError.TheVariants.{Memory};
 
-use crate::checked_schema::CheckedSchema;
-use crate::checker::{Checker, Limits};
-use crate::refusal::Refusal;
+use checker_documents::{CheckedSchema, Checker, Limits};
+use checker_texts::Refusal;
 use graphql_faults::DiagnosticList;
 use std::alloc::Global;
 use std::convert::AsStr;

@@ -15,12 +15,13 @@ use Rattle.rule_document_definitions.specs.Verdict.{FieldSetWithinBounds}
 use Rattle.rule_document_definitions.specs.Told.{PlacedDocumentFault, SetRulesFail, IsValidFieldSet}
 use Rattle.rule_document_definitions.proofs.Verdicts.{set_valid_where_nothing_is_told, set_within_bounds_where_nothing_is_told}
 use Rattle.rule_fragments.specs.Used.{AreUnderOwnNames}
+use Rattle.rule_subscriptions.specs.Nested.{NestsTooDeep}
 use Rattle.rule_selections.proofs.Typing.{field_set_reaches_typed}
 use Rattle.document_typing.specs.Meanings.{meanings}
 use Rattle.schema_types.specs.Plain.{plain}
 use Rattle.graphql_validation.specs.Operations.{AreReachesTyped, TellsData, AllUnder, OperationFails, all_told}
 use Rattle.graphql_validation.specs.Told.{IsTypedSet, SetRulesOrBoundFail, TellsFieldSet}
-use Rattle.graphql_validation.proofs.Telling.{data_in, told_cases, bound_is}
+use Rattle.graphql_validation.proofs.Telling.{data_in, limit_in, told_cases, bound_is}
 use Rattle.graphql_validation.proofs.Ordered.{beside_under}
 
 module _ (s : SchemaTree Place) (set : MeantSet Place) where
@@ -38,8 +39,8 @@ module _ (s : SchemaTree Place) (set : MeantSet Place) where
   no_fragment o g reaches = true≢false (sym (ap is_some reaches.1.1.1.1))
 
   pub tells_field_set : (faults : List PlacedFault) (is_passed : Bool) → TellsData Doc (AllUnder s Doc) (λ o. OperationFails Doc o s) faults → (IsTrue is_passed → PassesPathBound Doc)
-      → TellsFieldSet s set (all_told faults [] is_passed)
-  tells_field_set faults is_passed parts passes = record { right = right; full = full }
+      → (NestsTooDeep Doc → IsTrue is_passed) → TellsFieldSet s set (all_told faults [] is_passed)
+  tells_field_set faults is_passed parts passes found = record { right = right; full = full; bound = λ nests. limit_in faults [] is_passed (found nests) }
     where
       right : (f : PlacedDocumentFault) → Contains (all_told faults [] is_passed) f → SetRulesOrBoundFail s set f
       right f c = elim (told_cases faults [] is_passed f c) [
@@ -61,13 +62,14 @@ module _ (s : SchemaTree Place) (set : MeantSet Place) where
 
   -- where the document is that of the set, and nothing is told but faults with data and the bound
   pub told_of_set : (d : MeantDocument Place) (faults : List PlacedFault) (breaches : List (Broken Place)) (is_passed : Bool) → d ≡ Doc → breaches ≡ []
-      → (AreReachesTyped s d → AreUnderOwnNames d → TellsData d (AllUnder s d) (λ o. OperationFails d o s) faults) → (IsTrue is_passed → PassesPathBound d) → IsTypedSet s set
+      → (AreReachesTyped s d → AreUnderOwnNames d → TellsData d (AllUnder s d) (λ o. OperationFails d o s) faults) → (IsTrue is_passed → PassesPathBound d) → (NestsTooDeep d → IsTrue is_passed) → IsTypedSet s set
       → TellsFieldSet s set (all_told faults breaches is_passed)
-  told_of_set d faults breaches is_passed is none parts passes typed =
+  told_of_set d faults breaches is_passed is none parts passes found typed =
       subst (λ bs. TellsFieldSet s set (all_told faults bs is_passed)) (sym none)
       (tells_field_set faults is_passed
       (subst (λ d. AreReachesTyped s d → AreUnderOwnNames d → TellsData d (AllUnder s d) (λ o. OperationFails d o s) faults) is parts (reaches_typed typed) own_names)
-      (subst (λ d. IsTrue is_passed → PassesPathBound d) is passes))
+      (subst (λ d. IsTrue is_passed → PassesPathBound d) is passes)
+      (subst (λ d. NestsTooDeep d → IsTrue is_passed) is found))
 
   pub silent_set : TellsFieldSet s set [] → IsValidFieldSet s set
   silent_set tells = (set_valid_where_nothing_is_told s set).1 (λ f h. not_in_nil f (tells.full f h))

@@ -1,5 +1,5 @@
 -- What is told, in order, as one list.
-use Rattle.std.proofs.Common.{◌≡◌, ◌⊎◌, inl, inr, ◌++◌, Contains, Bool, true, false, List, [], ◌∷◌, map, None, refl, ap, sym, ◌∙◌, append_assoc}
+use Rattle.std.proofs.Common.{◌≡◌, ◌⊎◌, inl, inr, ◌++◌, Contains, Bool, true, false, List, [], ◌∷◌, map, None, refl, ap, sym, ◌∙◌, subst, append_assoc}
 use Rattle.std.proofs.lemmas.List.{map-append}
 use Rattle.std.specs.Prelude.{IsTrue}
 use Rattle.std.proofs.lemmas.List.Elements.{Contains-append_left, Contains-append_right, Contains-append_cases}
@@ -8,7 +8,7 @@ use Rattle.rule_definitions.specs.Told.{PlacedFault}
 use Rattle.graphql_faults.specs.DetailsTree.{of_rule, of_document}
 use Rattle.rule_document_definitions.specs.DocumentFaults.{Broken, OfData, OfDocument, OfLimit}
 use Rattle.rule_document_definitions.specs.Told.{PlacedDocumentFault}
-use Rattle.rule_definitions.proofs.Lists.{not_in_nil, only}
+use Rattle.rule_definitions.proofs.Lists.{not_in_nil, only, Contains-first}
 use Rattle.rule_document_ground.proofs.Bridge.{from_map, to_map}
 use Rattle.rule_merging.proofs.Behind.{breaches_told}
 use Rattle.graphql_validation.specs.Operations.{bound_told, all_told}
@@ -47,6 +47,13 @@ module _ (faults : List PlacedFault) (breaches : List (Broken Place)) (is_passed
   broken_in b c =
       Contains-append_right (map OfData faults) (map OfDocument breaches ++ bound_told is_passed) (OfDocument b)
       (Contains-append_left (map OfDocument breaches) (bound_told is_passed) (OfDocument b) (to_map OfDocument breaches b c))
+
+  -- the bound
+  pub limit_in : IsTrue is_passed → Contains All (OfLimit None)
+  limit_in passed =
+      Contains-append_right (map OfData faults) (map OfDocument breaches ++ bound_told is_passed) (OfLimit None)
+      (Contains-append_right (map OfDocument breaches) (bound_told is_passed) (OfLimit None)
+      (subst (λ b. Contains (bound_told b) (OfLimit None)) (sym passed) (Contains-first (OfLimit None) [] (OfLimit None) refl)))
 
   -- what is told is one of the three
   pub told_cases : (f : PlacedDocumentFault) → Contains All f

@@ -1,5 +1,5 @@
 -- Of a document without a schema: what is told in parts tells all, and what is silent is valid.
-use Rattle.std.proofs.Common.{◌≡◌, ◌↔◌, ◌⊎◌, inl, inr, Bool, List, [], ◌∷◌, refl, subst, Contains}
+use Rattle.std.proofs.Common.{◌≡◌, ◌↔◌, ◌⊎◌, inl, inr, Bool, List, [], ◌∷◌, None, refl, subst, Contains}
 use Rattle.std.specs.Prelude.{IsTrue}
 use Rattle.graphql_names.specs.Placed.{Place}
 use Rattle.rule_definitions.proofs.Lists.{not_in_nil, Contains-first}
@@ -15,15 +15,16 @@ use Rattle.rule_document_definitions.specs.Named.{FragmentsFoundByName}
 use Rattle.rule_document_definitions.specs.Told.{PlacedDocumentFault, DocumentFailsAlone, DocumentBoundFails, IsValidAlone}
 use Rattle.rule_document_definitions.proofs.Verdicts.{valid_alone_where_nothing_is_told, within_bounds_where_nothing_is_told}
 use Rattle.rule_fragments.specs.Used.{IsUsed}
+use Rattle.rule_subscriptions.specs.Nested.{NestsTooDeep}
 use Rattle.graphql_validation.specs.Operations.{TellsData, AllAlone, OperationFailsAlone, all_told}
-use Rattle.graphql_validation.proofs.Telling.{data_in, broken_in, told_cases, bound_is}
+use Rattle.graphql_validation.proofs.Telling.{data_in, broken_in, limit_in, told_cases, bound_is}
 use Rattle.graphql_validation.proofs.Ordered.{beside_alone}
 use Rattle.graphql_validation.specs.Told.{FailsAloneBesideCycles, AnswersFragment, TellsAlone}
 
 module _ (d : MeantDocument Place) where
   pub tells_alone : (faults : List PlacedFault) (breaches : List (Broken Place)) (is_passed : Bool) → TellsData d (AllAlone d) (OperationFailsAlone d) faults → ((f : Broken Place) → Contains breaches f ↔ DeferredBreaks d f) → (IsTrue is_passed → PassesPathBound d)
-      → TellsAlone d (all_told faults breaches is_passed)
-  tells_alone faults breaches is_passed parts deferred passes = record { right = right; full = full; cycles = cycles }
+      → (NestsTooDeep d → IsTrue is_passed) → TellsAlone d (all_told faults breaches is_passed)
+  tells_alone faults breaches is_passed parts deferred passes found = record { right = right; full = full; cycles = cycles; bound = λ nests. limit_in faults breaches is_passed (found nests) }
     where
       right : (f : PlacedDocumentFault) → Contains (all_told faults breaches is_passed) f → DocumentFailsAlone d f ⊎ DocumentBoundFails d f
       right f c = elim (told_cases faults breaches is_passed f c) [

@@ -1,6 +1,5 @@
 -- Of a document under a schema: what is told in parts tells all, and what is silent is valid.
-use Rattle.std.proofs.Common.{◌≡◌, inl, inr, Bool, true, false, List, [], ◌∷◌, ◌++◌, map, None, refl, sym, subst, Contains}
-use Rattle.std.proofs.lemmas.List.Elements.{Contains-append_right}
+use Rattle.std.proofs.Common.{◌≡◌, ◌⊎◌, inl, inr, Bool, true, false, List, [], ◌∷◌, None, refl, sym, subst, Contains}
 use Rattle.std.specs.Prelude.{IsTrue}
 use Rattle.graphql_names.specs.Placed.{Place}
 use Rattle.schema_types.specs.SchemaTree.{SchemaTree}
@@ -28,18 +27,11 @@ use Rattle.rule_subscriptions.specs.Nested.{NestsTooDeep}
 use Rattle.rule_subscriptions.specs.Told.{AreAlike}
 use Rattle.document_typing.specs.Meanings.{meanings}
 use Rattle.rule_merging.specs.Merged.{MergingFailsAt}
-use Rattle.graphql_validation.specs.Operations.{AreReachesTyped, TellsData, AllUnder, OperationFails, TellsBreaches, bound_told, all_told}
+use Rattle.graphql_validation.specs.Operations.{AreReachesTyped, TellsData, AllUnder, OperationFails, TellsBreaches, all_told}
 use Rattle.graphql_validation.specs.Told.{AnswersFragment}
-use Rattle.graphql_validation.specs.TellsDocument.{IsTypedUnder, FailsBesides, SomeFails, TellsDocument}
+use Rattle.graphql_validation.specs.TellsDocument.{IsTypedUnder, FailsBesides, FailsBesideMerging, FailsInMerging, SomeFails, TellsDocument}
 use Rattle.graphql_validation.proofs.Ordered.{beside_under}
-use Rattle.graphql_validation.proofs.Telling.{data_in, broken_in, told_cases, bound_is}
-
--- the bound is told
-limit_in : (faults : List PlacedFault) (breaches : List (Broken Place)) (is_passed : Bool) → IsTrue is_passed → Contains (all_told faults breaches is_passed) (OfLimit None)
-limit_in faults breaches is_passed passed =
-    Contains-append_right (map OfData faults) (map OfDocument breaches ++ bound_told is_passed) (OfLimit None)
-    (Contains-append_right (map OfDocument breaches) (bound_told is_passed) (OfLimit None)
-    (subst (λ b. Contains (bound_told b) (OfLimit None)) (sym passed) (Contains-first (OfLimit None) [] (OfLimit None) refl)))
+use Rattle.graphql_validation.proofs.Telling.{data_in, broken_in, limit_in, told_cases, bound_is}
 
 module _ (s : SchemaTree Place) (d : MeantDocument Place) where
   -- ---- what is known of a typed document
@@ -52,6 +44,16 @@ module _ (s : SchemaTree Place) (d : MeantDocument Place) where
 
   -- ---- what is told
 
+  -- what fails beside merging, and what fails in it, fails
+  besides_some : (f : PlacedDocumentFault) → FailsBesideMerging s d f → SomeFails s d f
+  besides_some f (inl h) = inl h
+  besides_some f (inr (inl h)) = inr (inr (inl h))
+  besides_some f (inr (inr h)) = inr (inr (inr (inl h)))
+
+  merging_some : (f : PlacedDocumentFault) → FailsInMerging s d f → SomeFails s d f
+  merging_some f (inl h) = inr (inl h)
+  merging_some f (inr h) = inr (inr (inr (inr h)))
+
   -- the rules but those on merging, and the bounds
   module _ (faults : List PlacedFault) (breaches : List (Broken Place)) (is_passed : Bool)
       (parts : TellsData d (AllUnder s d) (λ o. OperationFails d o s) faults) (told : TellsBreaches d breaches) (passes : IsTrue is_passed → PassesPathBound d) (found : NestsTooDeep d → IsTrue is_passed) where
@@ -59,14 +61,14 @@ module _ (s : SchemaTree Place) (d : MeantDocument Place) where
     All = all_told faults breaches is_passed
 
     pub tells_document : TellsDocument s d (all_told faults breaches is_passed)
-    tells_document = record { right = right; full = full; cycles = cycles; subscriptions = subscriptions; bound = bound }
+    tells_document = record { right = λ f c. besides_some f (beside f c); full = full; cycles = cycles; subscriptions = subscriptions; bound = bound; apart = inl beside }
       where
-        right : (f : PlacedDocumentFault) → Contains All f → SomeFails s d f
-        right f c = elim (told_cases faults breaches is_passed f c) [
-          | inl g ↦ subst (SomeFails s d) g.1.1 (elim (parts.right g.0 g.1.0) [ inl h ↦ inl h | inr h ↦ inr (inr (inl h)) ])
+        beside : (f : PlacedDocumentFault) → Contains All f → FailsBesideMerging s d f
+        beside f c = elim (told_cases faults breaches is_passed f c) [
+          | inl g ↦ subst (FailsBesideMerging s d) g.1.1 (elim (parts.right g.0 g.1.0) [ inl h ↦ inl h | inr h ↦ inr (inl h) ])
           | inr r ↦ elim r [
-            | inl b ↦ subst (SomeFails s d) b.1.1 (inl (told.right b.0 b.1.0))
-            | inr k ↦ let b = bound_is is_passed f k in inr (inr (inr (inl (passes b.0, inr b.1))))
+            | inl b ↦ subst (FailsBesideMerging s d) b.1.1 (inl (told.right b.0 b.1.0))
+            | inr k ↦ let b = bound_is is_passed f k in inr (inr (passes b.0, inr b.1))
           ]
         ]
 
@@ -86,15 +88,12 @@ module _ (s : SchemaTree Place) (d : MeantDocument Place) where
 
   -- where they tell nothing, what merging tells is all
   pub tells_merging : TellsDocument s d [] → (told : List PlacedDocumentFault) → ((f : PlacedDocumentFault) → Contains told f → AtOperation d (λ o. MergingFailsAt (judged s) d o f)) → TellsDocument s d told
-  tells_merging tells told conflicts = record { right = right; full = full; cycles = cycles; subscriptions = subscriptions; bound = bound }
+  tells_merging tells told conflicts = record { right = λ f c. merging_some f (fails f (conflicts f c)); full = full; cycles = cycles; subscriptions = subscriptions; bound = bound; apart = inr (λ f c. fails f (conflicts f c)) }
     where
-      fails : (f : PlacedDocumentFault) → AtOperation d (λ o. MergingFailsAt (judged s) d o f) → SomeFails s d f
+      fails : (f : PlacedDocumentFault) → AtOperation d (λ o. MergingFailsAt (judged s) d o f) → FailsInMerging s d f
       fails (OfData f) at = absurd at.1.1
-      fails (OfDocument b) at = inr (inl at)
-      fails (OfLimit place) (o, (among, (passes, is))) = inr (inr (inr (inr (o, (among, (passes, λ i. OfLimit (is i)))))))
-
-      right : (f : PlacedDocumentFault) → Contains told f → SomeFails s d f
-      right f c = fails f (conflicts f c)
+      fails (OfDocument b) at = inl at
+      fails (OfLimit place) (o, (among, (passes, is))) = inr (o, (among, (passes, λ i. OfLimit (is i))))
 
       full : (f : PlacedDocumentFault) → FailsBesides s d f → Contains told f
       full f h = absurd (not_in_nil f (tells.full f h))

@@ -10,10 +10,11 @@ use Rattle.document_typing.specs.TypedByPlace.{IsTypedDocument}
 use Rattle.rule_document_definitions.specs.DocumentFaults.{Broken, OfData, OfDocument, OfLimit}
 use Rattle.rule_document_definitions.specs.DocumentRules.{DeferredBreaks}
 use Rattle.rule_document_definitions.specs.Fragments.{ReachesItself, UnusedFragmentAt}
+use Rattle.rule_document_definitions.specs.Limits.{SpreadBoundFails, PathBoundFails, ChainBoundFails}
 use Rattle.rule_document_definitions.specs.Reached.{AtOperation}
 use Rattle.rule_document_definitions.specs.Selected.{operations}
 use Rattle.rule_document_definitions.specs.Subscriptions.{SubscriptionBreaks}
-use Rattle.rule_document_definitions.specs.Told.{PlacedDocumentFault, DocumentFails, DocumentMergingFails, DocumentBoundFails, IsValidDocument}
+use Rattle.rule_document_definitions.specs.Told.{PlacedDocumentFault, DocumentFails, DocumentMergingFails, DocumentBoundFails, IsValidDocument, places_alone}
 use Rattle.rule_document_definitions.specs.Verdict.{WithinBounds}
 use Rattle.rule_fragments.specs.Used.{IsUsed}
 use Rattle.rule_subscriptions.specs.Nested.{NestsTooDeep}
@@ -37,9 +38,17 @@ module _ (s : SchemaTree Place) (d : MeantDocument Place) where
   abbrev pub SomeFails : PlacedDocumentFault → Type 0
   SomeFails f = DocumentFails s d f ⊎ (DocumentMergingFails s d f ⊎ DocumentBoundFails d f)
 
+  -- the fields of an operation do not merge so, or its chains of fields are too long
+  abbrev pub FailsInMerging : PlacedDocumentFault → Type 0
+  FailsInMerging f = DocumentMergingFails s d f ⊎ ChainBoundFails places_alone d f
+
+  -- a rule fails so that is none on merging, or another bound is passed
+  abbrev pub FailsBesideMerging : PlacedDocumentFault → Type 0
+  FailsBesideMerging f = DocumentFails s d f ⊎ (SpreadBoundFails places_alone d f ⊎ PathBoundFails places_alone d f)
+
   -- these tell what fails of the document, and all of it: of cycles, each fragment that reaches itself; of subscriptions, each fault
   -- or one that tells the same root fields; of bounds, that on paths where it is passed in one text. What does not merge may be told
-  -- in part, and not where anything else is told
+  -- in part, and stands apart: either none of it is told, or nothing else
   pub record TellsDocument (told : List PlacedDocumentFault) : Type 0 where
     pub right : (f : PlacedDocumentFault) → Contains told f → SomeFails f
     pub full : (f : PlacedDocumentFault) → FailsBesides f → Contains told f
@@ -47,6 +56,7 @@ module _ (s : SchemaTree Place) (d : MeantDocument Place) where
     pub subscriptions : (o : MeantOperation Place) → Contains (operations d) o → (b : Broken Place) → SubscriptionBreaks d o b
         → (g : Broken Place) × (Contains told (OfDocument g) × AreAlike d o b g)
     pub bound : NestsTooDeep d → Contains told (OfLimit None)
+    pub apart : ((f : PlacedDocumentFault) → Contains told f → FailsBesideMerging f) ⊎ ((f : PlacedDocumentFault) → Contains told f → FailsInMerging f)
 
   -- behind what was told stands what is told of the document
   abbrev pub DocumentTold : Telling → Telling → Type 0

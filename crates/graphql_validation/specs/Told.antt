@@ -1,5 +1,5 @@
 -- What is told of a document, and of a field set (GraphQL, October 2021, section 5).
-use Rattle.std.specs.Prelude.{◌≡◌, ℕ, List, ◌++◌, map, Contains, ◌⊎◌}
+use Rattle.std.specs.Prelude.{◌≡◌, ℕ, List, ◌++◌, map, Contains, ◌⊎◌, None}
 use Rattle.graphql_names.specs.Placed.{Place}
 use Rattle.schema_types.specs.SchemaTree.{SchemaTree}
 use Rattle.schema_types.specs.Plain.{plain}
@@ -11,6 +11,7 @@ use Rattle.document_typing.specs.Meanings.{meanings}
 use Rattle.document_typing.specs.TypedByPlace.{IsSetOn}
 use Rattle.rule_definitions.specs.Told.{PlacedFault}
 use Rattle.rule_document_definitions.specs.DocumentFaults.{OfData, OfDocument, OfLimit}
+use Rattle.rule_document_definitions.specs.FieldSets.{document_of_set}
 use Rattle.rule_document_definitions.specs.Reached.{AtOperation}
 use Rattle.rule_document_definitions.specs.Fragments.{ReachesItself, UnusedFragmentAt}
 use Rattle.rule_document_definitions.specs.DocumentRules.{DeferredBreaks}
@@ -20,6 +21,7 @@ use Rattle.graphql_faults.specs.DetailsTree.{of_document}
 pub use Rattle.graphql_faults.specs.DetailsTree.{Telling}
 use Rattle.rule_fragments.specs.Used.{IsUsed, AreUnderOwnNames}
 use Rattle.rule_fragments.specs.Told.{Answers}
+use Rattle.rule_subscriptions.specs.Nested.{NestsTooDeep}
 use Rattle.graphql_validation.specs.Operations.{OperationFailsAlone}
 
 -- a fault that says that the fragment reaches itself, or that ways of spreads from there are too long
@@ -32,11 +34,13 @@ FailsAloneBesideCycles d (OfData fault) = AtOperation d (λ o. OperationFailsAlo
 FailsAloneBesideCycles d (OfDocument fault) = DeferredBreaks d fault
 FailsAloneBesideCycles d (OfLimit place) = ⊥
 
--- these tell what fails of the document without a schema, and all of it: of cycles, each fragment that reaches itself
+-- these tell what fails of the document without a schema, and all of it: of cycles, each fragment that reaches itself; of bounds,
+-- that on paths where it is passed in one text
 pub record TellsAlone (d : MeantDocument Place) (told : List PlacedDocumentFault) : Type 0 where
   pub right : (f : PlacedDocumentFault) → Contains told f → DocumentFailsAlone d f ⊎ DocumentBoundFails d f
   pub full : (f : PlacedDocumentFault) → FailsAloneBesideCycles d f → Contains told f
   pub cycles : (g : MeantFragment Place) → IsUsed d g → ReachesItself d g → (f : PlacedDocumentFault) × (Contains told f × AnswersFragment g f)
+  pub bound : NestsTooDeep d → Contains told (OfLimit None)
 
 -- behind what was told stands what is told of the document without a schema
 abbrev pub AloneTold : MeantDocument Place → Telling → Telling → Type 0
@@ -67,10 +71,11 @@ IsTypedSet s set = (t : List ℕ) × IsSetOn (meanings (plain s)) t set
 abbrev pub SetRulesOrBoundFail : SchemaTree Place → MeantSet Place → PlacedDocumentFault → Type 0
 SetRulesOrBoundFail s set f = SetRulesFail s set f ⊎ SetBoundFails set f
 
--- these tell what fails of the field set, and all of it but the bound
+-- these tell what fails of the field set, and all of it: of bounds, that on paths where it is passed in one text
 pub record TellsFieldSet (s : SchemaTree Place) (set : MeantSet Place) (told : List PlacedDocumentFault) : Type 0 where
   pub right : (f : PlacedDocumentFault) → Contains told f → SetRulesOrBoundFail s set f
   pub full : (f : PlacedDocumentFault) → SetRulesFail s set f → Contains told f
+  pub bound : NestsTooDeep (document_of_set None set) → Contains told (OfLimit None)
 
 abbrev pub FieldSetTold : SchemaTree Place → MeantSet Place → Telling → Telling → Type 0
 FieldSetTold s set old new = (added : List PlacedDocumentFault) × ((new ≡ old ++ map of_document added) × TellsFieldSet s set added)

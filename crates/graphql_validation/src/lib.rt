@@ -6,18 +6,21 @@
 //!
 //! The rules stand in inner crates side by side: `rule_variables`, `rule_selections`, `rule_fragments` and
 //! `rule_subscriptions`; what an operation reaches is found once, by `rule_document_ground`. Fields are merged
-//! by `rule_merging`, operation by operation. Begin with `document.rt`, `field_set.rt` and `standalone.rt`.
+//! by `rule_merging`, operation by operation; a field where it is selected is a `FieldSelection`, of `rule_document_ground`.
+//! Begin with `document.rt`, `field_set.rt` and `standalone.rt`.
 #![tactic(auto)]
 
 mod alone;
 mod document;
 mod field_set;
 mod found;
+pub mod laws;
 mod standalone;
 mod told;
 mod under_schema;
 
 pub use document::validate_executable_document;
 pub use field_set::validate_field_set;
+pub use rule_document_ground::FieldSelection;
 pub use rule_merging::FieldsInSetCanMerge;
 pub use standalone::validate_standalone_executable;

@@ -1,4 +1,5 @@
-//! Selections (sections 2.4, 2.5 and 2.8).
+//! Selections (sections 2.4, 2.5 and 2.8). What holds much is not inlined, so that a level of selections takes the stack of
+//! its kind alone.
 ghost use Rattle.std.specs.Prelude.{◌≡◌, map};
 ghost use Rattle.std.specs.Option.{option_map};
 ghost use Rattle.graphql_names.specs.Placed.{node_tree};
@@ -97,6 +98,7 @@ fn field(alloc: Global, tokens: &mut Source<'_>, file: FileId, depth: usize) -> 
 
 /// A field with its place.
 #[cycle(selection)]
+#[inline(never)]
 fn placed_field(
     alloc: Global,
     tokens: &mut Source<'_>,
@@ -147,6 +149,7 @@ fn inline(
 
 /// InlineFragment, of which the dots are read that begin it.
 #[cycle(selection)]
+#[inline(never)]
 fn placed_inline(
     alloc: Global,
     tokens: &mut Source<'_>,

@@ -71,6 +71,8 @@ fn spread(
 }
 
 /// FragmentSpread, of which the dots are read that begin it.
+// It is not inlined, so that what it holds takes no stack at each level of selections.
+#[inline(never)]
 pub fn placed_spread(
     alloc: Global,
     tokens: &mut Source<'_>,

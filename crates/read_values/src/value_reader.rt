@@ -56,7 +56,9 @@ pub fn placed_value(
 }
 
 /// Any number of values.
+// Neither this nor `object_fields` is inlined, so that a level of a value takes the stack of one of them.
 #[cycle(value)]
+#[inline(never)]
 fn values(
     alloc: Global,
     tokens: &mut Source<'_>,
@@ -111,6 +113,7 @@ fn object_field(
 
 /// Any number of fields of an object.
 #[cycle(value)]
+#[inline(never)]
 fn object_fields(
     alloc: Global,
     tokens: &mut Source<'_>,

@@ -95,6 +95,8 @@ fn null_value(tokens: &mut Source<'_>, file: FileId) -> Result<Value, Stop>
 }
 
 /// A value that is neither a list nor an object. Where `constant`, variables are refused.
+// It is not inlined, so that what it holds takes no stack at each level of a value.
+#[inline(never)]
 pub fn plain_value(
     alloc: Global,
     tokens: &mut Source<'_>,

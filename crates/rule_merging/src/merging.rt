@@ -43,7 +43,7 @@ impl Drop for FieldsInSetCanMerge<'_> {
 }
 
 impl<'doc> FieldsInSetCanMerge<'doc> {
-    ghost use Rattle.rule_merging.specs.Merger.{merger_of, IsCountedMerger, MergerTold, SilenceMeansMerging, KeepsClosed, AddsNothing, StaysCleanInSilence, StaysCounted};
+    ghost use Rattle.rule_merging.specs.Merger.{merger_of, IsCountedMerger, OnlyGrows, MergerTold, SilenceMeansMerging, KeepsClosed, AddsNothing, StaysCleanInSilence, StaysCounted};
 
     /// A clean value, for the operations of the document.
     pub fn new(
@@ -56,6 +56,7 @@ impl<'doc> FieldsInSetCanMerge<'doc> {
         ensures clean { IsTrue (merger_of result).is_clean }
         ensures counted { IsCountedMerger (merger_of result) }
         ensures none { (merger_of result).lists ≡ [] }
+        ensures zero { (merger_of result).comparisons ≡ 0 }
     {
         FieldsInSetCanMerge {
             alloc,
@@ -98,6 +99,7 @@ impl<'doc> FieldsInSetCanMerge<'doc> {
         ensures schema { (merger_of self.new).schema ≡ (merger_of self.old).schema }
         ensures document { (merger_of self.new).document ≡ (merger_of self.old).document }
         ensures counted { StaysCounted (merger_of self.old) (merger_of self.new) (operation_meant operation.now) }
+        ensures grown { OnlyGrows (merger_of self.old) (merger_of self.new) }
     {
         let was_clean = self.is_clean;
         self.is_clean = false;

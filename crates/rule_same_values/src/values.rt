@@ -115,6 +115,8 @@ fn passes(
 }
 
 /// Notes a name. Whether it was not there is given.
+// It is not inlined, so that what it holds takes no stack at each level of a value.
+#[inline(never)]
 fn note(names: &mut IndexSet<Name>, name: &Name) -> Result<bool, AllocError>
     ensures new { IfOk result (λ r. r ≡ not (list_any (bytes_eq name.now.text) (noted_names names.old))) }
     ensures noted { OnOk result (noted_names names.new ≡ insert_key bytes_eq (noted_names names.old) name.now.text) }
@@ -139,6 +141,8 @@ fn unseen_key(
 }
 
 /// The value of the first entry under each key.
+// It is not inlined, so that what it holds takes no stack at each level of a value.
+#[inline(never)]
 fn first_values(
     alloc: Global,
     entries: &[(Name, Node<Value>)],

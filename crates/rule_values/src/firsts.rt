@@ -10,6 +10,8 @@ use indexmap::IndexMap;
 use std::alloc::AllocError;
 
 /// Notes a value under a name, unless there is one: that stays, and is given.
+// It is not inlined, so that what it holds takes no stack at each level of a value.
+#[inline(never)]
 pub fn note_first<V: Copy>(
     firsts: &mut IndexMap<Name, V>,
     name: &Name,

@@ -1,4 +1,4 @@
-//! Variables in values.
+//! Variables in values. What tells of one is not inlined, so that it takes no stack at each level of a value.
 ghost use Rattle.std.specs.Prelude.{◌≡◌, ◌++◌, OnOk};
 ghost use Rattle.std.specs.List.{list_any};
 ghost use Rattle.graphql_names.specs.Node.{content, place};
@@ -15,6 +15,7 @@ use std::alloc::AllocError;
 use tree_literals::Value;
 
 /// UndefinedVariable: a variable in a value is defined (section 5.8.3).
+#[inline(never)]
 fn undefined_variable(
     location: Option<SourceSpan>,
     name: &Name,

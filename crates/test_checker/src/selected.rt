@@ -6,7 +6,7 @@ use document_typed_selections::SelectionSet;
 use graphql_checked::{CheckedSchema, Schema};
 use graphql_names::{Name, Node};
 use graphql_rules::BuiltInScalars;
-use rule_document_ground::FieldSelection;
+use graphql_validation::{FieldSelection, laws};
 use std::hash::{DefaultHasher, Hash, Hasher};
 
 /// The hash of a value.
@@ -27,7 +27,7 @@ fn selected<'doc>(set: &'doc SelectionSet, index: usize) -> Option<FieldSelectio
 
 /// Whether the fields are equal, and their hashes.
 fn are_alike(one: &FieldSelection<'_>, other: &FieldSelection<'_>) -> bool {
-    *one == *other && hash_of(one) == hash_of(other)
+    laws::equal_field_selections(one, other) && hash_of(one) == hash_of(other)
 }
 
 /// Whether it is the field `a` of `Query`.

@@ -1,5 +1,5 @@
 -- Lemmas on what is written of checked schemas and documents, and checked again.
-use Rattle.std.proofs.Common.{◌≡◌, ℕ, List, [], ◌∷◌, Result, Ok, Err, inl, refl, sym, ap, subst, ◌∙◌}
+use Rattle.std.proofs.Common.{◌≡◌, ℕ, zero, suc, List, [], ◌∷◌, Result, Ok, Err, inl, refl, sym, ap, subst, ◌∙◌}
 use Rattle.std.specs.Prelude.{IfOk, IfErr}
 use Rattle.graphql_names.specs.Placed.{Place}
 use Rattle.document_meaning.specs.Unplaced.{unplaced_document}
@@ -12,20 +12,26 @@ use Rattle.rule_definitions.specs.Laws.{AreEqual}
 use Rattle.rule_definitions.proofs.Same.{read_the_same}
 use Rattle.verdict_definitions.specs.Texts.{SourceText, Tree, Terms, ReadsText, document_number}
 use Rattle.verdict_definitions.specs.Meaning.{schema_of, schema_at_hand, document_over}
-use Rattle.verdict_definitions.specs.Judge.{AreSchemasCertain, IsDocumentCertain, PassesNoReferenceBound, PassesNoDocumentBound}
-use Rattle.verdict_definitions.specs.Out.{Out, OutDoc, Layout, layout_text}
-use Rattle.verdict_definitions.specs.Answer.{WritesDocument}
+use Rattle.verdict_definitions.specs.Judge.{AreSchemasCertain, IsDocumentCertain, IsCertain, PassesNoReferenceBound, PassesNoDocumentBound}
+use Rattle.verdict_definitions.specs.Out.{Out, OutDoc, Layout, layout_text, as_lines}
+use Rattle.verdict_definitions.specs.Answer.{WritesDocument, AcceptedBytes}
 use Rattle.verdict_laws.proofs.AnyNumber.{one_tree}
 use Rattle.verdict_laws.proofs.Rearranged.{all_one}
-use Rattle.verdict_road_back_laws.specs.RoadBack.{SchemaLeadsBack, DocumentLeadsBack}
+use Rattle.verdict_road_back_laws.specs.RoadBack.{SchemaLeadsBack, DocumentLeadsBack, PairLeadsBack}
 use Rattle.verdict_road_back_laws.proofs.SchemaBack.{schema_road_back}
 use Rattle.verdict_road_back_laws.proofs.DocumentBack.{document_road_back}
-use Rattle.verdict_road_back_laws.proofs.PairBack.{pair_road_back}
-use Rattle.graphql_checked.specs.CheckerValue.{CheckedSchemaValue, IsCheckedSchemaOf, IsCheckedDocumentOf}
-use Rattle.graphql_checked.specs.declared.refusal.Refusal.{Refusal}
-use Rattle.graphql_checked.specs.declared.refusal.Refusal.TheVariants as refusal
-use Rattle.verdict_call_laws.specs.Answers.{AnswersFinish, AnswersCheck}
-use Rattle.verdict_call_laws.specs.Again.{SchemasAreSame, IsWrittenPlain, checker_of_written, SchemaAgain, DocumentsAreSame, IsWrittenPlainOver, DocumentAgain, PairAgain}
+use Rattle.verdict_road_back_laws.proofs.PairBack.{pair_road_back, put_out_leads_back, one_answer}
+use Rattle.checker_answers.specs.declared.run_fault.Outcome.{Outcome}
+use Rattle.checker_answers.specs.declared.run_fault.Outcome.TheVariants as outcome
+use Rattle.checker_answers.specs.declared.run_fault.RunFault.{RunFault}
+use Rattle.checker_schemas.specs.CheckedSchemaValue.{CheckedSchemaValue, IsCheckedSchemaOf}
+use Rattle.checker_documents.specs.CheckerValue.{CheckedDocumentValue, IsCheckedDocumentOf}
+use Rattle.graphql_checked.specs.Run.{BytesOf, IsAnswerToCertain}
+use Rattle.graphql_checked.specs.Verdicts.{first_terms}
+use Rattle.checker_texts.specs.declared.refusal.Refusal.{Refusal}
+use Rattle.checker_texts.specs.declared.refusal.Refusal.TheVariants as refusal
+use Rattle.verdict_call_laws.specs.Answers.{AnswersFinish, AnswersCheck, RunValue, AnswersRun}
+use Rattle.verdict_call_laws.specs.Again.{SchemasAreSame, IsWrittenPlain, checker_of_written, SchemaAgain, DocumentsAreSame, IsWrittenPlainOver, DocumentAgain, PairAgain, ReadsWhatWasPut, RunAgain}
 
 -- ---- the schema
 
@@ -72,7 +78,7 @@ schema_again terms layout first schemas w answer x = (answer_again terms layout 
 -- ---- the document
 
 -- what is written of a text is written of its tree
-written_of : (number : ℕ) (document : SourceText) (tree : Tree) (layout : Layout) (bytes : List ℕ) → ReadsText number document tree → WritesDocument layout number document bytes → bytes ≡ layout_text layout (OutDoc tree)
+pub written_of : (number : ℕ) (document : SourceText) (tree : Tree) (layout : Layout) (bytes : List ℕ) → ReadsText number document tree → WritesDocument layout number document bytes → bytes ≡ layout_text layout (OutDoc tree)
 written_of number document tree layout bytes read (other, (other_read, is)) = is ∙ ap (λ t. layout_text layout (OutDoc t)) (one_tree number document other tree other_read read)
 
 module _ (layout : Layout) (schema : CheckedSchemaValue) (document : SourceText) (first : MeantDocument Place) (other : CheckedSchemaValue) (text : SourceText)
@@ -113,11 +119,11 @@ module _ (layout : Layout) (schema : CheckedSchemaValue) (document : SourceText)
       subst (λ n. IsDocumentCertain other.schema n other.number text) w.nesting
       (document_back.accepted, document_back.bounds.0 (subst (PassesNoDocumentBound schema.schema) one certain.1))
 
-  checked_again : (answer : Result (MeantDocument Place) Refusal) → AnswersCheck other text answer → IfOk answer (DocumentsAreSame schema document first other text)
-  checked_again (Ok d) x = same_document d x.accepted
+  checked_again : (answer : Result CheckedDocumentValue Refusal) → AnswersCheck other text answer → IfOk answer (λ d. DocumentsAreSame schema document first other text d.document)
+  checked_again (Ok d) x = same_document d.document x.accepted
   checked_again (Err r) x = tt
 
-  unchecked_again : (answer : Result (MeantDocument Place) Refusal) → AnswersCheck other text answer → IsDocumentCertain schema.schema schema.nesting schema.number document → IfErr answer (λ r. r ≡ refusal.Memory)
+  unchecked_again : (answer : Result CheckedDocumentValue Refusal) → AnswersCheck other text answer → IsDocumentCertain schema.schema schema.nesting schema.number document → IfErr answer (λ r. r ≡ refusal.Memory)
   unchecked_again (Ok d) x certain = tt
   unchecked_again (Err r) x certain = x.complete (certain_again certain)
 
@@ -136,3 +142,32 @@ pair_again terms schema document schemas pair layout next plain next_plain text 
     let its = subst (λ n. WritesDocument next n document text) pair.is.number is_text in
     let doc : text ≡ layout_text next (OutDoc over.tree) = written_of (document_number terms schemas) document over.tree next text over.read its in
     x.complete ((pair_road_back terms schemas document pair.elsewhere pair.certain.accepted layout next plain next_plain (layout_text layout schema.written) text (inl written) (inl doc)).certain.0 pair.certain)
+
+-- ---- what is put out
+
+module _ (nesting : ℕ) (layout : Layout) (first again : RunValue) (w : ReadsWhatWasPut nesting layout first again) where
+  abbrev terms : Terms
+  terms = first_terms nesting
+
+  bytes : AcceptedBytes terms layout first.texts first.text first.put
+  bytes = w.answers.answers.1
+
+  back_put : PairLeadsBack terms first.texts first.text bytes.accepted (as_lines layout bytes.written_schema) (as_lines layout bytes.written_document)
+  back_put = put_out_leads_back terms first.texts first.text (λ e. let bad : suc zero ≡ 0 = e in cc) layout w.plain first.put bytes
+
+  -- the same bytes go with the texts that were put out
+  put_again : AcceptedBytes terms layout again.texts again.text again.put → again.put ≡ first.put
+  put_again told =
+      one_answer terms layout (as_lines layout bytes.written_schema ∷ []) (as_lines layout bytes.written_document) again.put first.put
+      (subst (λ (p : List SourceText × SourceText). AcceptedBytes terms layout p.0 p.1 again.put) (λ i. (w.schema i, w.document i)) told) ((back_put.answered layout first.put).0 bytes)
+
+  -- and they are accepted for sure where the first are
+  certain_put : IsCertain terms first.texts first.text → IsCertain terms again.texts again.text
+  certain_put certain = subst (λ (p : List SourceText × SourceText). IsCertain terms p.0 p.1) (λ i. (sym w.schema i, sym w.document i)) (back_put.certain.0 certain)
+
+  accepted_again : (answer : Result Outcome RunFault) → AnswersRun terms layout again answer → answer ≡ Ok outcome.Accepted → again.put ≡ first.put
+  accepted_again answer x is = put_again (subst (λ a. IfOk a (λ o. BytesOf terms layout o again.texts again.text again.put)) is x.answers).1
+
+pub run_again : RunAgain
+run_again nesting layout first again w answer x =
+    (accepted_again nesting layout first again w answer x, λ certain. x.complete (certain_put nesting layout first again w certain))

@@ -10,12 +10,13 @@ use Rattle.verdict_definitions.specs.Out.{Out, layout_text}
 use Rattle.verdict_laws.specs.Rearranged.{AreRearranged, AreCut, TextsHaveNumbers, AreAcceptedAlike}
 use Rattle.verdict_laws.proofs.AnyNumber.{equal_accept}
 use Rattle.verdict_laws.proofs.Rearranged.{all_one, rearranging, cutting}
-use Rattle.graphql_checked.specs.CheckerValue.{CheckerValue, CheckedSchemaValue, IsCheckedSchemaOf}
+use Rattle.checker_schemas.specs.CheckedSchemaValue.{CheckedSchemaValue, IsCheckedSchemaOf}
+use Rattle.checker_documents.specs.CheckerValue.{CheckerValue}
 use Rattle.book_laws.proofs.AcceptedFacts.{accepted_by_the_book}
 use Rattle.graphql_checked.specs.Verdicts.{IsVerdict}
 use Rattle.graphql_faults.specs.declared.diagnostic_list.DiagnosticList.{DiagnosticList}
-use Rattle.graphql_checked.specs.declared.refusal.Refusal.{Refusal}
-use Rattle.graphql_checked.specs.declared.refusal.Refusal.TheVariants as refusal
+use Rattle.checker_texts.specs.declared.refusal.Refusal.{Refusal}
+use Rattle.checker_texts.specs.declared.refusal.Refusal.TheVariants as refusal
 use Rattle.graphql_checked.specs.declared.verdict.Verdict.{Verdict}
 use Rattle.graphql_checked.specs.declared.verdict.Verdict.TheVariants.{Accepted, Refused}
 use Rattle.graphql_checked.specs.declared.verdict.CheckError.{CheckError}

@@ -7,18 +7,24 @@ use Rattle.document_meaning.specs.Unplaced.{unplaced_document}
 use Rattle.rule_definitions.specs.Laws.{AreEqual}
 use Rattle.verdict_definitions.specs.Texts.{SourceText, Terms}
 use Rattle.verdict_definitions.specs.Judge.{AreSchemasCertain, IsDocumentCertain, IsCertain}
-use Rattle.verdict_definitions.specs.Out.{Layout, layout_text}
+use Rattle.verdict_definitions.specs.Out.{Layout, layout_text, as_lines}
 use Rattle.verdict_definitions.specs.Answer.{WritesDocument}
 use Rattle.verdict_laws.specs.AnyNumber.{IsNumber}
 use Rattle.verdict_road_back_laws.specs.RoadBack.{IsPlainLayout}
-use Rattle.graphql_checked.specs.CheckerValue.{CheckerValue, CheckedSchemaValue, IsCheckedSchemaOf, IsCheckedDocumentOf}
-use Rattle.graphql_checked.specs.declared.refusal.Refusal.{Refusal}
-use Rattle.graphql_checked.specs.declared.refusal.Refusal.TheVariants as refusal
+use Rattle.checker_answers.specs.declared.run_fault.Outcome.{Outcome}
+use Rattle.checker_answers.specs.declared.run_fault.Outcome.TheVariants as outcome
+use Rattle.checker_answers.specs.declared.run_fault.RunFault.{RunFault}
+use Rattle.checker_schemas.specs.CheckedSchemaValue.{CheckedSchemaValue, IsCheckedSchemaOf}
+use Rattle.checker_documents.specs.CheckerValue.{CheckerValue, CheckedDocumentValue, IsCheckedDocumentOf}
+use Rattle.graphql_checked.specs.Run.{IsAnswerToCertain}
+use Rattle.graphql_checked.specs.Verdicts.{first_terms}
+use Rattle.checker_texts.specs.declared.refusal.Refusal.{Refusal}
+use Rattle.checker_texts.specs.declared.refusal.Refusal.TheVariants as refusal
 use Rattle.graphql_checked.specs.declared.verdict.Verdict.{Verdict}
 use Rattle.graphql_checked.specs.declared.verdict.Verdict.TheVariants.{Accepted}
 use Rattle.graphql_checked.specs.declared.verdict.CheckError.{CheckError}
 use Rattle.graphql_checked.specs.declared.verdict.CheckError.TheVariants.{Memory}
-use Rattle.verdict_call_laws.specs.Answers.{AnswersTexts, AnswersFinish, AnswersCheck}
+use Rattle.verdict_call_laws.specs.Answers.{AnswersTexts, AnswersFinish, AnswersCheck, RunValue, AnswersRun}
 
 -- ---- the schema
 
@@ -68,8 +74,8 @@ pub record IsWrittenPlainOver (layout : Layout) (schema : CheckedSchemaValue) (d
 -- checked over the other schema, it is the same; and it is accepted, unless memory runs out, where the first is accepted for sure
 abbrev pub DocumentAgain : Type 0
 DocumentAgain = (layout : Layout) (schema : CheckedSchemaValue) (document : SourceText) (first : MeantDocument Place) (other : CheckedSchemaValue) (text : SourceText)
-    → IsWrittenPlainOver layout schema document first other text → (answer : Result (MeantDocument Place) Refusal) → AnswersCheck other text answer
-    → (IfOk answer (DocumentsAreSame schema document first other text)) × (IsDocumentCertain schema.schema schema.nesting schema.number document → IfErr answer (λ r. r ≡ refusal.Memory))
+    → IsWrittenPlainOver layout schema document first other text → (answer : Result CheckedDocumentValue Refusal) → AnswersCheck other text answer
+    → (IfOk answer (λ d. DocumentsAreSame schema document first other text d.document)) × (IsDocumentCertain schema.schema schema.nesting schema.number document → IfErr answer (λ r. r ≡ refusal.Memory))
 
 -- ---- the pair
 
@@ -84,3 +90,19 @@ abbrev pub PairAgain : Type 0
 PairAgain = (terms : Terms) (schema : CheckedSchemaValue) (document : SourceText) (schemas : List SourceText) → IsCertainPair terms schema document schemas
     → (layout next : Layout) → IsPlainLayout layout → IsPlainLayout next → (text : SourceText) → IsTextOfWritten next schema document text
     → (answer : Result Verdict CheckError) → AnswersTexts terms (layout_text layout schema.written ∷ []) text answer → (answer ≡ Ok Accepted) ⊎ (answer ≡ Err Memory)
+
+-- ---- what is put out
+
+-- A run accepted its texts, under a plain layout; and the readers of another tell the two texts that it put out.
+pub record ReadsWhatWasPut (nesting : ℕ) (layout : Layout) (first again : RunValue) : Type 0 where
+  pub answers : AnswersRun (first_terms nesting) layout first (Ok outcome.Accepted)
+  pub plain : IsPlainLayout layout
+  pub schema : again.texts ≡ as_lines layout answers.answers.1.written_schema ∷ []
+  pub document : again.text ≡ as_lines layout answers.answers.1.written_document
+
+-- under the same limit and layout the other puts out the same bytes where it accepts; and where the texts of the first are accepted
+-- for sure, it accepts, unless memory runs out or a device fails
+abbrev pub RunAgain : Type 0
+RunAgain = (nesting : ℕ) (layout : Layout) (first again : RunValue) → ReadsWhatWasPut nesting layout first again
+    → (answer : Result Outcome RunFault) → AnswersRun (first_terms nesting) layout again answer
+    → (answer ≡ Ok outcome.Accepted → again.put ≡ first.put) × (IsCertain (first_terms nesting) first.texts first.text → IsAnswerToCertain answer)

@@ -1,8 +1,6 @@
 -- What the checker answers of schema texts that are rearranged, or cut in two ways, and of documents over equal schemas (GraphQL,
 -- October 2021, sections 2.2, 3 and 5).
 use Rattle.std.specs.Prelude.{◌≡◌, false, List, Result, IfOk, IfErr}
-use Rattle.graphql_names.specs.Placed.{Place}
-use Rattle.document_meaning.specs.MeantTree.{MeantDocument}
 use Rattle.rule_definitions.specs.Laws.{AreEqual}
 use Rattle.verdict_rearranging_laws.specs.Permuting.{IsPermuted}
 use Rattle.verdict_definitions.specs.Texts.{SourceText, Terms}
@@ -10,9 +8,10 @@ use Rattle.verdict_definitions.specs.Judge.{IsAccepted, IsCertain, AreSchemasCer
 use Rattle.verdict_definitions.specs.Out.{Layout, layout_text}
 use Rattle.verdict_laws.specs.AnyNumber.{IsNumber}
 use Rattle.verdict_laws.specs.Rearranged.{AreRearranged, AreCut, TextsHaveNumbers, LeaveNumber}
-use Rattle.graphql_checked.specs.CheckerValue.{CheckerValue, CheckedSchemaValue}
-use Rattle.graphql_checked.specs.declared.refusal.Refusal.{Refusal}
-use Rattle.graphql_checked.specs.declared.refusal.Refusal.TheVariants as refusal
+use Rattle.checker_schemas.specs.CheckedSchemaValue.{CheckedSchemaValue}
+use Rattle.checker_documents.specs.CheckerValue.{CheckerValue, CheckedDocumentValue}
+use Rattle.checker_texts.specs.declared.refusal.Refusal.{Refusal}
+use Rattle.checker_texts.specs.declared.refusal.Refusal.TheVariants as refusal
 use Rattle.graphql_checked.specs.declared.verdict.Verdict.{Verdict}
 use Rattle.graphql_checked.specs.declared.verdict.Verdict.TheVariants.{Accepted, Refused}
 use Rattle.graphql_checked.specs.declared.verdict.CheckError.{CheckError}
@@ -93,5 +92,5 @@ pub record SecondPassesNoBound (a b : CheckedSchemaValue) (document : SourceText
 -- what is accepted over one is accepted over the other, unless memory runs out
 abbrev pub DocumentsOverEqual : Type 0
 DocumentsOverEqual = (a b : CheckedSchemaValue) → AreEqual a.schema b.schema → a.nesting ≡ b.nesting → (document : SourceText) → SecondPassesNoBound a b document
-    → (one other : Result (MeantDocument Place) Refusal) → AnswersCheck a document one → AnswersCheck b document other
+    → (one other : Result CheckedDocumentValue Refusal) → AnswersCheck a document one → AnswersCheck b document other
     → IfOk one (λ d. IfErr other (λ r. r ≡ refusal.Memory))

@@ -2,3 +2,4 @@ pub mod Answers
 pub mod Seen
 pub mod Alike
 pub mod Again
+pub mod Equal

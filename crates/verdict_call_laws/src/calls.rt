@@ -1,15 +1,21 @@
 //! What the calls of the checker answer is what the laws speak of.
 
-ghost use Rattle.std.specs.Prelude.{map};
-ghost use Rattle.graphql_checked.specs.CheckedView.{schema_value};
+ghost use Rattle.std.specs.Prelude.{◌≡◌, false, map};
+ghost use Rattle.graphql_names.specs.Device.{device_failed};
+ghost use Rattle.checker_answers.specs.Devices.{HaveNotFailed};
+ghost use Rattle.checker_layouts.specs.Layouts.{prefix_of};
+ghost use Rattle.checker_documents.specs.CheckedView.{schema_value};
 ghost use Rattle.graphql_checked.specs.Verdicts.{first_terms};
-ghost use Rattle.verdict_call_laws.specs.Answers.{AnswersTexts, AnswersFinish, AnswersCheck};
-ghost use Rattle.verdict_call_laws.specs.Seen.{seen_schema, seen_document};
+ghost use Rattle.verdict_call_laws.specs.Answers.{AnswersTexts, AnswersFinish, AnswersCheck, RunValue, AnswersRun};
+ghost use Rattle.verdict_call_laws.specs.Seen.{seen_schema, seen_document, IsSeenRun};
 
 use graphql_checked::{
-    CheckError, CheckedDocument, CheckedSchema, Checker, Limits, Refusal, Verdict,
+    CheckError, CheckedDocument, CheckedSchema, Checker, Layout, Limits, Outcome, Refusal,
+    RunFault, Verdict,
 };
+use graphql_names::Device;
 use std::alloc::Global;
+use std::io::{Read, Write};
 
 /// [`graphql_checked::check_texts`], of which the laws speak: texts and extensions are counted from 1.
 pub fn check_texts(
@@ -35,4 +41,22 @@ pub fn check<'s>(schema: &'s CheckedSchema, text: &str) -> Result<CheckedDocumen
     ensures { AnswersCheck (schema_value schema.now) text.now (seen_document result) }
 {
     schema.check(text)
+}
+
+/// [`graphql_checked::run`], of which the laws speak, over devices that tell their bytes.
+pub fn run<R: Read, D: Read, W: Write>(
+    alloc: Global,
+    schemas: &mut [Device<R>],
+    document: &mut Device<D>,
+    limits: Limits,
+    layout: Layout<'_>,
+    out: &mut Device<W>,
+) -> Result<Outcome, RunFault>
+    requires schemas_run { HaveNotFailed schemas.old }
+    requires document_runs { device_failed document.old ≡ false }
+    requires out_runs { device_failed out.old ≡ false }
+    ensures { (run : RunValue) → IsSeenRun R.remaining D.remaining W.contents schemas.old document.old out.old out.new run
+        → AnswersRun (first_terms limits.nesting) (prefix_of layout.entry) run result }
+{
+    graphql_checked::run(alloc, schemas, document, limits, layout, out)
 }

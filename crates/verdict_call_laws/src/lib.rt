@@ -2,18 +2,20 @@
 //!
 //! Neither the verdict nor the written schema hangs on how schema texts are cut, or in which order unrelated definitions come
 //! (`specs/Alike.antt`). What is written of an accepted pair is a canonical text: checked again it is accepted, equal, and
-//! written as it was, in every layout (`specs/Again.antt`).
+//! written as it was, in every layout; and what `run` puts out is put out again of itself (`specs/Again.antt`). So what is
+//! written tells what was checked (`specs/Equal.antt`).
 //!
-//! The laws speak of all that `check_texts`, `Checker::finish` and `CheckedSchema::check` may answer by their contracts, which
-//! `specs/Answers.antt` puts together, call by call.
+//! The laws speak of all that `check_texts`, `Checker::finish`, `CheckedSchema::check` and `run` may answer by their contracts,
+//! which `specs/Answers.antt` puts together, call by call; of `run` over devices that tell their bytes.
 #![tactic(auto)]
 
 mod calls;
 
 ghost use Rattle.verdict_call_laws.specs.Alike.{VerdictsOfRearranged, SchemasOfRearranged, VerdictsOfCut, SchemasOfCut, DocumentsOverEqual};
-ghost use Rattle.verdict_call_laws.specs.Again.{SchemaAgain, DocumentAgain, PairAgain};
+ghost use Rattle.verdict_call_laws.specs.Again.{SchemaAgain, DocumentAgain, PairAgain, RunAgain};
+ghost use Rattle.verdict_call_laws.specs.Equal.{SchemasOfOneText, DocumentsOfOneText};
 
-pub use calls::{check, check_texts, finish};
+pub use calls::{check, check_texts, finish, run};
 
 /// Schema texts that are rearranged get the same verdict with every document, and equal schemas; and the same definitions are
 /// written of these, in some order.
@@ -34,9 +36,17 @@ pub fn equal_schemas_check_alike()
 {}
 
 /// What is written of a checked schema, of a checked document, and of a pair that is accepted, is accepted again, and equal, and
-/// written as it was.
+/// written as it was. The two texts that `run` puts out, read by it again, have the same bytes put out.
 pub fn what_is_written_is_checked_alike()
     ensures schema { SchemaAgain }
     ensures document { DocumentAgain }
     ensures pair { PairAgain }
+    ensures run { RunAgain }
+{}
+
+/// Checked schemas of which one text is written, under a plain layout, are equal, with the same built in; and so are checked
+/// documents of which one text is written, over equal schemas.
+pub fn checked_of_one_text_are_equal()
+    ensures schemas { SchemasOfOneText }
+    ensures documents { DocumentsOfOneText }
 {}

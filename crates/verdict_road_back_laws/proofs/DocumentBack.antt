@@ -31,7 +31,7 @@ use Rattle.verdict_road_back_laws.proofs.ReadBack.{ReadsBack, reads_back, writte
 
 -- ---- what is written is well-formed, and nests no deeper
 
-out_formed : (ds : Tree) → list_all definition_well_formed ds ≡ true → list_all definition_well_formed (out_doc ds) ≡ true
+pub out_formed : (ds : Tree) → list_all definition_well_formed ds ≡ true → list_all definition_well_formed (out_doc ds) ≡ true
 out_formed ds h =
     all_append definition_well_formed (filter is_anonymous ds ++ filter is_named_operation ds) (filter is_fragment_definition ds)
     (all_append definition_well_formed (filter is_anonymous ds) (filter is_named_operation ds) (all_passing definition_well_formed is_anonymous ds h) (all_passing definition_well_formed is_named_operation ds h))

@@ -16,3 +16,4 @@ pub mod Passing
 pub mod OutDocuments
 pub mod DocumentBack
 pub mod PairBack
+pub mod EqualTexts

@@ -1,5 +1,5 @@
 -- The written pair leads back.
-use Rattle.std.proofs.Common.{◌≡◌, ◌≢◌, ℕ, ◌+◌, ◌≤◌, List, [], ◌∷◌, length, inr, sym, ap, subst, ◌∙◌, arith}
+use Rattle.std.proofs.Common.{◌≡◌, ◌≢◌, ℕ, ◌+◌, ◌≤◌, List, [], ◌∷◌, ◌++◌, length, codes, inr, sym, ap, subst, ◌∙◌, arith}
 use Rattle.graphql_names.specs.Placed.{Place}
 use Rattle.schema_types.specs.SchemaTree.{SchemaTree}
 use Rattle.rule_definitions.specs.Judged.{Judged}
@@ -155,12 +155,24 @@ pair_road_back terms schemas document other first layout next plain plain_next s
 
 -- ---- what is put out
 
-pub answer_road_back : AnswerRoadBack
-answer_road_back terms schemas document other layout plain bytes first =
+-- the two texts that are put out lead back
+pub put_out_leads_back : (terms : Terms) (schemas : List SourceText) (document : SourceText) → terms.first_text ≢ 0 → (layout : Layout) → IsPlainLayout layout → (bytes : List ℕ) (first : AcceptedBytes terms layout schemas document bytes)
+    → PairLeadsBack terms schemas document first.accepted (as_lines layout first.written_schema) (as_lines layout first.written_document)
+put_out_leads_back terms schemas document other layout plain bytes first =
     let pair = first.accepted in
     let schema_is : first.written_schema ≡ layout_text layout (Out terms pair.schema.judged.trees) = schema_bytes terms layout schemas pair.schema.judged.trees first.written_schema pair.schema.judged.read first.writes_schema in
     let document_is : first.written_document ≡ layout_text layout (OutDoc pair.over.judged.tree) =
     document_bytes layout (document_number terms schemas) document pair.over.judged.tree first.written_document pair.over.judged.read first.writes_document in
-    let back = leads_back terms schemas document other pair layout layout plain plain (as_lines layout first.written_schema) (as_lines layout first.written_document)
-    (inr (ap (as_lines layout) schema_is)) (inr (ap (as_lines layout) document_is)) in
-    (back.answered layout bytes).0 first
+    leads_back terms schemas document other pair layout layout plain plain (as_lines layout first.written_schema) (as_lines layout first.written_document)
+    (inr (ap (as_lines layout) schema_is)) (inr (ap (as_lines layout) document_is))
+
+pub answer_road_back : AnswerRoadBack
+answer_road_back terms schemas document other layout plain bytes first = ((put_out_leads_back terms schemas document other layout plain bytes first).answered layout bytes).0 first
+
+-- the same bytes go with each answer that the texts are accepted
+pub one_answer : (terms : Terms) (layout : Layout) (schemas : List SourceText) (document : SourceText) (bytes others : List ℕ) → AcceptedBytes terms layout schemas document bytes → AcceptedBytes terms layout schemas document others → bytes ≡ others
+one_answer terms layout schemas document bytes others a b =
+    let schema : a.written_schema ≡ b.written_schema = schema_bytes terms layout schemas b.writes_schema.0 a.written_schema b.writes_schema.1.0 a.writes_schema ∙ sym b.writes_schema.1.1 in
+    let text : a.written_document ≡ b.written_document =
+    document_bytes layout (document_number terms schemas) document b.writes_document.0 a.written_document b.writes_document.1.0 a.writes_document ∙ sym b.writes_document.1.1 in
+    a.is ∙ (λ i. codes "accepted\n" ++ as_lines layout (schema i) ++ as_lines layout (text i)) ∙ sym b.is

@@ -55,16 +55,16 @@ module _ (terms : Terms) (texts : List SourceText) (other : terms.first_text ≢
   abbrev out : Definitions
   out = Out terms first.judged.trees
 
-  elsewhere : AreAllElsewhere ds
+  pub elsewhere : AreAllElsewhere ds
   elsewhere = read_elsewhere terms.first_text texts first.judged.trees other first.judged.read
 
-  own : AreOwn ds
+  pub own : AreOwn ds
   own = is_own_list ds elsewhere
 
-  away : AreAllElsewhere out
+  pub away : AreAllElsewhere out
   away = out_elsewhere built_in_definitions terms.first_extension ds real_table own first.judged.folds elsewhere
 
-  formed : list_all definition_well_formed out ≡ true
+  pub formed : list_all definition_well_formed out ≡ true
   formed = out_formed built_in_definitions terms.first_extension ds real_table own first.judged.folds (all_formed terms.first_text texts first.judged.trees first.judged.read)
 
   module _ (layout : Layout) (plain : IsPlainLayout layout) (text : SourceText) (is : IsLaidOutText layout out text) where

@@ -1,1 +1,2 @@
 pub mod RoadBack
+pub mod EqualTexts

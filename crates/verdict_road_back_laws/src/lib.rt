@@ -1,9 +1,10 @@
 //! The road back: laws, each the contract of a function that does nothing.
 //!
 //! What is written of an accepted pair of texts is read back equal, accepted on the same terms, and written as it was
-//! (`specs/RoadBack.antt`).
+//! (`specs/RoadBack.antt`). So equal written texts are of equal definitions (`specs/EqualTexts.antt`).
 #![tactic(auto)]
 
+ghost use Rattle.verdict_road_back_laws.specs.EqualTexts.{EqualSchemaTexts, EqualDocumentTexts};
 ghost use Rattle.verdict_road_back_laws.specs.RoadBack.{SchemaRoadBack, DocumentRoadBack, PairRoadBack, AnswerRoadBack};
 
 /// What is written of accepted schema texts is read back, accepted, equal, and written as it was.
@@ -22,4 +23,11 @@ pub fn documents_lead_back()
 pub fn pairs_lead_back()
     ensures pairs { PairRoadBack }
     ensures answers { AnswerRoadBack }
+{}
+
+/// Under a plain layout one text is written of two accepted lists of schema texts, or of two accepted documents, exactly where
+/// the same definitions are written, places aside; and then the schemas are equal, and over equal schemas the documents.
+pub fn equal_written_texts_are_of_equal_trees()
+    ensures schemas { EqualSchemaTexts }
+    ensures documents { EqualDocumentTexts }
 {}

@@ -1,4 +1,4 @@
-use Rattle.verdict_call_laws.proofs.Again.{schema_again, document_again, pair_again}
+use Rattle.verdict_call_laws.proofs.Again.{schema_again, document_again, pair_again, run_again}
 use Rattle.verdict_call_laws.proofs.what_is_written_is_checked_alike.Goals as goal
 
 pub returns-clause-schema : goal.returns-clause-schema
@@ -9,3 +9,6 @@ returns-clause-document c = document_again
 
 pub returns-clause-pair : goal.returns-clause-pair
 returns-clause-pair c = pair_again
+
+pub returns-clause-run : goal.returns-clause-run
+returns-clause-run c = run_again

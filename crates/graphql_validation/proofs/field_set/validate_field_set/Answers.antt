@@ -26,7 +26,7 @@ returns-clause-told c =
     let bs = brokens_of c.new.result in
     let p = c.passes_path_bound-is_passed.result in
     on_ok_weaker c.append_all.result
-    (λ h typed. (all_told fs bs p, (h, told_of_set s set d fs bs p c.in_ok-document.ensures (ap (map broken_of) c.new.ensures.items) c.in_ok-faults.ensures c.passes_path_bound-is_passed.ensures.right typed)))
+    (λ h typed. (all_told fs bs p, (h, told_of_set s set d fs bs p c.in_ok-document.ensures (ap (map broken_of) c.new.ensures.items) c.in_ok-faults.ensures c.passes_path_bound-is_passed.ensures.right c.passes_path_bound-is_passed.ensures.found typed)))
     c.append_all.ensures.added
 
 pub returns-clause-silent : goal.returns-clause-silent
@@ -40,7 +40,7 @@ returns-clause-silent c =
     on_ok_weaker c.append_all.result
     (λ h typed same. silent_set s set
     (subst (λ told. TellsFieldSet s set told) (nothing_told (diagnostics_of c.args.list.now) (diagnostics_of c.append_all.new.list) (all_told fs bs p) h same)
-    (told_of_set s set d fs bs p c.in_ok-document.ensures (ap (map broken_of) c.new.ensures.items) c.in_ok-faults.ensures c.passes_path_bound-is_passed.ensures.right typed)))
+    (told_of_set s set d fs bs p c.in_ok-document.ensures (ap (map broken_of) c.new.ensures.items) c.in_ok-faults.ensures c.passes_path_bound-is_passed.ensures.right c.passes_path_bound-is_passed.ensures.found typed)))
     c.append_all.ensures.added
 
 pub returns-clause-accepts : goal.returns-clause-accepts
@@ -54,6 +54,6 @@ returns-clause-accepts c =
     on_ok_weaker c.append_all.result
     (λ h typed valid within. told_nothing (diagnostics_of c.args.list.now) (diagnostics_of c.append_all.new.list) (all_told fs bs p) h
     (valid_set s set (all_told fs bs p)
-    (told_of_set s set d fs bs p c.in_ok-document.ensures (ap (map broken_of) c.new.ensures.items) c.in_ok-faults.ensures c.passes_path_bound-is_passed.ensures.right typed)
+    (told_of_set s set d fs bs p c.in_ok-document.ensures (ap (map broken_of) c.new.ensures.items) c.in_ok-faults.ensures c.passes_path_bound-is_passed.ensures.right c.passes_path_bound-is_passed.ensures.found typed)
     valid within))
     c.append_all.ensures.added

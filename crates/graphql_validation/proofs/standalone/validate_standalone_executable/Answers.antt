@@ -24,7 +24,7 @@ returns-clause-told c =
     let bs = brokens_of c.in_ok-breaches.breaches in
     let p = c.passes_path_bound-is_passed.result in
     on_ok_weaker c.append_all.result
-    (λ h own. (all_told fs bs p, (h, tells_alone d fs bs p (c.in_ok-faults.ensures own) c.in_ok-breaches.ensures c.passes_path_bound-is_passed.ensures.right)))
+    (λ h own. (all_told fs bs p, (h, tells_alone d fs bs p (c.in_ok-faults.ensures own) c.in_ok-breaches.ensures c.passes_path_bound-is_passed.ensures.right c.passes_path_bound-is_passed.ensures.found)))
     c.append_all.ensures.added
 
 pub returns-clause-silent : goal.returns-clause-silent
@@ -36,7 +36,7 @@ returns-clause-silent c =
     on_ok_weaker c.append_all.result
     (λ h own same. silent_is_valid d (named_if_own d c.fragments_differ.ensures own)
     (subst (TellsAlone d) (nothing_told (diagnostics_of c.args.list.now) (diagnostics_of c.append_all.new.list) (all_told fs bs p) h same)
-    (tells_alone d fs bs p (c.in_ok-faults.ensures own) c.in_ok-breaches.ensures c.passes_path_bound-is_passed.ensures.right)))
+    (tells_alone d fs bs p (c.in_ok-faults.ensures own) c.in_ok-breaches.ensures c.passes_path_bound-is_passed.ensures.right c.passes_path_bound-is_passed.ensures.found)))
     c.append_all.ensures.added
 
 pub returns-clause-accepts : goal.returns-clause-accepts
@@ -48,5 +48,5 @@ returns-clause-accepts c =
     on_ok_weaker c.append_all.result
     (λ h own valid within. told_nothing (diagnostics_of c.args.list.now) (diagnostics_of c.append_all.new.list) (all_told fs bs p) h
     (valid_is_silent d (named_if_own d c.fragments_differ.ensures own) (all_told fs bs p)
-    (tells_alone d fs bs p (c.in_ok-faults.ensures own) c.in_ok-breaches.ensures c.passes_path_bound-is_passed.ensures.right) valid within))
+    (tells_alone d fs bs p (c.in_ok-faults.ensures own) c.in_ok-breaches.ensures c.passes_path_bound-is_passed.ensures.right c.passes_path_bound-is_passed.ensures.found) valid within))
     c.append_all.ensures.added

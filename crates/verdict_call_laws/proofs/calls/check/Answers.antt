@@ -1,6 +1,6 @@
-use Rattle.graphql_checked.specs.CheckedView.{schema_value}
 use Rattle.verdict_call_laws.proofs.Seen.{check_answers}
 use Rattle.verdict_call_laws.proofs.calls.check.Goals as goal
 
 pub returns : goal.returns
-returns c = check_answers (schema_value c.args.schema.now) c.args.text.now c.check.result c.check.ensures.accepted c.check.ensures.refused c.check.ensures.complete
+returns c =
+    check_answers c.args.schema.now c.args.text.now c.check.result c.check.ensures.schema c.check.ensures.text c.check.ensures.accepted c.check.ensures.refused c.check.ensures.complete

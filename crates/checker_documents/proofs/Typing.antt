@@ -1,0 +1,79 @@
+-- What typing and judging a document find, as lists of faults.
+use Rattle.std.proofs.Common.{◌≡◌, ◌≢◌, List, [], ◌∷◌, ◌++◌, map, Contains, refl, ap, subst, ◌∙◌, sym}
+use Rattle.std.specs.Prelude.{◌↔◌}
+use Rattle.graphql_names.specs.Placed.{Place}
+use Rattle.schema_types.specs.SchemaTree.{SchemaTree}
+use Rattle.schema_types.specs.Plain.{plain}
+use Rattle.document_meaning.specs.MeantTree.{MeantDocument}
+use Rattle.document_meaning.specs.Unplaced.{unplaced_document}
+use Rattle.document_typing.specs.Meanings.{meanings}
+use Rattle.document_typing.specs.KeptDocument.{kept_document}
+use Rattle.document_typing.specs.TypedByPlace.{IsTypedDocument}
+use Rattle.document_typing.specs.TypingFaults as typing
+use Rattle.document_typing.specs.TypingFaults.{TypingFails}
+use Rattle.document_typing.specs.OutDoc.{written_document, out_doc}
+use Rattle.document_typing.specs.BuilderView.{DocumentBuilder}
+use Rattle.rule_document_definitions.specs.Told.{IsValidDocument}
+use Rattle.rule_document_definitions.specs.Verdict.{WithinBounds}
+use Rattle.rule_document_definitions.proofs.Unplaced.{contains_map, contains_unmap}
+use Rattle.graphql_validation.specs.TellsDocument.{DocumentTold}
+use Rattle.graphql_faults.specs.DetailsTree.{of_typing, of_document}
+use Rattle.verdict_definitions.specs.Texts.{Tree}
+use Rattle.verdict_definitions.specs.Says.{AnyFault, TypingFailsOver}
+use Rattle.checker_documents.specs.Checking.{TypesDocument, RefusesTyping, RefusesRules}
+
+-- ---- lists
+
+nil_of_map : {A B : Type 0} (f : A → B) (xs : List A) → map f xs ≡ [] → xs ≡ []
+nil_of_map f [] e = refl
+nil_of_map f (x ∷ xs) e = absurd cc
+
+-- ---- typing
+
+module _ (schema : SchemaTree Place) (tree : Tree) (found : List (typing.TypingFault Place)) (faults : List AnyFault) where
+  -- what is told of them is all that breaks rules of typing
+  right_told : faults ≡ map of_typing found → ((f : typing.TypingFault Place) → Contains found f ↔ TypingFailsOver schema tree f)
+      → (fault : AnyFault) → Contains faults fault → (f : typing.TypingFault Place) × ((fault ≡ of_typing f) × TypingFailsOver schema tree f)
+  right_told are exact fault c =
+      let p = contains_unmap of_typing found fault (subst (λ l. Contains l fault) are c) in
+      (p.0, (sym p.1.1, (exact p.0).0 p.1.0))
+
+  full_told : faults ≡ map of_typing found → ((f : typing.TypingFault Place) → Contains found f ↔ TypingFailsOver schema tree f)
+      → (f : typing.TypingFault Place) → TypingFailsOver schema tree f → Contains faults (of_typing f)
+  full_told are exact f fails = subst (λ l. Contains l (of_typing f)) (sym are) (contains_map of_typing found f ((exact f).1 fails))
+
+-- what a builder of a document over the schema gives
+pub types_document : (schema : SchemaTree Place) (tree : Tree) (builder : DocumentBuilder) (document : MeantDocument Place) (found : List (typing.TypingFault Place)) (faults : List AnyFault)
+    → builder.meanings ≡ meanings (plain schema) → builder.definitions ≡ tree → document ≡ kept_document builder.meanings builder.definitions
+    → IsTypedDocument builder.meanings document → (found ≡ [] → written_document document ≡ out_doc builder.definitions)
+    → ((f : typing.TypingFault Place) → Contains found f ↔ TypingFails builder.meanings builder.definitions f) → faults ≡ map of_typing found
+    → TypesDocument schema tree document faults
+types_document schema tree builder document found faults over of is typed whole exact are =
+    let exact' : (f : typing.TypingFault Place) → Contains found f ↔ TypingFailsOver schema tree f =
+    subst (λ ds. (f : typing.TypingFault Place) → Contains found f ↔ TypingFails (meanings (plain schema)) ds f) of
+    (subst (λ m. (f : typing.TypingFault Place) → Contains found f ↔ TypingFails m builder.definitions f) over exact) in
+    record {
+      is = is ∙ (λ i. kept_document (over i) (of i));
+      typed = subst (λ m. IsTypedDocument m document) over typed;
+      whole = λ none. whole (nil_of_map of_typing found (sym are ∙ none)) ∙ ap out_doc of;
+      right = right_told schema tree found faults are exact';
+      full = full_told schema tree found faults are exact';
+    }
+
+-- some rule of typing is broken
+pub refuses_typing : (schema : SchemaTree Place) (tree : Tree) (document : MeantDocument Place) (faults : List AnyFault) → TypesDocument schema tree document faults → faults ≢ [] → RefusesTyping schema tree faults
+refuses_typing schema tree document faults types some = record { some = some; right = types.right; full = types.full }
+
+-- ---- judging
+
+-- some rule on documents or on merging is broken, or a bound is passed
+pub refuses_rules : (schema : SchemaTree Place) (document : MeantDocument Place) (old faults : List AnyFault) → old ≡ [] → DocumentTold schema document old faults
+    → (IsValidDocument schema document → WithinBounds (unplaced_document document) → faults ≡ old) → faults ≢ [] → RefusesRules schema document faults
+refuses_rules schema document old faults none (added, (is, tells)) accepts some = record {
+  some = some;
+  right = λ fault c.
+      let e : faults ≡ map of_document added = is ∙ ap (λ l. l ++ map of_document added) none in
+      let p = contains_unmap of_document added fault (subst (λ l. Contains l fault) e c) in
+      (p.0, (sym p.1.1, tells.right p.0 p.1.0));
+  bounds = λ valid within. some (accepts valid within ∙ none);
+}

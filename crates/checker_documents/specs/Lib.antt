@@ -1,0 +1,5 @@
+pub mod CheckerValue
+pub mod CheckedView
+pub mod DocumentRefusals
+pub mod CheckerAnswers
+pub mod Checking

@@ -1,0 +1,5 @@
+pub mod Refusing
+pub mod Filling
+pub mod Building
+pub mod Validating
+pub mod Finishing

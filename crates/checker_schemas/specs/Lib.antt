@@ -1,0 +1,4 @@
+pub mod CheckedSchemaValue
+pub mod Refusals
+pub mod Finishing
+pub mod JudgedView

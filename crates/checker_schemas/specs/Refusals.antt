@@ -1,0 +1,13 @@
+-- What the refusals of schema texts say of them.
+use Rattle.std.specs.Prelude.{List}
+use Rattle.graphql_faults.specs.DetailsView.{diagnostics_of}
+use Rattle.verdict_definitions.specs.Texts.{SourceText, Terms}
+use Rattle.verdict_definitions.specs.Answer.{RefusesSchemas}
+use Rattle.checker_texts.specs.declared.refusal.Refusal.{Refusal}
+use Rattle.checker_texts.specs.declared.refusal.Refusal.TheVariants.{Faults, Memory, Failed}
+
+-- The schema texts are not accepted, and why.
+abbrev pub RefusalOfSchemas : Terms → List SourceText → Refusal → Type 0
+RefusalOfSchemas terms schemas (Faults list) = RefusesSchemas terms schemas (diagnostics_of list)
+RefusalOfSchemas terms schemas Memory = Unit {0}
+RefusalOfSchemas terms schemas Failed = ⊥

@@ -1,0 +1,136 @@
+//! The schema of texts: built and judged, where each is read.
+
+ghost use Rattle.std.specs.Prelude.{◌≡◌, [], map, OnOk, IfOk, IfErr};
+ghost use Rattle.tree_definitions.specs.DefinitionTree.{document_tree};
+ghost use Rattle.graphql_faults.specs.DetailsView.{diagnostics_of};
+ghost use Rattle.graphql_schema.specs.BuilderOf.{builder_value};
+ghost use Rattle.graphql_schema.specs.SchemaOf.{schema_tree};
+ghost use Rattle.rule_definitions.specs.Judged.{judged};
+ghost use Rattle.rule_definitions.specs.Kept.{validated};
+ghost use Rattle.rule_definitions.specs.Rules.{SchemaRules};
+ghost use Rattle.checker_texts.specs.TextsView.{terms_of, texts_of, IsReadingOf};
+ghost use Rattle.checker_schemas.specs.CheckedSchemaValue.{IsCheckedSchemaOf};
+ghost use Rattle.checker_schemas.specs.JudgedView.{judged_value};
+ghost use Rattle.checker_schemas.specs.Refusals.{RefusalOfSchemas};
+ghost use Rattle.checker_schemas.specs.Finishing.{IsFilled, RefusalOfNumbers, IsOfBuilder, BuildsSchema, RefusalOfFolding, RefusalOfSchemaRules, IsJudgedSchema, RefusalOfBuilder};
+
+use crate::build_errors::schema_errors;
+use checker_texts::{Refusal, SchemaTexts, next_number, only};
+use graphql_faults::{Details, DiagnosticList};
+use graphql_rules::validate_schema;
+use graphql_schema::{Schema, SchemaBuilder};
+use schema_building::BuilderRefusal;
+use schema_components::Extensions;
+use std::alloc::{AllocError, Global};
+use tree_definitions::Document;
+
+/// The schema of texts that are accepted, with what checks of documents go by.
+#[derive(Drop)]
+pub struct JudgedTexts {
+    /// How many brackets may be open at once.
+    pub nesting: usize,
+    /// The number of a document behind the texts; `u64::MAX`, which no text gets, where none is left for it.
+    pub number: u64,
+    /// The schema as it is written: as it was built.
+    pub written: Document,
+    /// The schema over which documents are judged.
+    pub schema: Schema,
+}
+
+/// The schema of the texts, if they are accepted.
+///
+/// Otherwise it tells what is wrong: a fault for each text that is not read, alone; else each folding rule that is broken;
+/// where none is, each rule on schemas that is.
+pub fn schema_of_texts(texts: SchemaTexts) -> Result<JudgedTexts, Refusal>
+    requires { IsReadingOf (texts_of texts) texts }
+    ensures schema { IfOk result (λ s. IsCheckedSchemaOf (terms_of texts) (texts_of texts) (judged_value s)) }
+    ensures refused { IfErr result (RefusalOfSchemas (terms_of texts) (texts_of texts)) }
+{
+    if !texts.unread.is_empty() {
+        return Err(Refusal::Faults(texts.unread));
+    }
+    let builder = filled(texts.alloc, texts.extensions, &texts.documents)?;
+    let (schema, written) = judge(texts.alloc, builder)?;
+    Ok(JudgedTexts {
+        nesting: texts.nesting,
+        number: next_number(texts.files),
+        written,
+        schema,
+    })
+}
+
+/// A builder that has the definitions of the documents, in order, if there is a number for each extension.
+fn filled(
+    alloc: Global,
+    extensions: Extensions,
+    documents: &[Document],
+) -> Result<SchemaBuilder, Refusal>
+    ensures filled { IfOk result (λ b. IsFilled extensions (map document_tree documents.now) (builder_value b)) }
+    ensures refused { IfErr result (RefusalOfNumbers extensions (map document_tree documents.now)) }
+{
+    let mut builder = SchemaBuilder::with_extensions(alloc, extensions);
+    for document in documents {
+        match builder.add_ast(document) {
+            Ok(()) => {}
+            Err(refusal) => return Err(unfilled(alloc, refusal)),
+        }
+    }
+    Ok(builder)
+}
+
+/// What is said where a builder adds nothing.
+fn unfilled(alloc: Global, refusal: BuilderRefusal) -> Refusal
+    ensures { IsOfBuilder refusal result }
+{
+    match refusal {
+        BuilderRefusal::Spent => only(alloc, None, Details::Spent),
+        BuilderRefusal::Memory | BuilderRefusal::Failed => Refusal::Memory,
+    }
+}
+
+/// The schema that the definitions fold to, with each way in which a folding rule is broken.
+fn build(alloc: Global, builder: SchemaBuilder) -> Result<(Schema, DiagnosticList), AllocError>
+    ensures { IfOk result (λ r. BuildsSchema (builder_value builder) (schema_tree r.0) (diagnostics_of r.1)) }
+{
+    match builder.build() {
+        Ok((schema, errors)) => Ok((schema, schema_errors(alloc, errors)?)),
+        Err(_) => Err(AllocError),
+    }
+}
+
+/// The schema that the definitions fold to, where no folding rule is broken.
+fn built(alloc: Global, builder: SchemaBuilder) -> Result<Schema, Refusal>
+    ensures built { IfOk result (λ s. BuildsSchema (builder_value builder) (schema_tree s) []) }
+    ensures refused { IfErr result (RefusalOfFolding (builder_value builder)) }
+{
+    let (schema, faults) = build(alloc, builder)?;
+    if !faults.is_empty() {
+        return Err(Refusal::Faults(faults));
+    }
+    Ok(schema)
+}
+
+/// Leaves the schema over which documents are judged, if every rule on schemas holds.
+fn validate(alloc: Global, schema: &mut Schema) -> Result<(), Refusal>
+    ensures kept { OnOk result (schema_tree schema.new ≡ validated (schema_tree schema.old)) }
+    ensures valid { OnOk result (SchemaRules (judged (schema_tree schema.old))) }
+    ensures refused { IfErr result (RefusalOfSchemaRules (schema_tree schema.old)) }
+{
+    let mut faults = DiagnosticList::new(alloc);
+    validate_schema(alloc, &mut faults, schema)?;
+    if !faults.is_empty() {
+        return Err(Refusal::Faults(faults));
+    }
+    Ok(())
+}
+
+/// The schema over which documents are judged, and what is written of it as it was built, if no rule is broken.
+fn judge(alloc: Global, builder: SchemaBuilder) -> Result<(Schema, Document), Refusal>
+    ensures judged { IfOk result (λ r. IsJudgedSchema (builder_value builder) (schema_tree r.0) (document_tree r.1)) }
+    ensures refused { IfErr result (RefusalOfBuilder (builder_value builder)) }
+{
+    let mut schema = built(alloc, builder)?;
+    let written = schema.to_ast(alloc)?;
+    validate(alloc, &mut schema)?;
+    Ok((schema, written))
+}

@@ -1,0 +1,4 @@
+pub mod Unread
+pub mod Added
+pub mod TextsView
+pub mod TellsOnly

@@ -1,9 +1,0 @@
-use Rattle.graphql_faults.specs.DetailsView.{diagnostics_of}
-use Rattle.graphql_schema.specs.BuilderOf.{builder_value}
-use Rattle.graphql_schema.specs.SchemaOf.{schema_tree}
-use Rattle.graphql_checked.proofs.Building.{folding_refused}
-use Rattle.graphql_checked.proofs.finish.built.Goals as goal
-
-pub returns-then-not-is_empty-clause-refused : goal.returns-then-not-is_empty-clause-refused
-returns-then-not-is_empty-clause-refused c =
-    folding_refused (builder_value c.args.builder) (schema_tree c.in_ok-schema.schema) (diagnostics_of c.in_ok-schema.faults) c.in_ok-schema.ensures (λ e. let h = c.if-not-is_empty.ensures.1 e in absurd cc)
