@@ -14,12 +14,12 @@ invariants alone reach is printed behind, and counts for nothing.
 --names prints the reached definitions of each file too. --why FILE (a path or a name such as `Listed`) prints by which
 definitions a clause leads to it. --of NAME prints how much a definition rests on: the definitions that it reaches, their files,
 and their lines without comments, those of the book apart. --others prints the files that nothing reaches so and that do not say that they are private:
-those of laws (of crates and sources of laws), of public functions of inner crates, and the rest. --write writes the list of
-docs/DEFINITIONS.md. --check prints what is wrong, a line each: a reached file that says in its first line that it is private; a
-definition of a reached file that nothing in a source and no definition that is named so names; a file that docs/DEFINITIONS.md
-links to and nothing reaches, or one that is reached and not linked to; that the list there, or the section on the book, is not
-what the sources make; that docs/HEADLINE.md does not say how much `IsYes` rests on; that this reaches a rule's fault. The status
-is then 1.
+those of laws (of crates and sources of laws), of public functions of inner crates, and the rest. --write writes the two lists of
+docs/DEFINITIONS.md, of these files and of those that laws alone reach: each on which `IsYes` rests with its first sentence, the
+others by their names. --check prints what is wrong, a line each: a reached file that says in its first line that it is private; a
+definition of a reached file that nothing in a source and no definition that is named so names; a list of docs/DEFINITIONS.md that
+is not what the sources make; that docs/HEADLINE.md does not say how much `IsYes` rests on; that this reaches a rule's fault. The
+status is then 1.
 """
 import os
 import re
@@ -39,11 +39,9 @@ HEADLINE, YES, BOOK = "docs/HEADLINE.md", "IsYes", "book_validity"
 # The files that say what breaks a rule, and what is told of it.
 FAULTS = {"Diagnostics", "DocumentBreaches", "BuildErrors", "DocumentFaults"}
 
-# The line of the page behind which the book's chapters stand, up to the next heading.
-CHAPTERS = "<!-- the chapters of the book, from the first sentences of their files -->"
-
-# The line of the page behind which the list stands, up to the next empty line.
-LIST = "<!-- the list that scripts/believed.py --write makes -->"
+# The lines of the page after which the lists are, each up to the next empty line.
+LIST = "<!-- what promises reach: scripts/believed.py --write makes this list -->"
+LAWS = "<!-- what laws alone reach: scripts/believed.py --write makes this list -->"
 
 
 class Exports:
@@ -274,16 +272,24 @@ def in_order(library, files):
 
 
 def listed(library, files):
-    """The list of the page: a line for each crate, with a link to each file, by areas."""
-    lines, ordered = [], in_order(library, files)
+    """A list of the page: by areas a line for each file on which a yes rests, with its first sentence, and one for the others."""
+    lines, ordered, yes = [], in_order(library, files), {path for path, _ in rests_on(library, YES)}
+    link = lambda path: f"[{os.path.basename(path)[:-5]}](../{path})"
     for area, among in areas():
         own = [crate for crate in crates_in_order() if crate in among and any(path.split("/")[1] == crate for path in ordered)]
         if own:
             lines.append(f"- **{area}**")
         for crate in own:
-            links = [f"[{os.path.basename(path)[:-5]}](../{path})" for path in ordered if path.split("/")[1] == crate]
-            lines.append(f"  - `{crate}`: " + ", ".join(links))
+            here = [path for path in ordered if path.split("/")[1] == crate]
+            others_here = ", ".join(link(path) for path in here if path not in yes)
+            lines.append(f"  - `{crate}`" + f" ({others_here})" * bool(others_here))
+            lines += [f"    - **{link(path)}** {shortened(first_sentence(library.files[path]))}" for path in here if path in yes]
     return "\n".join(lines) + "\n"
+
+
+def shortened(sentence):
+    """A sentence with the sections of October 2021 by their numbers alone."""
+    return re.sub(r"GraphQL,? October 2021, (?:sections? )?", "", sentence)
 
 
 def rests_on(library, name):
@@ -311,16 +317,8 @@ def first_sentence(file):
         if not line.startswith("--"):
             break
         words.append(line.lstrip("- ").strip())
-    return re.match(r"(.+?(?<!\.)\.)(?: |$)", " ".join(words)).group(1)
-
-
-def chapters(library):
-    """The lines of the page on the chapters of the book: each file with its first sentence and what it defines."""
-    lines = ["| Chapter | Says | Defines |", "|---|---|---|"]
-    for path in in_order(library, [path for path in library.files if path.split("/")[1] == BOOK and not path.endswith("/Lib.antt")]):
-        names = ", ".join(f"`{name}`" for name, made in library.files[path].definitions.items() if made.is_public)
-        lines.append(f"| [{os.path.basename(path)[:-5]}](../{path}) | {first_sentence(library.files[path])} | {names} |")
-    return "\n".join(lines) + "\n"
+    found = re.match(r"(.+?(?<!\.)\.)(?: |$)", " ".join(words))
+    return found.group(1) if found else words[0]
 
 
 def unnamed(library, files):
@@ -356,11 +354,6 @@ def files_of(came):
     return {path: names for path, names in found.items() if not path.endswith("/Lib.antt")}
 
 
-def linked(text):
-    """The files of specs/ that a page links to."""
-    return {os.path.normpath(os.path.join("docs", target)) for target in re.findall(r"\]\(([^)#\s]+/specs/\w+\.antt)\)", text)}
-
-
 def main(words):
     library = sources.Library()
     clauses = public_clauses(library)
@@ -390,23 +383,17 @@ def main(words):
     for path, name in unnamed(library, files) if "--check" in words else []:
         wrong.append(f"{path}: nothing names `{name}` but proofs, if they do")
     text = sources.read(PAGE)
-    page = {path for path in linked(text) if path in files or path.split("/")[1] != BOOK}  # of the book each chapter has a line
-    wanted = listed(library, files)
+    lists = {LIST: listed(library, files), LAWS: listed(library, others(library, files)[0][1])}
     if "--write" in words:
-        head, rest = text.split(LIST, 1)
-        text = head + LIST + "\n" + wanted.rstrip("\n") + rest[rest.index("\n\n") :]
-        head, rest = text.split(CHAPTERS, 1)
+        for mark, wanted in lists.items():
+            head, rest = text.split(mark, 1)
+            text = head + mark + "\n" + wanted.rstrip("\n") + rest[rest.index("\n\n") :]
         with open(os.path.join(TOP, PAGE), "w", encoding="utf-8") as file:
-            file.write(head + CHAPTERS + "\n" + chapters(library) + rest[rest.index("\n\n") + 1 :])
+            file.write(text)
         return 0
-    for path in in_order(library, set(files) - page):
-        wrong.append(f"{path}: is reached, and {PAGE} has no link to it")
-    for path in sorted(page - set(files)):
-        wrong.append(f"{path}: {PAGE} links to it, and nothing reaches it")
-    if page == set(files) and wanted not in text:
-        wrong.append(f"{PAGE}: the list is in another order; scripts/believed.py --write makes it")
-    if CHAPTERS + "\n" + chapters(library) + "\n" not in text:
-        wrong.append(f"{PAGE}: the chapters of the book are others; scripts/believed.py --write makes them")
+    for mark, wanted in lists.items():
+        if mark + "\n" + wanted + "\n" not in text:
+            wrong.append(f"{PAGE}: a list is not what the sources make; scripts/believed.py --write makes it")
     if size(library, YES) not in sources.read(HEADLINE):
         wrong.append(f"{HEADLINE}: does not say `{size(library, YES)}`")
     for path, name in sorted(rests_on(library, YES)):

@@ -1,11 +1,13 @@
 #!/usr/bin/env python3
 """Whether the pages say what is there: scripts/pages.py [--check] [--clauses]
 
---check prints what is wrong, a line each, and its status is then 1: README.md has more than 150 lines; a relative link in
-README.md or docs/*.md leads to no file; a name that reads as a crate of the repository is not in crates.txt; one in backticks that
-reads as a file (`name.rt`, `Name.antt`, `name.rows`, `name.edit`, `name.py`) is the name of no file; a name in the first column of
-docs/DEFINITIONS.md is none of `specs/`; docs/PROMISES.md or docs/MAP.md says nothing of a crate of crates.txt; a line of a clause
-that README.md or docs/HEADLINE.md quotes does not stand in the source; a public clause is longer than 160 characters.
+--check prints what is wrong, a line each, and its status is then 1: README.md has more than 150 lines or 900 words, or all pages
+(*.md at the top and in docs/) have more than 25,000 words; a page has a word that the last table of CONTRIBUTING.md refuses; a
+relative link of a page leads to no file; a name that reads as a crate of the repository is not in crates.txt; one in backticks
+that reads as a file (`name.rt`, `Name.antt`, `name.rows`, `name.edit`, `name.py`) is the name of no file; a table of
+docs/PROMISES.md names a function, a clause or a definition that is not there; docs/PROMISES.md or docs/MAP.md says nothing of a
+crate of crates.txt; a line of a block after `<!-- from PATH -->` is not in that file, after the lines before it; a public clause
+is longer than 160 characters.
 
 What reads as a crate: a word that begins with `graphql_`; one that begins as the crates of an area do (`tree_`, `read_`, ..), if the
 sources have nothing else of that name, neither an item, a definition nor a file; and, whatever it begins with, a name in backticks
@@ -23,11 +25,18 @@ from sources import TOP
 
 LINES = 150
 CHARACTERS = 160
+README_WORDS, ALL_WORDS = 900, 25000
+
+# the line after which CONTRIBUTING.md has the words that pages must not have.
+WORDS = "<!-- the words that scripts/pages.py refuses -->"
+
+# The pages that scripts make from the sources.
+MADE = ["docs/RULES.md", "docs/DEFINITIONS.md"]
 
 
 def pages():
     """The pages, by their paths."""
-    return ["README.md"] + sources.paths("docs/*.md")
+    return sources.paths("*.md") + sources.paths("docs/*.md")
 
 
 def broken_links(path, text):
@@ -44,6 +53,8 @@ def other_names(library):
     """The names of the sources that are no crates: of items, of definitions, and of files."""
     paths = [path for part in ("src", "data", "planted", "must-fail") for path in sources.paths(f"crates/*/{part}/*")]
     known = {os.path.basename(path).split(".")[0] for path in paths}
+    for source in sources.paths("crates/graphql_checked/src/*.rt"):
+        known |= {label for function in sources.functions(sources.read(source)) for _, label, _, _ in function.clauses}
     for file in library.files.values():
         known |= set(file.definitions) | set(file.owners)
     for source in sources.paths("crates/*/src/*.rt"):
@@ -68,7 +79,7 @@ def unknown_crates(path, text, crates, others):
     """The names that read as crates and are none of crates.txt."""
     areas = sorted({crate.split("_")[0] for crate in crates})
     found = set(crates_alone(path, text))
-    for number, line in enumerate(text.split("\n"), 1):
+    for number, line in enumerate(re.sub(r"^```(?:rust|console)\n.*?^```$", lambda block: "\n" * block.group(0).count("\n"), text, flags=re.M | re.S).split("\n"), 1):
         for word in re.findall(rf"\b(?:{'|'.join(areas)})_\w+", line):
             if not word.endswith("_") and (word.startswith("graphql_") or word not in others):
                 found.add((number, word))
@@ -85,33 +96,75 @@ def unknown_files(path, text, files):
                 yield f"{path}:{number}: `{word}` is the name of no file"
 
 
-def unknown_definitions(path, library):
-    """The names of definitions that are not there."""
-    known = set(sources.crates())
-    for file_path, file in library.files.items():
-        known |= set(file.definitions) | set(file.owners) | {os.path.basename(file_path)[: -len(".antt")]}
-        for definition in file.definitions.values():
-            known |= set(re.findall(r"pub (\w+) :", "\n".join(definition.parts)))
-            known |= {part for part in definition.name.split("◌") if part}
+def unknown_clauses(path, library):
+    """The functions, clauses and definitions that the tables of a page name as what promises, and that are not there.
+
+    A cell is parts with `;` between: names of functions, then after `:` the names of their clauses. A part without a function
+    is about those of the part before."""
+    clauses, known = {}, set()
     for source in sources.paths("crates/*/src/*.rt"):
-        known |= set(re.findall(r"^pub (?:struct|enum) (\w+)", sources.read(source), re.M))
+        text = sources.masked(sources.read(source))
+        for function in sources.functions(sources.read(source), text):
+            clauses.setdefault(function.name, set()).update(label.split()[-1] for _, label, _, _ in function.clauses if label)
+        known |= set(re.findall(r"\b(?:fn|struct|enum|trait|type|ghost) (\w+)", text))
+    for file in library.files.values():
+        known |= set(file.definitions) | set(file.owners)
+    functions, by = [], False
     for number, line in enumerate(sources.read(path).split("\n"), 1):
-        if line.startswith("| `"):
-            for word in re.findall(r"`([^`]+)`", line.split("|")[1]):
-                for name in re.split(r"[\s,]+", word):
-                    if name and name != ".." and name not in known:
-                        yield f"{path}:{number}: `{name}` is no definition"
+        cells = [cell.strip() for cell in line.strip("|").split("|")] if line.startswith("|") else []
+        by = len(cells) == 2 and (by or cells[1] == "By")
+        for part in cells[1].split("; ") if by else []:
+            names, _, labels = part.partition(": ")
+            named = [name.split("::")[-1] for name in re.findall(r"`([\w:]+)`", names)]
+            functions = named or functions
+            for name in named:
+                if name not in clauses and name not in known and name not in sources.crates():
+                    yield f"{path}:{number}: `{name}` is no function and no definition"
+            for label in re.findall(r"`(\w+)`", labels):
+                if not any(label in clauses.get(name, ()) for name in functions):
+                    yield f"{path}:{number}: `{label}` is no clause of {', '.join(functions)}"
 
 
-def misquoted():
-    """The lines of clauses that a page quotes and that stand in no source."""
-    source = sources.read("crates/graphql_checked/src/verdict.rt")
-    for path in ("README.md", "docs/HEADLINE.md"):
-        for block in re.findall(r"```text\n(.*?)```", sources.read(path), re.S):
-            if "ensures" in block:
-                for line in block.split("\n"):
-                    if line.strip() and not line.startswith("pub fn check_texts(alloc") and line not in source.split("\n"):
-                        yield f"{path}: quotes what does not stand in verdict.rt: {line.strip()}"
+def misquoted(path, text):
+    """The lines of quoted blocks that do not stand in the file from which they come, in their order."""
+    for block in re.finditer(r"^<!-- from (\S+) -->\n```\w*\n(.*?)^```$", text, re.M | re.S):
+        if not os.path.exists(os.path.join(TOP, block.group(1))):
+            yield f"{path}: quotes {block.group(1)}, which is no file"
+            continue
+        left = sources.read(block.group(1)).split("\n")
+        for line in filter(None, block.group(2).split("\n")):
+            if line not in left:
+                yield f"{path}: quotes what does not stand there in {block.group(1)}: {line.strip()}"
+            else:
+                left = left[left.index(line) + 1 :]
+
+
+def refused_words():
+    """The words that pages must not have, each with those to use, from the table of CONTRIBUTING.md."""
+    table = sources.read("CONTRIBUTING.md").split(WORDS)[1].split("\n\n")[0].strip().split("\n")[2:]
+    for line in table:
+        words, use = (cell.strip() for cell in line.strip("|").split("|"))
+        yield re.compile(r"\b(?:" + "|".join(re.escape(word) for word in words.split(", ")) + r")\b", re.I), use
+
+
+def prose(path, text):
+    """The text of a page with code, links' targets and the table of words blanked."""
+    blank = lambda found: re.sub(r"[^\n]", " ", found.group(0))
+    text = re.sub(r"^```.*?^```$", blank, text, flags=re.M | re.S)
+    if WORDS in text:
+        head, rest = text.split(WORDS, 1)
+        text = head + WORDS + blank(re.match(r".*", rest, re.S))
+    return re.sub(r"`[^`\n]*`|\]\([^)\n]*\)", blank, text)
+
+
+def badly_worded(path, text, refused):
+    """The words of a page that are refused. Pages that a script makes from the sources have the sources' words."""
+    if path in MADE:
+        return
+    for number, line in enumerate(prose(path, text).split("\n"), 1):
+        for pattern, use in refused:
+            for found in pattern.finditer(line):
+                yield f"{path}:{number}: `{found.group(0)}`: write: {use}"
 
 
 def left_out(crates):
@@ -144,21 +197,27 @@ def main(words):
     lines = sources.read("README.md").count("\n")
     if lines > LINES:
         wrong.append(f"README.md has {lines} lines, more than {LINES}")
+    refused, counts = list(refused_words()), {}
     for path in pages():
         text = sources.read(path)
+        counts[path] = len(text.split())
+        wrong += badly_worded(path, text, refused)
         wrong += broken_links(path, text)
         wrong += unknown_crates(path, text, crates, others)
         wrong += unknown_files(path, text, files)
-    wrong += unknown_definitions("docs/DEFINITIONS.md", library)
+        wrong += misquoted(path, text)
+    for name, count, most in (("README.md", counts["README.md"], README_WORDS), ("all pages", sum(counts.values()), ALL_WORDS)):
+        if count > most:
+            wrong.append(f"{name}: {count} words, more than {most}")
+    wrong += unknown_clauses("docs/PROMISES.md", library)
     wrong += left_out(crates)
-    wrong += misquoted()
     clauses = long_clauses(library)
     if "--clauses" in words:
         print("\n".join(f"{length} characters: {where}" for length, where in clauses))
         return 0
     wrong += [f"{where}: {length} characters, more than {CHARACTERS}" for length, where in clauses]
     print("".join(f"{line}\n" for line in wrong), end="")
-    print(f"pages: {len(pages())} pages, README of {lines} lines, {len(wrong)} wrong")
+    print(f"pages: {len(counts)} pages, {sum(counts.values())} words, README of {lines} lines, {len(wrong)} wrong")
     return 1 if wrong and "--check" in words else 0
 
 

@@ -1,0 +1,144 @@
+#!/usr/bin/env python3
+"""Whether the examples print what they say: scripts/examples.py [--check] [--write]
+
+A run is a command and what it prints. A line that begins with `$ ` is a command, for bash, at the top of the repository; the
+lines after it are what it prints, to standard output and standard error; the last may be its status in brackets, `[1]`, which
+is 0 where none stands. A line that begins with `# ` is a comment. Runs stand in examples/*/runs.txt, and in README.md, GUIDE.md and CONTRIBUTING.md in each block that
+begins with ```console.
+
+--check runs them all and prints each line that differs; its status is then 1. It also compares the places that these pages
+name, as in `examples/refused/unknown_field.graphql:4:5`: each must be that of a fault which one of the runs prints. Runs need
+the program that `./graphql-checked` keeps; where none is built from these sources, it says so, runs nothing, and its status is
+0. --write puts what is printed into examples/*/runs.txt, which must then be read: an expected line comes from the
+specification, not from the program.
+"""
+import concurrent.futures
+import difflib
+import glob
+import os
+import re
+import shlex
+import subprocess
+import sys
+
+TOP = os.path.dirname(os.path.dirname(os.path.abspath(__file__)))
+PAGES = ["README.md", "GUIDE.md", "CONTRIBUTING.md"]
+ENVIRONMENT = dict(os.environ, GRAPHQL_CHECKED_BUILD="never", LC_ALL="C.UTF-8")
+
+
+class Run:
+    """A command, the lines that it is to print, and its status."""
+
+    def __init__(self, path, line, command):
+        self.path, self.line, self.command, self.wanted = path, line, command, []
+
+    def lines(self):
+        """What it prints, with its status."""
+        done = subprocess.run(["bash", "-c", self.command], cwd=TOP, env=ENVIRONMENT, stdin=subprocess.DEVNULL, stdout=subprocess.PIPE, stderr=subprocess.STDOUT, timeout=120)
+        found = done.stdout.decode("utf-8", "replace").split("\n")
+        found = found[:-1] if found[-1] == "" else found
+        return found + ([f"[{done.returncode}]"] if done.returncode else [])
+
+
+def runs_of(path, first, text):
+    """The runs of a text that begins at a line of a file."""
+    found, inside = [], False
+    for number, line in enumerate(text.split("\n"), first):
+        if line.startswith("$ "):
+            found.append(Run(path, number, line[2:]))
+            inside = True
+        elif line.startswith("# "):
+            inside = False
+        elif inside:
+            found[-1].wanted.append(line)
+    for run in found:
+        while run.wanted and run.wanted[-1] == "":
+            run.wanted.pop()
+    return found
+
+
+def read(path):
+    """The text of a file of the repository."""
+    with open(os.path.join(TOP, path), encoding="utf-8") as file:
+        return file.read()
+
+
+def example_files():
+    """The files of runs."""
+    return sorted(os.path.relpath(path, TOP) for path in glob.glob(os.path.join(TOP, "examples", "*", "runs.txt")))
+
+
+def pages():
+    """The pages that are there."""
+    return [path for path in PAGES if os.path.exists(os.path.join(TOP, path))]
+
+
+def all_runs():
+    """All runs, those of the examples first."""
+    found = []
+    for path in example_files():
+        found += runs_of(path, 1, read(path))
+    for path in pages():
+        text = read(path)
+        for block in re.finditer(r"^```console\n(.*?)^```$", text, re.M | re.S):
+            found += runs_of(path, text.count("\n", 0, block.start(1)) + 1, block.group(1))
+    return found
+
+
+def places(run, lines):
+    """The places of the faults that a run prints: file, line and column, counted from 1, columns in bytes."""
+    words = shlex.split(run.command.split("|")[0].split(";")[0])
+    texts = [word for word in words if word.endswith(".graphql")]
+    texts = texts[1:] + texts[:1]
+    for line in lines:
+        place = re.match(r"(\d+):(\d+): ", line)
+        if place and 1 <= int(place.group(1)) <= len(texts):
+            path, offset = texts[int(place.group(1)) - 1], int(place.group(2))
+            before = read(path).encode()[:offset]
+            line, column = before.count(b"\n") + 1, offset - before.rfind(b"\n")
+            yield f"{path}:{line}:{column}"
+
+
+def is_built():
+    """Whether a program is built from these sources."""
+    return subprocess.run(["./graphql-checked", "--help"], cwd=TOP, env=ENVIRONMENT, stdin=subprocess.DEVNULL, capture_output=True).returncode == 0
+
+
+def rewritten(path):
+    """A file of runs with what they print."""
+    lines, text = read(path).split("\n"), read(path)
+    for run in reversed(runs_of(path, 1, text)):
+        lines[run.line : run.line + len(run.wanted)] = run.lines()
+    return "\n".join(lines)
+
+
+def main(words):
+    if not is_built():
+        print("examples: no program is built from these sources, so nothing was run; ./graphql-checked builds one")
+        return 0
+    if "--write" in words:
+        for path in example_files():
+            text = rewritten(path)
+            with open(os.path.join(TOP, path), "w", encoding="utf-8") as file:
+                file.write(text)
+        return 0
+    wrong, known, runs = 0, set(), all_runs()
+    with concurrent.futures.ThreadPoolExecutor(4) as pool:
+        printed = list(pool.map(Run.lines, runs))
+    for run, found in zip(runs, printed):
+        known |= set(places(run, found))
+        if found != run.wanted:
+            wrong += 1
+            print(f"{run.path}:{run.line}: $ {run.command}")
+            print("\n".join(line for line in difflib.unified_diff(run.wanted, found, "wanted", "printed", lineterm="", n=1)))
+    for path in pages():
+        for place in sorted(set(re.findall(r"\b(examples/[\w/.-]+:\d+:\d+)", read(path)))):
+            if place not in known:
+                wrong += 1
+                print(f"{path}: {place} is the place of no fault that a run prints")
+    print(f"examples: {len(runs)} runs, {wrong} wrong")
+    return 1 if wrong and "--check" in words else 0
+
+
+if __name__ == "__main__":
+    sys.exit(main(sys.argv[1:]))
