@@ -4,21 +4,21 @@
 //! For the program of rows over the checker, which says how each call answers (`Checks`): `by_texts` judges a row by these.
 //! Whatever needs no call of the checker stands here, so that it is proved beside the checker and not behind it.
 //!
-//! Begin with `checks.rt` and `by_texts.rt`.
+//! Begin with `checks.rt` and `judging.rt`.
 #![tactic(auto)]
 
 mod asked;
 mod by_back;
 mod by_run;
-mod by_texts;
 mod checks;
 mod devices;
+mod judging;
 mod pair;
 mod words;
 
 pub use asked::{Asked, layouts, names_of};
-pub use by_texts::by_texts;
 pub use checks::{Checks, Texts};
 pub use devices::{failed_reader, push_end, readers};
+pub use judging::by_texts;
 pub use pair::Pair;
 pub use words::{push_refusal, push_refused, push_text};
