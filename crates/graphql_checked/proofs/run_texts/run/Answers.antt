@@ -40,3 +40,16 @@ returns-clause-complete g c =
 
 pub returns-clause-schemas_running : goal.returns-clause-schemas_running
 returns-clause-schemas_running g c = none_failed c.args.schemas.now c.read_texts.new.devices c.in_ok-texts.ensures.running c.requires.schemas_run
+
+pub returns-clause-answers : goal.returns-clause-answers
+returns-clause-answers g c = record {
+  texts = map string_bytes c.deref.result.now;
+  text = c.deref-2.result.now;
+  bytes = c.deref-3.result.now;
+  schemas_are = subst (AreTextsOf g.R.Read.remaining c.args.schemas.now) (ap (map string_bytes) (sym c.deref.ensures.value)) c.in_ok-texts.ensures.texts;
+  document_is = subst (IsTextOf g.D.Read.remaining c.args.document.now) (sym c.deref-2.ensures) c.in-Ok.ensures.text;
+  schemas_are_utf8 = subst (λ ts. All IsUtf8 (map string_bytes ts)) (sym c.deref.ensures.value) (all_utf8 c.in_ok-texts.texts.items);
+  document_is_utf8 = subst IsUtf8 (sym c.deref-2.ensures) (IsUtf8-string_bytes c.in-Ok.text);
+  answers = subst (BytesOf (first_terms c.args.limits.nesting) (prefix_of c.args.layout) c.in_ok-outcome.outcome _ _) (sym c.deref-3.ensures.value) c.in_ok-outcome.ensures.answer;
+  put = c.in_ok-put.ensures.whole;
+}

@@ -29,5 +29,5 @@ returns-clause-complete c certain =
 pub verdict_of-requires : goal.verdict_of-requires
 verdict_of-requires c = schemas_not_failed (first_terms c.args.limits.nesting) (map (λ t. t.now) c.args.schemas.now) c.in-Err.refusal c.in-Err.ensures.refused
 
-pub verdict_of-in-Err-check-requires : goal.verdict_of-in-Err-check-requires
-verdict_of-in-Err-check-requires c = document_not_failed (schema_value c.in-Ok.schema) c.args.document.now c.in-Err-check.refusal c.in-Err-check.ensures.refused
+pub verdict_of-requires-in-Err-check : goal.verdict_of-requires-in-Err-check
+verdict_of-requires-in-Err-check c = document_not_failed (schema_value c.in-Ok.schema) c.args.document.now c.in-Err-check.refusal c.in-Err-check.ensures.refused
