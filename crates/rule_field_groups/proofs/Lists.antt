@@ -53,7 +53,7 @@ taken_more xs i x h e = take_more xs i x h ∙ ap (λ y. take i xs ++ y ∷ []) 
 
 -- ---- no member twice
 
-slice_get-push_cases : {X : Type 0} (xs : List X) (x : X) (i : ℕ) (y : X) → slice_get (xs ++ x ∷ []) i ≡ Some y → (slice_get xs i ≡ Some y) ⊎ ((i ≡ length xs) × (y ≡ x))
+pub slice_get-push_cases : {X : Type 0} (xs : List X) (x : X) (i : ℕ) (y : X) → slice_get (xs ++ x ∷ []) i ≡ Some y → (slice_get xs i ≡ Some y) ⊎ ((i ≡ length xs) × (y ≡ x))
 slice_get-push_cases xs x i y h =
     let within : i < length (xs ++ x ∷ []) = slice_get_within (xs ++ x ∷ []) i y h in
     let is : get_or (xs ++ x ∷ []) i y ≡ y = get_or_from_slice_get (xs ++ x ∷ []) i y y h in
@@ -64,7 +64,7 @@ slice_get-push_cases xs x i y h =
           inr (last, sym is ∙ ap (λ k. get_or (xs ++ x ∷ []) k y) last ∙ get_or-append_seam xs x [] y)
     ]
 
-contains_from_get : {X : Type 0} (xs : List X) (i : ℕ) (x : X) → slice_get xs i ≡ Some x → Contains xs x
+pub contains_from_get : {X : Type 0} (xs : List X) (i : ℕ) (x : X) → slice_get xs i ≡ Some x → Contains xs x
 contains_from_get xs i x h = (i, slice_get_within xs i x h, get_or_from_slice_get xs i x x h)
 
 pub none_twice : {X : Type 0} → HasNoRepeat {X = X} []

@@ -1,5 +1,5 @@
 -- What is told of a group, field by field; how often shapes are compared for it.
-use Rattle.std.proofs.Common.{◌≡◌, ◌++◌, ◌∙◌, ◌≤◌, ◌<◌, ◌+◌, ℕ, List, [], ◌∷◌, map, take, length, get_or, Vec, Global, Option, None, Some, Contains, refl, sym, ap, subst, append-nil, append_assoc, inl, inr, arith}
+use Rattle.std.proofs.Common.{◌≡◌, ◌++◌, ◌∙◌, ◌≤◌, ◌<◌, ◌+◌, ℕ, List, [], ◌∷◌, map, take, drop, length, get_or, min, Vec, Global, Option, None, Some, Contains, refl, sym, ap, subst, append-nil, append_assoc, inl, inr, arith}
 use Rattle.std.specs.Prelude.{option_to_list}
 use Rattle.std.specs.List.{AllByRecursion, IsFirstAndRest}
 use Rattle.std.proofs.lemmas.List.{map-append, take_more, take_all}
@@ -19,7 +19,7 @@ use Rattle.rule_document_ground.specs.declared.field_selection.FieldSelection.{F
 use Rattle.rule_field_groups.specs.declared.pass.Pass.{Pass}
 use Rattle.rule_field_groups.specs.declared.pass.Pass.TheVariants.{Shapes, Selections}
 use Rattle.rule_field_groups.specs.Passes.{Agree, Conflict, Compares, TellsGroup, AddsGroup}
-use Rattle.rule_field_groups.specs.Compared.{compared, compared_once}
+use Rattle.rule_field_groups.specs.Compared.{compared, compared_once, greatest_count, CountsUp}
 
 -- a field agrees with itself
 agree_refl : {P : Type 0} (pass : Pass) (s : Judged) (f : StandingField P) → Agree pass s f f
@@ -135,10 +135,50 @@ abbrev pub most : Pass → ℕ → ℕ
 most Shapes n = n
 most Selections n = 0
 
-pub count_more : (pass : Pass) (k old now new : ℕ) → now ≤ old + most pass k → new ≤ now + compared_once pass → new ≤ old + most pass (k + 1)
-count_more Shapes k old now new so_far more = omega arith
-count_more Selections k old now new so_far more = omega arith
+pub counts_none : (n : ℕ) → CountsUp n 0 n
+counts_none n = (omega arith, (omega arith, λ low. omega arith))
 
-pub count_within : {X : Type 0} (pass : Pass) (group : List X) (k old now : ℕ) → k ≤ length group → now ≤ old + most pass k → now ≤ old + compared pass group
-count_within Shapes group k old now h so_far = omega arith
-count_within Selections group k old now h so_far = so_far
+pub counts_zero : (pass : Pass) (n : ℕ) → CountsUp n (most pass 0) n
+counts_zero Shapes n = counts_none n
+counts_zero Selections n = counts_none n
+
+pub count_none : {X : Type 0} (pass : Pass) (group : List X) → length group ≡ 0 → (n : ℕ) → CountsUp n (compared pass (drop 1 group)) n
+count_none Shapes [] e n = counts_none n
+count_none Shapes (x ∷ xs) e n = absurd (omega (arith, e))
+count_none Selections group e n = counts_none n
+
+pub counts_one : (old new : ℕ) → new ≡ min (old + 1) greatest_count → old ≤ greatest_count → CountsUp old 1 new
+counts_one old new is within = (omega (arith, is, within), (omega (arith, is), λ low. omega (arith, is, low)))
+
+counts_on : (a b old now new : ℕ) → CountsUp old a now → CountsUp now b new → CountsUp old (a + b) new
+counts_on a b old now new (low, (high, exact)) (low_too, (high_too, exact_too)) = (
+  omega (arith, low, low_too),
+  (
+    omega (arith, high, high_too),
+    λ under.
+        let e = exact_too under in
+        let i = exact (omega (arith, low_too, under)) in
+        omega (arith, e, i),
+  ),
+)
+
+pub count_more : (pass : Pass) (k old now new : ℕ) → CountsUp old (most pass k) now → CountsUp now (compared_once pass) new → CountsUp old (most pass (k + 1)) new
+count_more Shapes k old now new so_far more = counts_on k 1 old now new so_far more
+count_more Selections k old now new so_far more = counts_on 0 0 old now new so_far more
+
+pub count_within : {X : Type 0} (pass : Pass) (first : X) (others group : List X) (k old now : ℕ) → group ≡ first ∷ others → k ≤ length others → CountsUp old (most pass k) now
+    → (old ≤ now) × (now ≤ old + compared pass group)
+count_within Shapes first others group k old now is h (low, (high, exact)) = (low, omega (arith, high, h, ap length is))
+count_within Selections first others group k old now is h (low, (high, exact)) = (low, high)
+
+-- with the next one, whatever comes of it
+pub count_next : {X : Type 0} (pass : Pass) (first : X) (others group : List X) (k old now new : ℕ) → group ≡ first ∷ others → k < length others → CountsUp old (most pass k) now
+    → CountsUp now (compared_once pass) new → (old ≤ new) × (new ≤ old + compared pass group)
+count_next pass first others group k old now new is h so_far more = count_within pass first others group (k + 1) old new is (omega (arith, h)) (count_more pass k old now new so_far more)
+
+pub count_all : {X : Type 0} (pass : Pass) (first : X) (others group : List X) (k old now : ℕ) → group ≡ first ∷ others → k ≤ length others → length others ≤ k → CountsUp old (most pass k) now
+    → CountsUp old (compared pass (drop 1 group)) now
+count_all Shapes first others group k old now is low high so_far =
+    let same : k ≡ length others = omega (arith, low, high) in
+    subst (λ l. CountsUp old (length (drop 1 l)) now) (sym is) (subst (λ n. CountsUp old n now) same so_far)
+count_all Selections first others group k old now is low high so_far = so_far

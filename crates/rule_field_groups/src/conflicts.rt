@@ -1,5 +1,5 @@
 //! Conflicts of two fields.
-ghost use Rattle.std.specs.Prelude.{◌≡◌, ◌≤◌, ◌+◌, MatchOption, IfOk, OnOk};
+ghost use Rattle.std.specs.Prelude.{◌≡◌, ◌≤◌, ◌+◌, min, drop, MatchOption, IfOk, OnOk};
 ghost use Rattle.schema_coordinates.specs.CoordinateView.{attribute_coordinate, argument_coordinate};
 ghost use Rattle.fault_document_data.specs.DocumentBreachView.{value_in_conflict};
 ghost use Rattle.graphql_schema.specs.SchemaOf.{schema_tree};
@@ -9,7 +9,7 @@ ghost use Rattle.rule_document_definitions.specs.SameValues.{SameArguments, plai
 ghost use Rattle.rule_document_ground.specs.Broken.{broken_of};
 ghost use Rattle.rule_document_ground.specs.Fields.{field_of, fields_of};
 ghost use Rattle.rule_field_groups.specs.Passes.{TypesConflict, NamesConflict, ArgumentsConflict, SelectionsConflict, Compares, AddsGroup, coordinate_of, coordinate_of_argument, type_conflict, name_conflict, argument_conflict};
-ghost use Rattle.rule_field_groups.specs.Compared.{compared, compared_once};
+ghost use Rattle.rule_field_groups.specs.Compared.{compared, compared_once, greatest_count, CountsUp};
 
 use crate::pass::Pass;
 use crate::shapes::same_type;
@@ -30,7 +30,8 @@ pub type Breach = (Option<SourceSpan>, BuildError);
 
 /// One more, or no more where this is the greatest number.
 fn count_one(count: &mut u128)
-    ensures { count.new ≤ count.old + 1 }
+    ensures value { count.new ≡ min (count.old + 1) greatest_count }
+    ensures counts { CountsUp count.old 1 count.new }
 {
     *count = count.saturating_add(1);
 }
@@ -84,7 +85,7 @@ fn conflicting_field_type(
     comparisons: &mut u128,
 ) -> Result<Option<Breach>, AllocError>
     ensures told { IfOk result (λ r. MatchOption r (SameShape (judged (schema_tree schema.now)) (field_of first.entry) (field_of other.entry)) (λ b. TypesConflict (judged (schema_tree schema.now)) (broken_of b) (field_of first.entry) (field_of other.entry))) }
-    ensures counted { comparisons.new ≤ comparisons.old + 1 }
+    ensures counted { CountsUp comparisons.old 1 comparisons.new }
 {
     count_one(comparisons);
     if same_type(
@@ -249,7 +250,7 @@ fn conflict(
     comparisons: &mut u128,
 ) -> Result<Option<Breach>, AllocError>
     ensures told { IfOk result (λ r. Compares pass (judged (schema_tree schema.now)) (field_of fields.entry.0) (field_of fields.entry.1) r) }
-    ensures counted { comparisons.new ≤ comparisons.old + compared_once pass }
+    ensures counted { CountsUp comparisons.old (compared_once pass) comparisons.new }
 {
     match pass {
         Pass::Shapes => { conflicting_field_type(alloc, schema, fields.0, fields.1, comparisons) }
@@ -266,7 +267,9 @@ pub fn check_group(
     comparisons: &mut u128,
 ) -> Result<(), AllocError>
     ensures told { OnOk result (AddsGroup pass (judged (schema_tree schema.now)) (fields_of group.now) breaches.old breaches.new) }
+    ensures more { comparisons.old ≤ comparisons.new }
     ensures counted { comparisons.new ≤ comparisons.old + compared pass group.now }
+    ensures exact { OnOk result (CountsUp comparisons.old (compared pass (drop 1 group.now)) comparisons.new) }
 {
     let alloc = *breaches.allocator();
     let Some((first, others)) = group.split_first() else {

@@ -35,7 +35,9 @@ use Rattle.rule_field_groups.specs.Passes.{Together, Agree, Conflict, TellsGroup
 use Rattle.rule_field_groups.specs.Below.{contents_of, meant_sets, plain_sets, IsMergedIn, AreSetsOf}
 use Rattle.rule_field_groups.proofs.Lists.{taken_more}
 use Rattle.rule_merging.proofs.Bare.{IsIn, bare_selects, bare_plain}
-use Rattle.rule_merging.specs.Remembered.{Kept, nothing_kept, Remembers, Expands}
+use Rattle.rule_number_lists.specs.NumberLists.{HaveSame}
+use Rattle.rule_number_lists.proofs.Standing.{same_sym}
+use Rattle.rule_merging.specs.Remembered.{Kept, nothing_kept, HasLooked, Expands}
 use Rattle.rule_merging.specs.Examined.{Sets, all_sets, all_plain, with_each, with_sets, if_any, AreOf, HaveBoth, PlainSelected, IsLeft, AllStand, AreSettled, AreUnderWay, HaveFields, GroupExamined, GroupsExamined, ListExamined, IsGroupIn, ComeFrom, TellsIn, SetsExamined, AreTwosOf, AllExamined}
 
 -- ---- lists
@@ -248,18 +250,19 @@ module _ (pass : Pass) (s : Judged) (d : MeantDocument Place) where
 
   -- ---- a list of fields that is new
 
-  module _ (sets : Sets) (list : List FieldSelection) (next : List Sets) (old : Kept) (merged : IsMergedIn d sets list) (h : ListExamined pass s d list [] next) where
+  module _ (sets : Sets) (list : List FieldSelection) (kept : List PlainField) (next : List Sets) (old : Kept) (merged : IsMergedIn d sets list) (same : HaveSame (contents_of list) kept)
+      (h : ListExamined pass s d list [] next) where
     abbrev lists_now : List (List PlainField)
-    lists_now = old.lists ++ contents_of list ∷ []
+    lists_now = old.lists ++ kept ∷ []
 
     stand_here : (f g : PlainField) → Contains (contents_of list) f → Contains (contents_of list) g → StandIn lists_now f g
-    stand_here f g a b = (contents_of list, (in_last old.lists (contents_of list), (a, b)))
+    stand_here f g a b = (kept, (in_last old.lists kept, ((same f).0 a, (same g).0 b)))
 
     stand_selected : (x y : PlainField) → PlainSelected d (plain_sets sets) x → PlainSelected d (plain_sets sets) y → StandIn lists_now x y
     stand_selected x y a b = stand_here x y (in_merged sets list merged x a) (in_merged sets list merged y b)
 
     more_here : (l : List PlainField) → Contains old.lists l → Contains lists_now l
-    more_here l c = Contains-append_left old.lists (contents_of list ∷ []) l c
+    more_here l c = Contains-append_left old.lists (kept ∷ []) l c
 
     -- what is asked of two fields that stand in the list
     abbrev Fresh : List (List PlainSet) → PlainField → PlainField → Type 0
@@ -294,9 +297,9 @@ module _ (pass : Pass) (s : Judged) (d : MeantDocument Place) where
         fields = moved (PlainBelow d) (Together pass s) (Agree pass s) (PlainStarts d o) (IsLeft d (plain_sets sets ∷ left)) (IsLeft d (left ++ all_plain next)) (StandIn old.lists) (StandIn lists_now)
             (stand_more old.lists lists_now more_here)
             (left_on sets left (left ++ all_plain next) lists_now stand_selected (λ l c. Contains-append_left left (all_plain next) l c))
-            (λ f g k. elim (Contains-append_cases old.lists (contents_of list ∷ []) k.0 k.1.0) [
+            (λ f g k. elim (Contains-append_cases old.lists (kept ∷ []) k.0 k.1.0) [
               | inl a ↦ inl (k.0, (a, k.1.1))
-              | inr b ↦ inr (fresh left f g (subst (λ (l : List PlainField). Contains l f) (only (contents_of list) k.0 b) k.1.1.0) (subst (λ (l : List PlainField). Contains l g) (only (contents_of list) k.0 b) k.1.1.1))
+              | inr b ↦ inr (fresh left f g ((same f).1 (subst (λ (l : List PlainField). Contains l f) (only kept k.0 b) k.1.1.0)) ((same g).1 (subst (λ (l : List PlainField). Contains l g) (only kept k.0 b) k.1.1.1)))
             ])
             under.fields;
         sets = λ vs c x y a b. stand_more old.lists lists_now more_here x y (under.sets vs c x y a b);
@@ -304,9 +307,9 @@ module _ (pass : Pass) (s : Judged) (d : MeantDocument Place) where
       all_of_one sets lists_now stand_selected,
     )
 
-  pub new_fields : (sets : Sets) (list : List FieldSelection) (added : List (Broken Place)) (next : List Sets) (old new : Kept) → IsMergedIn d sets list
-      → ListExamined pass s d list added next → new ≡ record { lists = old.lists ++ contents_of list ∷ []; expanded = old.expanded } → SetsExamined pass s d (sets ∷ []) old new added next
-  new_fields sets list added next old new merged h is = record {
+  pub new_fields : (sets : Sets) (list : List FieldSelection) (kept : List PlainField) (added : List (Broken Place)) (next : List Sets) (old new : Kept) → IsMergedIn d sets list → HaveSame (contents_of list) kept
+      → ListExamined pass s d list added next → new ≡ record { lists = old.lists ++ kept ∷ []; expanded = old.expanded } → SetsExamined pass s d (sets ∷ []) old new added next
+  new_fields sets list kept added next old new merged same h is = record {
     right = λ fault c.
         let t = h.examined.right fault c in
         let w = h.are.within t.0 t.1.1.0 t.1.1.1.0 t.1.0 t.1.1.1.1.0 t.1.1.1.1.1.0 in
@@ -315,39 +318,45 @@ module _ (pass : Pass) (s : Judged) (d : MeantDocument Place) where
     under = λ vs c.
         let u = h.examined.under vs c in
         (sets, (Contains-first sets [] sets refl, (u.0, ((λ f g a b. let w = h.are.within u.0 f g u.1.0 a b in (merged.within f w.0, w.1)), u.1.1))));
-    more = λ l c. subst (λ (k : Kept). Contains k.lists l) (sym is) (Contains-append_left old.lists (contents_of list ∷ []) l c);
+    more = λ l c. subst (λ (k : Kept). Contains k.lists l) (sym is) (Contains-append_left old.lists (kept ∷ []) l c);
     settled = λ e o left under.
         let whole : ListExamined pass s d list [] next = subst (λ a. ListExamined pass s d list a next) e h in
-        subst (λ (k : Kept). AreUnderWay d pass s o (left ++ all_plain next) k × AllStand d (all_plain (sets ∷ [])) k.lists) (sym is) (new_settles sets list next old merged whole o left under);
+        subst (λ (k : Kept). AreUnderWay d pass s o (left ++ all_plain next) k × AllStand d (all_plain (sets ∷ [])) k.lists) (sym is) (new_settles sets list kept next old merged same whole o left under);
   }
 
-  -- a list of fields that is known
-  pub known_fields : (sets : Sets) (list : List FieldSelection) (old new : Kept) → IsMergedIn d sets list → Contains old.lists (contents_of list) → new ≡ old → SetsExamined pass s d (sets ∷ []) old new [] []
-  known_fields sets list old new merged there is = record {
+  -- a list of fields of which one with the same members is known
+  pub known_fields : (sets : Sets) (list : List FieldSelection) (known : List PlainField) (old new : Kept) → IsMergedIn d sets list → Contains old.lists known → HaveSame known (contents_of list) → new ≡ old
+      → SetsExamined pass s d (sets ∷ []) old new [] []
+  known_fields sets list known old new merged there same is = record {
     right = λ fault c. not_in_nil fault c;
     under = λ vs c. not_in_nil vs c;
     more = λ l c. subst (λ (k : Kept). Contains k.lists l) (sym is) c;
     settled = λ e o left under.
         let stand : (x y : PlainField) → PlainSelected d (plain_sets sets) x → PlainSelected d (plain_sets sets) y → StandIn old.lists x y =
-        λ x y a b. (contents_of list, (there, (in_merged sets list merged x a, in_merged sets list merged y b))) in
+        λ x y a b. (known, (there, ((same x).1 (in_merged sets list merged x a), (same y).1 (in_merged sets list merged y b)))) in
         subst (λ (k : Kept). AreUnderWay d pass s o (left ++ []) k × AllStand d (all_plain (sets ∷ [])) k.lists) (sym is) (dropped sets old stand o left under, all_of_one sets old.lists stand);
   }
 
+  -- sets with the same members select the same
+  selected_same : (vs ws : List PlainSet) → HaveSame vs ws → (x : PlainField) → PlainSelected d vs x → PlainSelected d ws x
+  selected_same vs ws same x h = (h.0, ((same h.0).0 h.1.0, h.1.1))
+
   -- sets that were looked at
-  pub known_sets : (sets : Sets) (old new : Kept) → Contains old.expanded (plain_sets sets) → new ≡ old → SetsExamined pass s d (sets ∷ []) old new [] []
-  known_sets sets old new there is = record {
+  pub known_sets : (sets : Sets) (old new : Kept) → HasLooked old.expanded (plain_sets sets) → new ≡ old → SetsExamined pass s d (sets ∷ []) old new [] []
+  known_sets sets old new (known, (there, same)) is = record {
     right = λ fault c. not_in_nil fault c;
     under = λ vs c. not_in_nil vs c;
     more = λ l c. subst (λ (k : Kept). Contains k.lists l) (sym is) c;
     settled = λ e o left under.
-        let stand = under.sets (plain_sets sets) there in
+        let stand : (x y : PlainField) → PlainSelected d (plain_sets sets) x → PlainSelected d (plain_sets sets) y → StandIn old.lists x y =
+        λ x y a b. under.sets known there x y (selected_same (plain_sets sets) known (same_sym known (plain_sets sets) same) x a) (selected_same (plain_sets sets) known (same_sym known (plain_sets sets) same) y b) in
         subst (λ (k : Kept). AreUnderWay d pass s o (left ++ []) k × AllStand d (all_plain (sets ∷ [])) k.lists) (sym is) (dropped sets old stand o left under, all_of_one sets old.lists stand);
   }
 
   -- sets that were examined are remembered
-  pub then_looked : (sets : Sets) (lists : List Sets) (old mid new : Kept) (added : List (Broken Place)) (next : List Sets) → Contains lists sets
-      → SetsExamined pass s d lists old mid added next → new ≡ record { lists = mid.lists; expanded = mid.expanded ++ plain_sets sets ∷ [] } → SetsExamined pass s d lists old new added next
-  then_looked sets lists old mid new added next there h is = record {
+  pub then_looked : (sets : Sets) (kept : List PlainSet) (lists : List Sets) (old mid new : Kept) (added : List (Broken Place)) (next : List Sets) → Contains lists sets → HaveSame kept (plain_sets sets)
+      → SetsExamined pass s d lists old mid added next → new ≡ record { lists = mid.lists; expanded = mid.expanded ++ kept ∷ [] } → SetsExamined pass s d lists old new added next
+  then_looked sets kept lists old mid new added next there same h is = record {
     right = h.right;
     under = h.under;
     more = λ l c. subst (λ (k : Kept). Contains k.lists l) (sym is) (h.more l c);
@@ -356,9 +365,10 @@ module _ (pass : Pass) (s : Judged) (d : MeantDocument Place) where
         subst (λ (k : Kept). AreUnderWay d pass s o (left ++ all_plain next) k × AllStand d (all_plain lists) k.lists) (sym is) (
           record {
             fields = r.0.fields;
-            sets = λ vs c. elim (Contains-append_cases mid.expanded (plain_sets sets ∷ []) vs c) [
+            sets = λ vs c. elim (Contains-append_cases mid.expanded (kept ∷ []) vs c) [
               | inl a ↦ r.0.sets vs a
-              | inr b ↦ subst (λ (l : List PlainSet). (x y : PlainField) → PlainSelected d l x → PlainSelected d l y → StandIn mid.lists x y) (sym (only (plain_sets sets) vs b)) (r.1 (plain_sets sets) (contains_map plain_sets lists sets there))
+              | inr b ↦ subst (λ (l : List PlainSet). (x y : PlainField) → PlainSelected d l x → PlainSelected d l y → StandIn mid.lists x y) (sym (only kept vs b))
+                  (λ x y i j. r.1 (plain_sets sets) (contains_map plain_sets lists sets there) x y (selected_same kept (plain_sets sets) same x i) (selected_same kept (plain_sets sets) same y j))
             ];
           },
           r.1,
@@ -490,14 +500,14 @@ module _ (pass : Pass) (s : Judged) (d : MeantDocument Place) where
       subst (λ (k : Kept). SetsTold told later old k next last (sets ∷ [])) known (subst (λ (k : Kept). SetsTold told later k (with_sets old.expanded new) next last (sets ∷ [])) (ap (with_sets old.expanded) is) r)
 
   -- after the sets were remembered
-  pub whole_told : (sets : Sets) (list : List FieldSelection) (old mid new : Kept) (told later : List (Broken Place)) (next last : List Sets)
-      → mid ≡ record { lists = old.lists; expanded = old.expanded ++ plain_sets sets ∷ [] } → IsMergedIn d sets list
+  pub whole_told : (sets : Sets) (kept : List PlainSet) (list : List FieldSelection) (old mid new : Kept) (told later : List (Broken Place)) (next last : List Sets)
+      → HaveSame kept (plain_sets sets) → mid ≡ record { lists = old.lists; expanded = old.expanded ++ kept ∷ [] } → IsMergedIn d sets list
       → (new.expanded ≡ mid.expanded) × ((vs : Sets) (looked : List (List PlainSet)) → IsMergedIn d vs list → SetsTold told later (with_sets looked mid) (with_sets looked new) next last (vs ∷ []))
       → SetsTold told later old new next last (sets ∷ [])
-  whole_told sets list old mid new told later next last is merged (same, so) =
+  whole_told sets kept list old mid new told later next last looks is merged (same, so) =
       let r = subst (λ (k : Kept). SetsTold told later k (with_sets old.expanded new) next last (sets ∷ [])) (ap (with_sets old.expanded) is) (so sets old.expanded merged) in
       told_so told later old new next last (sets ∷ []) (sets ∷ []) old (with_sets old.expanded new)
-      (λ added below h. then_looked sets (sets ∷ []) old (with_sets old.expanded new) new added below (Contains-first sets [] sets refl) h
+      (λ added below h. then_looked sets kept (sets ∷ []) old (with_sets old.expanded new) new added below (Contains-first sets [] sets refl) looks h
       (λ i. record { lists = new.lists; expanded = (same ∙ ap (λ (k : Kept). k.expanded) is) i })) r
 
   -- two by two
@@ -509,8 +519,8 @@ module _ (pass : Pass) (s : Judged) (d : MeantDocument Place) where
   -- before they are remembered
   pub looked_then : (sets : Sets) (old mid new : Kept) (is_new : Bool) (told later : List (Broken Place)) (next last : List Sets) → Expands mid (plain_sets sets) is_new new
       → SetsTold told later old mid next last (sets ∷ []) → SetsTold told later old new next last (sets ∷ [])
-  looked_then sets old mid new true told later next last is h = told_so told later old new next last (sets ∷ []) (sets ∷ []) old mid
-      (λ added below k. then_looked sets (sets ∷ []) old mid new added below (Contains-first sets [] sets refl) k is) h
+  looked_then sets old mid new true told later next last (kept, (same, is)) h = told_so told later old new next last (sets ∷ []) (sets ∷ []) old mid
+      (λ added below k. then_looked sets kept (sets ∷ []) old mid new added below (Contains-first sets [] sets refl) same k is) h
   looked_then sets old mid new false told later next last (there, is) h = subst (λ (k : Kept). SetsTold told later old k next last (sets ∷ [])) (sym is) h
 
   -- ---- sets with no fields

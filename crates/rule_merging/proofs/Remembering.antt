@@ -1,100 +1,158 @@
--- Lists that are remembered.
-use Rattle.std.proofs.Common.{◌≡◌, ◌∙◌, Bool, true, false, ◌&&◌, ◌||◌, not, List, [], ◌∷◌, ◌++◌, map, Vec, Contains, sym, ap, subst, refl, if◌then◌else◌}
-use Rattle.std.specs.List.{list_any}
-use Rattle.std.specs.Cmp.Lexicographic.{pointwise}
-use Rattle.std.specs.declared.alloc.Global.{Global}
-use Rattle.std.proofs.lemmas.List.{map-append}
-use Rattle.indexmap.specs.IndexSet.{insert_key}
-use Rattle.rule_document_definitions.proofs.Unplaced.{contains_map, contains_unmap}
-use Rattle.rule_field_groups.specs.in_ground.Fields.{content_of}
+-- Lists that are remembered: what stands at the numbers that are kept.
+use Rattle.std.proofs.Common.{◌≡◌, ◌⊎◌, ◌∙◌, ℕ, ◌+◌, ◌<◌, ◌≤◌, Bool, true, false, List, [], ◌∷◌, ◌++◌, map, length, get_or, slice_get, Some, Result, Ok, Err, Contains, true≢false, refl, sym, ap, subst, length-append, arith, inl, inr}
+use Rattle.std.specs.Option.{option_map}
+use Rattle.std.specs.List.{IsDistinct}
+use Rattle.std.specs.List.Sorted.{IsPermutation}
+use Rattle.std.proofs.lemmas.Bool.{cases_eq, cases_lt}
+use Rattle.std.proofs.lemmas.List.{map-append, length-map}
+use Rattle.std.proofs.lemmas.Map.Keys.{apart_from_distinct}
+use Rattle.std.proofs.lemmas.Option.{slice_get_within, get_or_from_slice_get}
+use Rattle.rule_cycle_search.specs.Paths.{HasNoRepeat}
+use Rattle.rule_cycle_search.proofs.Lists.{mapped_some, slice_get-map}
+use Rattle.rule_number_lists.specs.Numbered.{AreNumbersIn, Grows, AreWithin, at_places}
+use Rattle.rule_number_lists.specs.NumberLists.{HaveSame, Keeps}
+use Rattle.rule_number_lists.proofs.Standing.{AllWithin, HasSame, Notes, NoneSame, all_stay, kept_same, notes, none_same, numbered_so, of_table, same_sym, same_order}
+use Rattle.document_meaning.specs.Unplaced.{unplaced_set}
+use Rattle.rule_document_definitions.specs.Contents.{unplaced_content}
+use Rattle.rule_field_groups.specs.in_ground.Fields.{field_of, fields_of, content_of}
 use Rattle.rule_field_groups.specs.in_ground.declared.field_selection.FieldSelection.{FieldSelection}
 use Rattle.rule_field_groups.proofs.in_ground.ContentEquality.{selection_eq, selection_eq-Decides}
 use Rattle.rule_field_groups.specs.declared.below.SelectedSet.{SelectedSet}
 use Rattle.rule_merging_laws.specs.Contents.{PlainField, PlainSet}
-use Rattle.rule_field_groups.specs.Below.{contents_of, meant_sets, plain_sets}
-use Rattle.rule_field_groups.proofs.Lists.{any_among, none_among}
+use Rattle.rule_field_groups.specs.Below.{contents_of, meant_at, meant_sets, plain_sets}
 use Rattle.rule_field_groups.proofs.Sets.{set_key_eq, same_sets}
-use Rattle.rule_merging.specs.Remembered.{Kept, sets_in_keys, Remembers, Expands}
+use Rattle.rule_merging.specs.Remembered.{Kept, Remembers, HasLooked, Expands}
 
-same_contents : (xs ys : List FieldSelection) → pointwise selection_eq xs ys ≡ true → contents_of xs ≡ contents_of ys
-same_contents [] [] e = refl
-same_contents [] (y ∷ ys) e = cc
-same_contents (x ∷ xs) [] e = cc
-same_contents (x ∷ xs) (y ∷ ys) e = by (selection_eq x y) refl e (same_contents xs ys)
-  where
-    by : (b : Bool) → selection_eq x y ≡ b → (b && pointwise selection_eq xs ys) ≡ true → (pointwise selection_eq xs ys ≡ true → contents_of xs ≡ contents_of ys) → contents_of (x ∷ xs) ≡ contents_of (y ∷ ys)
-    by true i h rest = let first = (selection_eq-Decides x y).0 i in let others = rest h in λ j. first j ∷ others j
-    by false i h rest = cc
+-- ---- what items of a table say
 
-equal_lists : (xs ys : List FieldSelection) → contents_of xs ≡ contents_of ys → pointwise selection_eq xs ys ≡ true
-equal_lists [] [] e = refl
-equal_lists [] (y ∷ ys) e = cc
-equal_lists (x ∷ xs) [] e = cc
-equal_lists (x ∷ xs) (y ∷ ys) e =
-    let first : content_of x ≡ content_of y = cc in
-    let others : contents_of xs ≡ contents_of ys = cc in
-    ap (λ b. b && pointwise selection_eq xs ys) ((selection_eq-Decides x y).1 first) ∙ equal_lists xs ys others
+module _ {T X : Type 0} (eq : T → T → Bool) (content : T → X) (sound : (a b : T) → eq a b ≡ true → content a ≡ content b) where
+  -- in a table that grew the same stands at the numbers
+  pub said_still : (old new : List T) (lists : List (List ℕ)) → Grows old new → AllWithin old lists → map (at_places (map content new)) lists ≡ map (at_places (map content old)) lists
+  said_still old new lists (more, is) all =
+      ap (λ t. map (at_places (map content t)) lists) is ∙ ap (λ t. map (at_places t) lists) (map-append content old more)
+      ∙ all_stay (map content old) (map content more) lists (λ l c n k. let h = all l c n k in omega (arith, h, length-map old content))
 
-abbrev pub list_eq : Vec FieldSelection Global → Vec FieldSelection Global → Bool
-list_eq a b = pointwise selection_eq a.items b.items
+  -- a list that is remembered
+  pub said_notes : (old new : List T) (lists now : List (List ℕ)) (list : List T) (numbers : List ℕ) (is_new : Bool) → Grows old new → AllWithin old lists → AreNumbersIn eq new list numbers
+      → Keeps lists numbers is_new now → Notes (map (at_places (map content old)) lists) (map content list) is_new (map (at_places (map content new)) now)
+  said_notes old new lists now list numbers is_new grown all are keeps =
+      subst (λ ls. Notes ls (map content list) is_new (map (at_places (map content new)) now)) (said_still old new lists grown all)
+      (subst (λ l. Notes (map (at_places (map content new)) lists) l is_new (map (at_places (map content new)) now)) (numbered_so eq content sound new list numbers are)
+      (notes (map content new) lists now numbers is_new keeps))
 
-abbrev pub contents_in : Vec FieldSelection Global → List PlainField
-contents_in v = contents_of v.items
+  within_said : (table : List T) (places : List ℕ) → AreWithin table places → AreWithin (map content table) places
+  within_said table places w n c = let h = w n c in omega (arith, h, length-map table content)
 
-pub remembers : (old new : List (Vec FieldSelection Global)) (list : Vec FieldSelection Global) (is_new : Bool) (looked : List (List PlainSet)) → is_new ≡ not (list_any (list_eq list) old) → new ≡ insert_key list_eq old list
-    → Remembers (record { lists = map contents_in old; expanded = looked }) (contents_of list.items) is_new (record { lists = map contents_in new; expanded = looked })
-remembers old new list is_new looked e is = by (list_any (list_eq list) old) refl is_new e
-  where
-    kept : List (List PlainField) → Kept
-    kept l = record { lists = l; expanded = looked }
+  -- none with the same members was there
+  pub said_none : (old new : List T) (lists now : List (List ℕ)) (list : List T) (numbers : List ℕ) (is_new : Bool) → Grows old new → AllWithin old lists → AreNumbersIn eq new list numbers
+      → HasNoRepeat (map content new) → Keeps lists numbers is_new now → NoneSame (map (at_places (map content old)) lists) (map content list) is_new
+  said_none old new lists now list numbers is_new grown all are apart keeps =
+      subst (λ ls. NoneSame ls (map content list) is_new) (said_still old new lists grown all)
+      (subst (λ l. NoneSame (map (at_places (map content new)) lists) l is_new) (numbered_so eq content sound new list numbers are)
+      (none_same (map content new) lists now numbers is_new apart (λ l c. within_said new l (longer l c)) (within_said new numbers (of_table eq new list numbers are)) keeps))
+    where
+      longer : (l : List ℕ) → Contains lists l → AreWithin new l
+      longer l c n k = let h = all l c n k in let e = ap length grown.1 in omega (arith, h, e, length-append old grown.0)
 
-    by : (b : Bool) → list_any (list_eq list) old ≡ b → (r : Bool) → r ≡ not b → Remembers (kept (map contents_in old)) (contents_of list.items) r (kept (map contents_in new))
-    by true i true k = cc
-    by true i false k =
-        let y = any_among (list_eq list) old i in (
-          subst (Contains (map contents_in old)) (sym (same_contents list.items y.0.items y.1.1)) (contains_map contents_in old y.0 y.1.0),
-          ap (λ ks. kept (map contents_in ks)) (is ∙ ap (λ b. if b then old else old ++ list ∷ []) i),
-        )
-    by false i true k = (
-      λ c.
-          let y = contains_unmap contents_in old (contents_of list.items) c in
-          none_among (list_eq list) old i y.0 y.1.0 (equal_lists list.items y.0.items (sym y.1.1)),
-      ap kept (ap (map contents_in) (is ∙ ap (λ b. if b then old else old ++ list ∷ []) i) ∙ map-append contents_in old (list ∷ [])),
-    )
-    by false i false k = cc
+  -- one that stands there
+  pub said_same : (old new : List T) (lists : List (List ℕ)) (list : List T) (numbers kept : List ℕ) → Grows old new → AllWithin old lists → AreNumbersIn eq new list numbers → Contains lists kept → IsPermutation numbers kept
+      → HasSame (map (at_places (map content old)) lists) (map content list)
+  said_same old new lists list numbers kept grown all are there order =
+      subst (λ ls. HasSame ls (map content list)) (said_still old new lists grown all)
+      (subst (HasSame (map (at_places (map content new)) lists)) (numbered_so eq content sound new list numbers are) (kept_same (map content new) lists numbers kept there order))
+
+  -- where equal items alone say the same, and no two are equal, none says the same as another
+  pub said_apart : ((a b : T) → content a ≡ content b → eq a b ≡ true) → (table : List T) → IsDistinct eq table → HasNoRepeat (map content table)
+  said_apart complete table distinct i j x h k = by (cases_eq i j) (cases_lt i j)
+    where
+      at : (n : ℕ) → slice_get (map content table) n ≡ Some x → (a : T) × ((slice_get table n ≡ Some a) × (content a ≡ x))
+      at n e = let m = mapped_some content (slice_get table n) x (sym (slice_get-map content table n) ∙ e) in (m.0, (m.1.0, sym m.1.1))
+
+      never : (m n : ℕ) → m < n → slice_get (map content table) m ≡ Some x → slice_get (map content table) n ≡ Some x → ⊥
+      never m n low e f =
+          let a = at m e in
+          let b = at n f in
+          let same = complete a.0 b.0 (a.1.1 ∙ sym b.1.1) in
+          let differ = apart_from_distinct eq table m n a.0 distinct low (slice_get_within table n b.0 b.1.0) in
+          let here : eq a.0 b.0 ≡ false =
+          subst (λ u. eq u b.0 ≡ false) (get_or_from_slice_get table m a.0 a.0 a.1.0) (subst (λ v. eq (get_or table m a.0) v ≡ false) (get_or_from_slice_get table n b.0 a.0 b.1.0) differ) in
+          true≢false (sym same ∙ here)
+
+      by : (i ≡ j) ⊎ (i ≡ j → ⊥) → (i < j) ⊎ (j ≤ i) → i ≡ j
+      by (inl e) q = e
+      by (inr p) (inl low) = absurd (never i j low h k)
+      by (inr p) (inr high) = absurd (never j i (omega (arith, high, p)) k h)
+
+-- ---- lists of fields
+
+contents_said : (xs : List FieldSelection) → map content_of xs ≡ contents_of xs
+contents_said [] = refl
+contents_said (x ∷ xs) = ap (λ l. content_of x ∷ l) (contents_said xs)
+
+sound_fields : (a b : FieldSelection) → selection_eq a b ≡ true → content_of a ≡ content_of b
+sound_fields a b = (selection_eq-Decides a b).0
+
+complete_fields : (a b : FieldSelection) → content_of a ≡ content_of b → selection_eq a b ≡ true
+complete_fields a b = (selection_eq-Decides a b).1
+
+module _ (looked : List (List PlainSet)) where
+  kept_with : List (List PlainField) → Kept
+  kept_with ls = record { lists = ls; expanded = looked }
+
+  -- what is noted of a list, and that none with its members was there
+  remembers_from : (old new : List (List PlainField)) (list : List PlainField) (is_new : Bool) → Notes old list is_new new → NoneSame old list is_new → Remembers (kept_with old) list is_new (kept_with new)
+  remembers_from old new list true (kept, (order, is)) none = (none, (kept, (order, ap kept_with is)))
+  remembers_from old new list false (known, is) none = (known, ap kept_with is)
+
+  pub remembers : (old new : List FieldSelection) (lists now : List (List ℕ)) (list : List FieldSelection) (numbers : List ℕ) (is_new : Bool) → IsDistinct selection_eq new → Grows old new → AllWithin old lists
+      → AreNumbersIn selection_eq new list numbers → Keeps lists numbers is_new now
+      → Remembers (record { lists = map (at_places (contents_of old)) lists; expanded = looked }) (contents_of list) is_new (record { lists = map (at_places (contents_of new)) now; expanded = looked })
+  remembers old new lists now list numbers is_new distinct grown all are keeps =
+      let from = remembers_from (map (at_places (map content_of old)) lists) (map (at_places (map content_of new)) now) (map content_of list) is_new
+      (said_notes selection_eq content_of sound_fields old new lists now list numbers is_new grown all are keeps)
+      (said_none selection_eq content_of sound_fields old new lists now list numbers is_new grown all are (said_apart selection_eq content_of sound_fields complete_fields new distinct) keeps) in
+      subst (λ t. Remembers (kept_with (map (at_places t) lists)) (contents_of list) is_new (kept_with (map (at_places (contents_of new)) now))) (contents_said old)
+      (subst (λ t. Remembers (kept_with (map (at_places (map content_of old)) lists)) (contents_of list) is_new (kept_with (map (at_places t) now))) (contents_said new)
+      (subst (λ l. Remembers (kept_with (map (at_places (map content_of old)) lists)) l is_new (kept_with (map (at_places (map content_of new)) now))) (contents_said list) from))
+
+-- nothing came to the lists
+pub lists_still : (old new : List FieldSelection) (lists now : List (List ℕ)) → Grows old new → AllWithin old lists → now ≡ lists → map (at_places (contents_of new)) now ≡ map (at_places (contents_of old)) lists
+lists_still old new lists now grown all is =
+    ap (map (at_places (contents_of new))) is ∙ ap (λ t. map (at_places t) lists) (sym (contents_said new)) ∙ said_still selection_eq content_of sound_fields old new lists grown all ∙ ap (λ t. map (at_places t) lists) (contents_said old)
 
 -- ---- lists of sets
 
-same_all : (xs ys : List SelectedSet) → pointwise set_key_eq xs ys ≡ true → plain_sets (meant_sets xs) ≡ plain_sets (meant_sets ys)
-same_all [] [] e = refl
-same_all [] (y ∷ ys) e = cc
-same_all (x ∷ xs) [] e = cc
-same_all (x ∷ xs) (y ∷ ys) e = by (set_key_eq x y) refl e (same_all xs ys)
-  where
-    by : (b : Bool) → set_key_eq x y ≡ b → (b && pointwise set_key_eq xs ys) ≡ true → (pointwise set_key_eq xs ys ≡ true → plain_sets (meant_sets xs) ≡ plain_sets (meant_sets ys)) → plain_sets (meant_sets (x ∷ xs)) ≡ plain_sets (meant_sets (y ∷ ys))
-    by true i h rest = let first = same_sets x y i in let others = rest h in λ j. first j ∷ others j
-    by false i h rest = cc
+plain_of : SelectedSet → PlainSet
+plain_of s = unplaced_set (meant_at s)
 
-abbrev pub sets_eq : Vec SelectedSet Global → Vec SelectedSet Global → Bool
-sets_eq a b = pointwise set_key_eq a.items b.items
+sets_said : (xs : List SelectedSet) → map plain_of xs ≡ plain_sets (meant_sets xs)
+sets_said [] = refl
+sets_said (x ∷ xs) = ap (λ l. plain_of x ∷ l) (sets_said xs)
 
-abbrev said_by : Vec SelectedSet Global → List PlainSet
-said_by v = plain_sets (meant_sets v.items)
+module _ (fields : List (List PlainField)) where
+  sets_with : List (List PlainSet) → Kept
+  sets_with ls = record { lists = fields; expanded = ls }
 
-pub has_looked : (keys : List (Vec SelectedSet Global)) (sets : Vec SelectedSet Global) → list_any (sets_eq sets) keys ≡ true → Contains (sets_in_keys keys) (plain_sets (meant_sets sets.items))
-has_looked keys sets i =
-    let y = any_among (sets_eq sets) keys i in
-    subst (Contains (sets_in_keys keys)) (sym (same_all sets.items y.0.items y.1.1)) (contains_map said_by keys y.0 y.1.0)
+  expands_from : (old new : List (List PlainSet)) (sets : List PlainSet) (is_new : Bool) → Notes old sets is_new new → Expands (sets_with old) sets is_new (sets_with new)
+  expands_from old new sets true (kept, (order, is)) = (kept, (same_sym sets kept (same_order sets kept order), ap sets_with is))
+  expands_from old new sets false (known, is) = (known, ap sets_with is)
 
-pub expands : (old new : List (Vec SelectedSet Global)) (sets : Vec SelectedSet Global) (is_new : Bool) (lists : List (List PlainField)) → is_new ≡ not (list_any (sets_eq sets) old) → new ≡ insert_key sets_eq old sets
-    → Expands (record { lists = lists; expanded = sets_in_keys old }) (plain_sets (meant_sets sets.items)) is_new (record { lists = lists; expanded = sets_in_keys new })
-expands old new sets is_new lists e is = by (list_any (sets_eq sets) old) refl is_new e
-  where
-    kept : List (List PlainSet) → Kept
-    kept l = record { lists = lists; expanded = l }
+  pub expands : (old new : List SelectedSet) (lists now : List (List ℕ)) (sets : List SelectedSet) (numbers : List ℕ) (is_new : Bool) → Grows old new → AllWithin old lists → AreNumbersIn set_key_eq new sets numbers
+      → Keeps lists numbers is_new now → Expands (record { lists = fields; expanded = map (at_places (plain_sets (meant_sets old))) lists }) (plain_sets (meant_sets sets)) is_new
+      (record { lists = fields; expanded = map (at_places (plain_sets (meant_sets new))) now })
+  expands old new lists now sets numbers is_new grown all are keeps =
+      let from = expands_from (map (at_places (map plain_of old)) lists) (map (at_places (map plain_of new)) now) (map plain_of sets) is_new
+      (said_notes set_key_eq plain_of same_sets old new lists now sets numbers is_new grown all are keeps) in
+      subst (λ t. Expands (sets_with (map (at_places t) lists)) (plain_sets (meant_sets sets)) is_new (sets_with (map (at_places (plain_sets (meant_sets new))) now))) (sets_said old)
+      (subst (λ t. Expands (sets_with (map (at_places (map plain_of old)) lists)) (plain_sets (meant_sets sets)) is_new (sets_with (map (at_places t) now))) (sets_said new)
+      (subst (λ l. Expands (sets_with (map (at_places (map plain_of old)) lists)) l is_new (sets_with (map (at_places (map plain_of new)) now))) (sets_said sets) from))
 
-    by : (b : Bool) → list_any (sets_eq sets) old ≡ b → (r : Bool) → r ≡ not b → Expands (kept (sets_in_keys old)) (plain_sets (meant_sets sets.items)) r (kept (sets_in_keys new))
-    by true i true k = cc
-    by true i false k = (has_looked old sets i, ap (λ ks. kept (sets_in_keys ks)) (is ∙ ap (λ b. if b then old else old ++ sets ∷ []) i))
-    by false i true k = ap kept (ap sets_in_keys (is ∙ ap (λ b. if b then old else old ++ sets ∷ []) i) ∙ map-append said_by old (sets ∷ []))
-    by false i false k = cc
+pub sets_still : (old new : List SelectedSet) (lists now : List (List ℕ)) → Grows old new → AllWithin old lists → now ≡ lists → map (at_places (plain_sets (meant_sets new))) now ≡ map (at_places (plain_sets (meant_sets old))) lists
+sets_still old new lists now grown all is =
+    ap (map (at_places (plain_sets (meant_sets new)))) is ∙ ap (λ t. map (at_places t) lists) (sym (sets_said new)) ∙ said_still set_key_eq plain_of same_sets old new lists grown all ∙ ap (λ t. map (at_places t) lists) (sets_said old)
+
+pub has_looked : (old new : List SelectedSet) (lists : List (List ℕ)) (sets : List SelectedSet) (numbers kept : List ℕ) → Grows old new → AllWithin old lists → AreNumbersIn set_key_eq new sets numbers → Contains lists kept
+    → IsPermutation numbers kept → HasLooked (map (at_places (plain_sets (meant_sets old))) lists) (plain_sets (meant_sets sets))
+has_looked old new lists sets numbers kept grown all are there order =
+    subst (λ t. HasLooked (map (at_places t) lists) (plain_sets (meant_sets sets))) (sets_said old)
+    (subst (HasLooked (map (at_places (map plain_of old)) lists)) (sets_said sets) (said_same set_key_eq plain_of same_sets old new lists sets numbers kept grown all are there order))

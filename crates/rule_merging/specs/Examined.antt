@@ -1,5 +1,5 @@
 -- Private: leads to `MergingBreaks` and `FieldsMerge`. What the examination of a group, of a list, of a level and of all levels comes to.
-use Rattle.std.specs.Prelude.{◌≡◌, ◌++◌, ◌∷◌, ◌⊎◌, Bool, true, false, List, [], map, Vec, Contains}
+use Rattle.std.specs.Prelude.{◌≡◌, ◌++◌, ◌∷◌, ◌⊎◌, ℕ, Bool, true, false, List, [], map, Vec, Contains}
 use Rattle.std.specs.declared.alloc.Global.{Global}
 use Rattle.graphql_names.specs.Placed.{Place}
 use Rattle.fault_document_data.specs.declared.build_error.BuildError.{BuildError}
@@ -21,9 +21,11 @@ use Rattle.rule_merging_laws.specs.Contents.{PlainField, PlainSet, PlainBelow, P
 use Rattle.rule_merging_laws.specs.Settled.{StandIn, StartsStand, IsSettledIn, IsUnderWay}
 use Rattle.rule_field_groups.specs.Passes.{Together, Agree, Conflict, TellsGroup}
 use Rattle.rule_field_groups.specs.Grouped.{lists_of}
-use Rattle.rule_field_groups.specs.Below.{meant_sets, plain_sets, IsMergedIn, IsBare}
+use Rattle.rule_field_groups.specs.Below.{contents_of, meant_sets, plain_sets, IsMergedIn, IsBare}
 use Rattle.rule_field_groups.specs.declared.pass.Pass.{Pass}
-use Rattle.rule_merging.specs.Remembered.{Kept}
+use Rattle.rule_merging.specs.Remembered.{Kept, remembered}
+use Rattle.rule_merging.specs.Counted.{AreLast, AreListed, Grows}
+use Rattle.rule_merging.specs.declared.remembered.Remembered.{Remembered}
 use Rattle.rule_merging.specs.declared.examination.Examination.{Examination}
 
 abbrev pub schema_of : Examination → Judged
@@ -199,3 +201,10 @@ ExaminesFields e list examined examined' old new next next' = (examined'.expande
 abbrev pub ExaminesAll : Examination → MeantSet Place → Kept → Kept → Breaches → Breaches → Bool → Type 0
 ExaminesAll e start examined examined' old new left = (o : MeantOperation Place) → o.set ≡ start
     → (added : List (Broken Place)) × ((brokens_of new ≡ brokens_of old ++ added) × AllExamined e.pass (schema_of e) (document_of e) o examined examined' added left)
+
+-- lists of fields that come to those that were examined for what such sets select; the same for one list of fields
+abbrev pub GrowsOver : Examination → List Sets → Remembered → Remembered → ℕ → ℕ → Type 0
+GrowsOver e lists old new before after = Grows (document_of e) (λ os. AreListed (document_of e) os lists) e.pass (remembered old) (remembered new) before after
+
+abbrev pub GrowsBy : Examination → List FieldSelection → Remembered → Remembered → ℕ → ℕ → Type 0
+GrowsBy e list old new before after = Grows (document_of e) (λ os. AreLast (document_of e) os (contents_of list)) e.pass (remembered old) (remembered new) before after

@@ -1,6 +1,6 @@
 pub mod Remembered
-pub mod Examined
 pub mod Counted
+pub mod Examined
 pub mod Verdict
 pub mod Merged
 pub mod Merger

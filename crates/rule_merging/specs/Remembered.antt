@@ -1,7 +1,10 @@
--- What was examined: lists of fields and lists of sets, by their contents.
-use Rattle.std.specs.Prelude.{◌≡◌, ◌++◌, ◌∷◌, [], Bool, true, false, List, map, Contains, Vec}
-use Rattle.std.specs.declared.alloc.Global.{Global}
-use Rattle.rule_field_groups.specs.declared.below.SelectedSet.{SelectedSet}
+-- What was examined: lists of fields and lists of sets, by their contents, in whatever order these stand.
+use Rattle.std.specs.Prelude.{◌≡◌, ◌++◌, ◌∷◌, [], Bool, true, false, List, map, Contains}
+use Rattle.std.specs.List.Sorted.{IsPermutation}
+use Rattle.rule_cycle_search.specs.Paths.{HasNoRepeat}
+use Rattle.rule_number_lists.specs.Numbered.{at_places}
+use Rattle.rule_number_lists.specs.NumberLists.{HaveSame}
+use Rattle.rule_number_lists.specs.ListMemory.{items_of, numbers_kept}
 use Rattle.rule_merging_laws.specs.Contents.{PlainField, PlainSet}
 use Rattle.rule_field_groups.specs.Below.{contents_of, meant_sets, plain_sets}
 use Rattle.rule_merging.specs.declared.remembered.Remembered.{Remembered}
@@ -14,22 +17,28 @@ pub record Kept : Type 0 where
 abbrev pub nothing_kept : Kept
 nothing_kept = record { lists = []; expanded = [] }
 
--- the lists of fields that stand there; with those of sets
+-- the lists of fields that stand there, by the numbers of their contents; those of sets
 abbrev pub remembered : Remembered → List (List PlainField)
-remembered r = map (λ v. contents_of v.items) r.lists.keys
+remembered r = map (at_places (contents_of (items_of r.lists))) (numbers_kept r.lists)
 
-abbrev pub sets_in_keys : List (Vec SelectedSet Global) → List (List PlainSet)
-sets_in_keys keys = map (λ (v : Vec SelectedSet Global). plain_sets (meant_sets v.items)) keys
+abbrev pub looked_at : Remembered → List (List PlainSet)
+looked_at r = map (at_places (plain_sets (meant_sets (items_of r.expanded)))) (numbers_kept r.expanded)
 
 abbrev pub kept_of : Remembered → Kept
-kept_of r = record { lists = remembered r; expanded = sets_in_keys r.expanded.keys }
+kept_of r = record { lists = remembered r; expanded = looked_at r }
 
--- a list of contents that is new is put last; one that is not stands there
+-- a list of contents that is new is put last, in some order, and none that stood there has the same members, if nothing stands in it
+-- twice; one with the members of a list that is not new stood there
 abbrev pub Remembers : Kept → List PlainField → Bool → Kept → Type 0
-Remembers old list true new = (Contains old.lists list → ⊥) × (new ≡ record { lists = old.lists ++ list ∷ []; expanded = old.expanded })
-Remembers old list false new = Contains old.lists list × (new ≡ old)
+Remembers old list true new = ((known : List PlainField) → Contains old.lists known → HasNoRepeat known → HasNoRepeat list → HaveSame known list → ⊥)
+    × ((kept : List PlainField) × (IsPermutation list kept × (new ≡ record { lists = old.lists ++ kept ∷ []; expanded = old.expanded })))
+Remembers old list false new = ((known : List PlainField) × (Contains old.lists known × HaveSame known list)) × (new ≡ old)
+
+-- one of these lists of sets has the same members
+abbrev pub HasLooked : List (List PlainSet) → List PlainSet → Type 0
+HasLooked lists sets = (known : List PlainSet) × (Contains lists known × HaveSame known sets)
 
 -- the same of a list of sets
 abbrev pub Expands : Kept → List PlainSet → Bool → Kept → Type 0
-Expands old sets true new = new ≡ record { lists = old.lists; expanded = old.expanded ++ sets ∷ [] }
-Expands old sets false new = Contains old.expanded sets × (new ≡ old)
+Expands old sets true new = (kept : List PlainSet) × (HaveSame kept sets × (new ≡ record { lists = old.lists; expanded = old.expanded ++ kept ∷ [] }))
+Expands old sets false new = HasLooked old.expanded sets × (new ≡ old)

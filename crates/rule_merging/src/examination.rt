@@ -4,9 +4,9 @@ ghost use Rattle.rule_field_groups.specs.in_ground.Fields.{fields_of};
 ghost use Rattle.rule_field_groups.specs.Compared.{compared};
 ghost use Rattle.rule_field_groups.specs.Grouped.{lists_of};
 ghost use Rattle.rule_field_groups.specs.Below.{contents_of, meant_at, meant_sets};
-ghost use Rattle.rule_merging.specs.Counted.{IsListed, AreListed, Grows};
-ghost use Rattle.rule_merging.specs.Remembered.{remembered, kept_of};
-ghost use Rattle.rule_merging.specs.Examined.{if_any, sets_in, document_of, with_each, HaveFields, ExaminesGroup, ExaminesList, ExaminesFields, ExaminesSets, ExaminesTwos, ExaminesAll};
+ghost use Rattle.rule_cycle_search.specs.Paths.{HasNoRepeat};
+ghost use Rattle.rule_merging.specs.Remembered.{kept_of};
+ghost use Rattle.rule_merging.specs.Examined.{if_any, sets_in, document_of, with_each, HaveFields, ExaminesGroup, ExaminesList, ExaminesFields, ExaminesSets, ExaminesTwos, ExaminesAll, GrowsOver, GrowsBy};
 
 use crate::remembered::Remembered;
 use document_typed_operations::ExecutableDocument;
@@ -64,6 +64,7 @@ impl<'doc> Examination<'doc> {
         comparisons: &mut u128,
     ) -> Result<(), AllocError>
         ensures examined { OnOk result (ExaminesGroup self.now (fields_of group.now) breaches.old breaches.new (sets_in next.old) (sets_in next.new)) }
+        ensures more { comparisons.old ≤ comparisons.new }
         ensures counted { comparisons.new ≤ comparisons.old + compared self.now.pass group.now }
     {
         check_group(self.pass, self.schema, group, breaches, comparisons)?;
@@ -80,6 +81,7 @@ impl<'doc> Examination<'doc> {
         comparisons: &mut u128,
     ) -> Result<(), AllocError>
         ensures examined { OnOk result (ExaminesList self.now list.now breaches.old breaches.new (sets_in next.old) (sets_in next.new)) }
+        ensures more { comparisons.old ≤ comparisons.new }
         ensures counted { comparisons.new ≤ comparisons.old + compared self.now.pass list.now }
     {
         let groups = groups_of(*next.allocator(), self.pass, self.schema, list)?;
@@ -99,7 +101,7 @@ impl<'doc> Examination<'doc> {
         comparisons: &mut u128,
     ) -> Result<(), AllocError>
         ensures examined { OnOk result (ExaminesFields self.now list.now (kept_of examined.old) (kept_of examined.new) breaches.old breaches.new (sets_in next.old) (sets_in next.new)) }
-        ensures counted { IsListed (document_of self.now) (contents_of list.now) → Grows (document_of self.now) self.now.pass (remembered examined.old) (remembered examined.new) comparisons.old comparisons.new }
+        ensures counted { HasNoRepeat (contents_of list.now) → GrowsBy self.now list.now examined.old examined.new comparisons.old comparisons.new }
     {
         if !examined.remember(list)? {
             return Ok(());
@@ -117,7 +119,7 @@ impl<'doc> Examination<'doc> {
         comparisons: &mut u128,
     ) -> Result<(), AllocError>
         ensures examined { OnOk result (ExaminesSets self.now (meant_sets sets.now ∷ []) (kept_of examined.old) (kept_of examined.new) breaches.old breaches.new (sets_in next.old) (sets_in next.new)) }
-        ensures counted { AreListed (document_of self.now) (meant_sets sets.now ∷ []) → Grows (document_of self.now) self.now.pass (remembered examined.old) (remembered examined.new) comparisons.old comparisons.new }
+        ensures counted { GrowsOver self.now (meant_sets sets.now ∷ []) examined.old examined.new comparisons.old comparisons.new }
     {
         if !examined.expand(sets)? {
             return Ok(());
@@ -137,7 +139,7 @@ impl<'doc> Examination<'doc> {
         comparisons: &mut u128,
     ) -> Result<(), AllocError>
         ensures examined { OnOk result (ExaminesSets self.now ((meant_at first.entry ∷ meant_at other.entry ∷ []) ∷ []) (kept_of examined.old) (kept_of examined.new) breaches.old breaches.new (sets_in next.old) (sets_in next.new)) }
-        ensures counted { AreListed (document_of self.now) ((meant_at first.entry ∷ meant_at other.entry ∷ []) ∷ []) → Grows (document_of self.now) self.now.pass (remembered examined.old) (remembered examined.new) comparisons.old comparisons.new }
+        ensures counted { GrowsOver self.now ((meant_at first.entry ∷ meant_at other.entry ∷ []) ∷ []) examined.old examined.new comparisons.old comparisons.new }
     {
         self.examine_whole(&[first, other], examined, next, breaches, comparisons)
     }
@@ -153,7 +155,7 @@ impl<'doc> Examination<'doc> {
         comparisons: &mut u128,
     ) -> Result<(), AllocError>
         ensures examined { OnOk result (ExaminesSets self.now (with_each (meant_at first.entry) (meant_sets others.now)) (kept_of examined.old) (kept_of examined.new) breaches.old breaches.new (sets_in next.old) (sets_in next.new)) }
-        ensures counted { AreListed (document_of self.now) (with_each (meant_at first.entry) (meant_sets others.now)) → Grows (document_of self.now) self.now.pass (remembered examined.old) (remembered examined.new) comparisons.old comparisons.new }
+        ensures counted { GrowsOver self.now (with_each (meant_at first.entry) (meant_sets others.now)) examined.old examined.new comparisons.old comparisons.new }
     {
         for other in others {
             self.examine_two(first, *other, examined, next, breaches, comparisons)?;
@@ -171,7 +173,7 @@ impl<'doc> Examination<'doc> {
         comparisons: &mut u128,
     ) -> Result<(), AllocError>
         ensures examined { OnOk result (ExaminesTwos self.now (meant_sets sets.now) (kept_of examined.old) (kept_of examined.new) breaches.old breaches.new (sets_in next.old) (sets_in next.new)) }
-        ensures counted { AreListed (document_of self.now) (meant_sets sets.now ∷ []) → Grows (document_of self.now) self.now.pass (remembered examined.old) (remembered examined.new) comparisons.old comparisons.new }
+        ensures counted { GrowsOver self.now (meant_sets sets.now ∷ []) examined.old examined.new comparisons.old comparisons.new }
     {
         let mut seen = Vec::new(*next.allocator());
         for set in sets {
@@ -191,7 +193,7 @@ impl<'doc> Examination<'doc> {
         comparisons: &mut u128,
     ) -> Result<(), AllocError>
         ensures examined { OnOk result (ExaminesSets self.now (meant_sets sets.now ∷ []) (kept_of examined.old) (kept_of examined.new) breaches.old breaches.new (sets_in next.old) (sets_in next.new)) }
-        ensures counted { AreListed (document_of self.now) (meant_sets sets.now ∷ []) → Grows (document_of self.now) self.now.pass (remembered examined.old) (remembered examined.new) comparisons.old comparisons.new }
+        ensures counted { GrowsOver self.now (meant_sets sets.now ∷ []) examined.old examined.new comparisons.old comparisons.new }
     {
         let list = merged_list(*next.allocator(), &self.document.fragments, sets)?;
         if !examined.pays(&list)? {
@@ -210,10 +212,10 @@ impl<'doc> Examination<'doc> {
         comparisons: &mut u128,
     ) -> Result<(), AllocError>
         ensures examined { OnOk result (ExaminesSets self.now (meant_sets sets.now ∷ []) (kept_of examined.old) (kept_of examined.new) breaches.old breaches.new (sets_in next.old) (sets_in next.new)) }
-        ensures counted { AreListed (document_of self.now) (meant_sets sets.now ∷ []) → Grows (document_of self.now) self.now.pass (remembered examined.old) (remembered examined.new) comparisons.old comparisons.new }
+        ensures counted { GrowsOver self.now (meant_sets sets.now ∷ []) examined.old examined.new comparisons.old comparisons.new }
     {
-        let looked = Vec::from_slice(*next.allocator(), sets)?;
-        if examined.has_expanded(&looked) {
+        let is_known = examined.has_expanded(sets)?;
+        if is_known {
             return Ok(());
         }
         self.examine_paid(sets, examined, next, breaches, comparisons)?;
@@ -231,7 +233,7 @@ impl<'doc> Examination<'doc> {
         comparisons: &mut u128,
     ) -> Result<(), AllocError>
         ensures examined { OnOk result (ExaminesSets self.now (meant_sets sets.now ∷ []) (kept_of examined.old) (kept_of examined.new) breaches.old breaches.new (sets_in next.old) (sets_in next.new)) }
-        ensures counted { AreListed (document_of self.now) (meant_sets sets.now ∷ []) → Grows (document_of self.now) self.now.pass (remembered examined.old) (remembered examined.new) comparisons.old comparisons.new }
+        ensures counted { GrowsOver self.now (meant_sets sets.now ∷ []) examined.old examined.new comparisons.old comparisons.new }
     {
         if sets.len() > 2 {
             return self.examine_many(sets, examined, next, breaches, comparisons);
@@ -248,7 +250,7 @@ impl<'doc> Examination<'doc> {
         comparisons: &mut u128,
     ) -> Result<Vec<Vec<SelectedSet<'doc>>>, AllocError>
         ensures examined { IfOk result (λ next. ExaminesSets self.now (map (λ v. meant_sets v.items) level.now) (kept_of examined.old) (kept_of examined.new) breaches.old breaches.new [] (sets_in next)) }
-        ensures counted { AreListed (document_of self.now) (map (λ v. meant_sets v.items) level.now) → Grows (document_of self.now) self.now.pass (remembered examined.old) (remembered examined.new) comparisons.old comparisons.new }
+        ensures counted { GrowsOver self.now (map (λ v. meant_sets v.items) level.now) examined.old examined.new comparisons.old comparisons.new }
     {
         let mut next = Vec::new(*breaches.allocator());
         for sets in level {
@@ -283,7 +285,7 @@ impl<'doc> Examination<'doc> {
         comparisons: &mut u128,
     ) -> Result<bool, AllocError>
         ensures examined { IfOk result (λ left. ExaminesAll self.now (meant_at start.entry) (kept_of examined.old) (kept_of examined.new) breaches.old breaches.new left) }
-        ensures counted { AreListed (document_of self.now) ((meant_at start.entry ∷ []) ∷ []) → Grows (document_of self.now) self.now.pass (remembered examined.old) (remembered examined.new) comparisons.old comparisons.new }
+        ensures counted { GrowsOver self.now ((meant_at start.entry ∷ []) ∷ []) examined.old examined.new comparisons.old comparisons.new }
     {
         let alloc = *breaches.allocator();
         let mut level = first_level(alloc, start)?;

@@ -1,20 +1,21 @@
 //! What was examined.
-ghost use Rattle.std.specs.Prelude.{◌≡◌, Contains, IsTrue, IfOk, OnErr};
+ghost use Rattle.std.specs.Prelude.{◌≡◌, IsTrue, IfOk, OnErr};
 ghost use Rattle.rule_field_groups.specs.Below.{contents_of, meant_sets, plain_sets};
-ghost use Rattle.rule_merging.specs.Remembered.{remembered, kept_of, nothing_kept, Remembers, Expands};
+ghost use Rattle.rule_merging.specs.Remembered.{remembered, kept_of, nothing_kept, HasLooked, Remembers, Expands};
 
-use crate::budget::Budget;
-use indexmap::IndexSet;
+use crate::budget::is_paid;
 use rule_field_groups::{FieldSelection, SelectedSet};
+use rule_number_lists::ListMemory;
 use std::alloc::{AllocError, Global};
 
 /// The contents of the lists of fields that were examined, each once, and of the lists of sets that were looked at: what
-/// these select stands in lists that were examined.
+/// these select stands in lists that were examined. A list is known by which contents it has, in whatever order.
 #[derive(Drop)]
 pub(crate) struct Remembered<'doc> {
-    lists: IndexSet<Vec<FieldSelection<'doc>>>,
-    expanded: IndexSet<Vec<SelectedSet<'doc>>>,
-    budget: Budget<'doc>,
+    lists: ListMemory<FieldSelection<'doc>>,
+    expanded: ListMemory<SelectedSet<'doc>>,
+    /// How many members of lists of more than two sets were examined.
+    spent: usize,
 }
 
 impl<'doc> Remembered<'doc> {
@@ -23,9 +24,9 @@ impl<'doc> Remembered<'doc> {
         ensures { kept_of result ≡ nothing_kept }
     {
         Remembered {
-            lists: IndexSet::new(alloc),
-            expanded: IndexSet::new(alloc),
-            budget: Budget::new(alloc),
+            lists: ListMemory::new(alloc),
+            expanded: ListMemory::new(alloc),
+            spent: 0,
         }
     }
 
@@ -34,24 +35,21 @@ impl<'doc> Remembered<'doc> {
         ensures remembers { IfOk result (λ is_new. Remembers (kept_of self.old) (contents_of list.now) is_new (kept_of self.new)) }
         ensures refused { OnErr result (kept_of self.new ≡ kept_of self.old) }
     {
-        let alloc = *self.lists.allocator();
-        let list = Vec::from_slice(alloc, list)?;
-        Ok(self.lists.insert(list)?)
+        self.lists.remember(list)
     }
 
-    /// Remembers a list of sets. Whether it was not remembered before is given: one with the same contents in this order.
+    /// Remembers a list of sets. Whether it was not remembered before is given: one with the same contents.
     pub(crate) fn expand(&mut self, sets: &[SelectedSet<'doc>]) -> Result<bool, AllocError>
         ensures expands { IfOk result (λ is_new. Expands (kept_of self.old) (plain_sets (meant_sets sets.now)) is_new (kept_of self.new)) }
         ensures lists { remembered self.new ≡ remembered self.old }
     {
-        let alloc = *self.expanded.allocator();
-        let sets = Vec::from_slice(alloc, sets)?;
-        Ok(self.expanded.insert(sets)?)
+        self.expanded.remember(sets)
     }
 
-    /// Whether a list of sets is remembered: one with the same contents in this order.
-    pub(crate) fn has_expanded(&self, sets: &Vec<SelectedSet<'doc>>) -> bool
-        ensures { IsTrue result → Contains (kept_of self.now).expanded (plain_sets (meant_sets sets.now.items)) }
+    /// Whether a list of sets is remembered: one with the same contents.
+    pub(crate) fn has_expanded(&mut self, sets: &[SelectedSet<'doc>]) -> Result<bool, AllocError>
+        ensures known { IfOk result (λ is_known. IsTrue is_known → HasLooked (kept_of self.old).expanded (plain_sets (meant_sets sets.now))) }
+        ensures same { kept_of self.new ≡ kept_of self.old }
     {
         self.expanded.contains(sets)
     }
@@ -60,6 +58,12 @@ impl<'doc> Remembered<'doc> {
     pub(crate) fn pays(&mut self, list: &[FieldSelection<'doc>]) -> Result<bool, AllocError>
         ensures { kept_of self.new ≡ kept_of self.old }
     {
-        self.budget.pays(list)
+        let fields = self.lists.note(list)?;
+        let spent = self.spent.saturating_add(list.len());
+        let is_paid = is_paid(spent, fields);
+        if is_paid {
+            self.spent = spent;
+        }
+        Ok(is_paid)
     }
 }

@@ -3,6 +3,8 @@ use Rattle.std.proofs.lemmas.Result.{IfOk-weaker}
 use Rattle.std.specs.declared.alloc.Global.{Global}
 use Rattle.rule_field_groups.specs.declared.below.SelectedSet.{SelectedSet}
 use Rattle.rule_merging.specs.declared.examination.Examination.{Examination}
+use Rattle.graphql_names.specs.Placed.{Place}
+use Rattle.document_meaning.specs.MeantTree.{MeantOperation}
 use Rattle.rule_definitions.proofs.Lists.{not_in_nil}
 use Rattle.rule_document_definitions.specs.Limits.{chain_bound}
 use Rattle.rule_field_groups.specs.in_ground.Broken.{brokens_of}
@@ -11,7 +13,7 @@ use Rattle.rule_merging.specs.Remembered.{remembered, kept_of}
 use Rattle.rule_merging.specs.Counted.{AreListed}
 use Rattle.rule_merging.specs.Examined.{Sets, all_sets, sets_in, ExaminesSets, HaveFields, schema_of, document_of}
 use Rattle.rule_merging.proofs.Examining.{items_in, sets_at, emptied, SoFar, first_level, level_step, no_more_levels}
-use Rattle.rule_merging.proofs.Counting.{grows_not, grows_on, listed_next}
+use Rattle.rule_merging.proofs.Counting.{grows_not, grows_with, listed_next}
 use Rattle.rule_merging.proofs.examination.Examination.examine_all.Goals as goal
 use Rattle.rule_merging.proofs.examination.Examination.examine_all.Goals.{then-loop-length-test+else-not-is_empty, else-loop-length-test}
 
@@ -20,11 +22,11 @@ as_sets : (level : List (Vec SelectedSet Global)) → map sets_at level ≡ all_
 as_sets [] = refl
 as_sets (v ∷ level) = ap (λ l. sets_at v ∷ l) (as_sets level)
 
-level_sets : (e : Examination) (level : List (Vec SelectedSet Global)) → AreListed (document_of e) (all_sets (map items_in level)) → AreListed (document_of e) (map sets_at level)
-level_sets e level listed = subst (AreListed (document_of e)) (sym (as_sets level)) listed
+level_sets : (e : Examination) (os : List (MeantOperation Place)) (level : List (Vec SelectedSet Global)) → AreListed (document_of e) os (all_sets (map items_in level)) → AreListed (document_of e) os (map sets_at level)
+level_sets e os level listed = subst (AreListed (document_of e) os) (sym (as_sets level)) listed
 
 pub returns-in_err-level-clause-counted : goal.returns-in_err-level-clause-counted
-returns-in_err-level-clause-counted c = λ listed. grows_not (document_of c.args.self.now) c.args.self.now.pass (remembered c.args.examined.now) c.args.comparisons.now
+returns-in_err-level-clause-counted c = grows_not (document_of c.args.self.now) (λ os. AreListed (document_of c.args.self.now) os ((meant_at c.args.start ∷ []) ∷ [])) c.args.self.now.pass (remembered c.args.examined.now) c.args.comparisons.now
 
 pub loop-length-init : goal.loop-length-init
 loop-length-init c =
@@ -39,16 +41,20 @@ loop-length-init c =
           subst (SoFar e.pass (schema_of e) (document_of e) o old old 0 []) (sym first) (first_level e.pass (schema_of e) (document_of e) o (meant_at c.args.start) old is),
         ),
       );
-      counted = λ listed. (subst (AreListed (document_of e)) (sym first) listed, grows_not (document_of e) e.pass (remembered c.args.examined.now) c.args.comparisons.now);
+      listed = λ os listed. subst (AreListed (document_of e) os) (sym first) listed;
+      counted = grows_not (document_of e) (λ os. AreListed (document_of e) os ((meant_at c.args.start ∷ []) ∷ [])) e.pass (remembered c.args.examined.now) c.args.comparisons.now;
       short = omega arith;
     }
 
 pub returns-in_err-level-2-clause-counted : goal.returns-in_err-level-2-clause-counted
-returns-in_err-level-2-clause-counted c = λ listed.
+returns-in_err-level-2-clause-counted c =
     let e = c.args.self.now in
-    let so_far = c.loop-length.invariant.counted listed in
-    grows_on (document_of e) e.pass (remembered c.args.examined.now) (remembered c.loop-length.examined) (remembered c.examine_level.new.examined) c.args.comparisons.now c.loop-length.comparisons c.examine_level.new.comparisons
-    so_far.1 (c.in_err-level-2.ensures.counted (subst (λ l. AreListed (document_of e) (map sets_at l)) (sym c.deref.ensures.value) (level_sets e c.loop-length.level.items so_far.0)))
+    let d = document_of e in
+    grows_with d (λ os. AreListed d os ((meant_at c.args.start ∷ []) ∷ [])) (λ os. AreListed d os (map sets_at c.deref.result.now)) e.pass
+    (remembered c.args.examined.now) (remembered c.loop-length.examined) (remembered c.examine_level.new.examined) c.args.comparisons.now c.loop-length.comparisons c.examine_level.new.comparisons
+    c.loop-length.invariant.counted
+    (λ os listed. subst (λ l. AreListed d os (map sets_at l)) (sym c.deref.ensures.value) (level_sets e os c.loop-length.level.items (c.loop-length.invariant.listed os listed)))
+    c.in_err-level-2.ensures.counted
 
 pub loop-length-preserved : goal.loop-length-preserved
 loop-length-preserved c =
@@ -67,12 +73,12 @@ loop-length-preserved c =
       examined = λ o is.
           level_step e.pass s d o (brokens_of c.args.breaches.now) (brokens_of c.loop-length.breaches) (brokens_of c.examine_level.new.breaches) start old new c.loop-length.length level next
           (inv.examined o is) here;
-      counted = λ listed.
-          let so_far = inv.counted listed in (
-            subst (AreListed d) (sym here.1.1.1.0) (listed_next d e.pass s level old new here.0 here.1.0 so_far.0 here.1.1.1.1),
-            grows_on d e.pass (remembered c.args.examined.now) (remembered c.loop-length.examined) (remembered c.examine_level.new.examined) c.args.comparisons.now c.loop-length.comparisons c.examine_level.new.comparisons
-                so_far.1 (c.in_ok-level-2.ensures.counted (subst (λ l. AreListed d (map sets_at l)) (sym c.deref.ensures.value) (level_sets e c.loop-length.level.items so_far.0))),
-          );
+      listed = λ os listed. subst (AreListed d os) (sym here.1.1.1.0) (listed_next d os e.pass s level old new here.0 here.1.0 (inv.listed os listed) here.1.1.1.1);
+      counted = grows_with d (λ os. AreListed d os ((meant_at c.args.start ∷ []) ∷ [])) (λ os. AreListed d os (map sets_at c.deref.result.now)) e.pass
+          (remembered c.args.examined.now) (remembered c.loop-length.examined) (remembered c.examine_level.new.examined) c.args.comparisons.now c.loop-length.comparisons c.examine_level.new.comparisons
+          inv.counted
+          (λ os listed. subst (λ l. AreListed d os (map sets_at l)) (sym c.deref.ensures.value) (level_sets e os c.loop-length.level.items (inv.listed os listed)))
+          c.in_ok-level-2.ensures.counted;
       short = omega arith;
     }
 
@@ -98,4 +104,4 @@ returns-clause-examined c =
     c.have_fields.ensures
 
 pub returns-clause-counted : goal.returns-clause-counted
-returns-clause-counted c = λ listed. (c.loop-length.invariant.counted listed).1
+returns-clause-counted c = c.loop-length.invariant.counted

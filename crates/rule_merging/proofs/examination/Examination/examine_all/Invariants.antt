@@ -3,10 +3,10 @@ use Rattle.graphql_names.specs.Placed.{Place}
 use Rattle.rule_document_definitions.specs.DocumentFaults.{Broken}
 use Rattle.document_meaning.specs.MeantTree.{MeantOperation}
 use Rattle.rule_field_groups.specs.in_ground.Broken.{brokens_of}
-use Rattle.rule_merging.specs.Counted.{AreListed, Grows}
+use Rattle.rule_merging.specs.Counted.{AreListed}
 use Rattle.rule_field_groups.specs.Below.{meant_at}
-use Rattle.rule_merging.specs.Remembered.{remembered, kept_of}
-use Rattle.rule_merging.specs.Examined.{sets_in, schema_of, document_of}
+use Rattle.rule_merging.specs.Remembered.{kept_of}
+use Rattle.rule_merging.specs.Examined.{sets_in, schema_of, document_of, GrowsOver}
 use Rattle.rule_merging.proofs.Examining.{SoFar}
 use Rattle.rule_merging.proofs.examination.Examination.examine_all.Given as goal
 
@@ -14,8 +14,8 @@ abbrev pub invariant-loop-length : goal.invariant-loop-length
 invariant-loop-length l = record {
   examined : (o : MeantOperation Place) → o.set ≡ meant_at l.fn.start → (added : List (Broken Place)) × ((brokens_of l.breaches ≡ brokens_of l.fn.breaches ++ added)
       × SoFar l.self.pass (schema_of l.self) (document_of l.self) o (kept_of l.fn.examined) (kept_of l.examined) l.length added (sets_in l.level));
-  counted : AreListed (document_of l.self) ((meant_at l.fn.start ∷ []) ∷ []) → AreListed (document_of l.self) (sets_in l.level)
-      × Grows (document_of l.self) l.self.pass (remembered l.fn.examined) (remembered l.examined) l.fn.comparisons l.comparisons;
+  listed : (os : List (MeantOperation Place)) → AreListed (document_of l.self) os ((meant_at l.fn.start ∷ []) ∷ []) → AreListed (document_of l.self) os (sets_in l.level);
+  counted : GrowsOver l.self ((meant_at l.fn.start ∷ []) ∷ []) l.fn.examined l.examined l.fn.comparisons l.comparisons;
   short : l.length ≤ 128;
 }
 

@@ -1,7 +1,9 @@
 use Rattle.std.proofs.Common.{[], true, false, ap, sym, subst, append-nil}
 use Rattle.std.proofs.lemmas.Result.{on_ok_weaker}
+use Rattle.rule_number_lists.proofs.Standing.{same_order}
 use Rattle.rule_field_groups.specs.in_ground.Broken.{brokens_of}
 use Rattle.rule_field_groups.specs.Below.{contents_of}
+use Rattle.rule_merging.specs.Counted.{AreLast}
 use Rattle.rule_merging.specs.Remembered.{Kept, remembered, kept_of, Remembers}
 use Rattle.rule_merging.specs.Examined.{sets_in, with_sets, schema_of, document_of}
 use Rattle.rule_merging.proofs.Examining.{new_fields, known_fields}
@@ -9,8 +11,9 @@ use Rattle.rule_merging.proofs.Counting.{grows_same, grows_one}
 use Rattle.rule_merging.proofs.examination.Examination.examine_fields.Goals as goal
 
 pub returns-in_err-remember-clause-counted : goal.returns-in_err-remember-clause-counted
-returns-in_err-remember-clause-counted c = λ listed.
-    grows_same (document_of c.args.self.now) c.args.self.now.pass (remembered c.args.examined.now) (remembered c.remember.new.self) c.args.comparisons.now (ap (λ (k : Kept). k.lists) c.in_err-remember.ensures.refused)
+returns-in_err-remember-clause-counted c = λ apart.
+    let d = document_of c.args.self.now in
+    grows_same d (λ os. AreLast d os (contents_of c.args.list.now)) c.args.self.now.pass (remembered c.args.examined.now) (remembered c.remember.new.self) c.args.comparisons.now (ap (λ (k : Kept). k.lists) c.in_err-remember.ensures.refused)
 
 pub returns-then-not-branch-clause-examined : goal.returns-then-not-branch-clause-examined
 returns-then-not-branch-clause-examined c =
@@ -27,7 +30,7 @@ returns-then-not-branch-clause-examined c =
             sym (append-nil (brokens_of c.args.breaches.now)),
             (
               sym (append-nil (sets_in c.args.next.now)),
-              known_fields e.pass (schema_of e) (document_of e) sets c.args.list.now (with_sets looked old) (with_sets looked new) merged known.0 (ap (with_sets looked) known.1),
+              known_fields e.pass (schema_of e) (document_of e) sets c.args.list.now known.0.0 (with_sets looked old) (with_sets looked new) merged known.0.1.0 known.0.1.1 (ap (with_sets looked) known.1),
             ),
           ),
         ),
@@ -35,21 +38,23 @@ returns-then-not-branch-clause-examined c =
     )
 
 pub returns-then-not-branch-clause-counted : goal.returns-then-not-branch-clause-counted
-returns-then-not-branch-clause-counted c = λ listed.
+returns-then-not-branch-clause-counted c = λ apart.
+    let d = document_of c.args.self.now in
     let old = kept_of c.args.examined.now in
     let new = kept_of c.remember.new.self in
     let known : Remembers old (contents_of c.args.list.now) false new = subst (λ b. Remembers old (contents_of c.args.list.now) b new) c.if-not-branch.true c.in_ok-remember.ensures.remembers in
-    grows_same (document_of c.args.self.now) c.args.self.now.pass (remembered c.args.examined.now) (remembered c.remember.new.self) c.args.comparisons.now (ap (λ (k : Kept). k.lists) known.1)
+    grows_same d (λ os. AreLast d os (contents_of c.args.list.now)) c.args.self.now.pass (remembered c.args.examined.now) (remembered c.remember.new.self) c.args.comparisons.now (ap (λ (k : Kept). k.lists) known.1)
 
 pub returns-clause-examined : goal.returns-clause-examined
 returns-clause-examined c =
     let e = c.args.self.now in
     let old = kept_of c.args.examined.now in
     let new = kept_of c.remember.new.self in
-    let fresh : Remembers old (contents_of c.args.list.now) true new = subst (λ b. Remembers old (contents_of c.args.list.now) b new) c.if-not-branch.false c.in_ok-remember.ensures.remembers in
+    let contents = contents_of c.args.list.now in
+    let fresh : Remembers old contents true new = subst (λ b. Remembers old contents b new) c.if-not-branch.false c.in_ok-remember.ensures.remembers in
     on_ok_weaker c.examine_list.result
     (λ h. (
-      ap (λ (k : Kept). k.expanded) fresh.1,
+      ap (λ (k : Kept). k.expanded) fresh.1.1.1,
       λ sets looked merged. (
         h.0,
         (
@@ -58,7 +63,8 @@ returns-clause-examined c =
             h.1.1.0,
             (
               h.1.1.1.0,
-              new_fields e.pass (schema_of e) (document_of e) sets c.args.list.now h.0 h.1.0 (with_sets looked old) (with_sets looked new) merged h.1.1.1.1 (ap (with_sets looked) fresh.1),
+              new_fields e.pass (schema_of e) (document_of e) sets c.args.list.now fresh.1.0 h.0 h.1.0 (with_sets looked old) (with_sets looked new) merged (same_order contents fresh.1.0 fresh.1.1.0) h.1.1.1.1
+                  (ap (with_sets looked) fresh.1.1.1),
             ),
           ),
         ),
@@ -67,9 +73,10 @@ returns-clause-examined c =
     c.examine_list.ensures.examined
 
 pub returns-clause-counted : goal.returns-clause-counted
-returns-clause-counted c = λ listed.
+returns-clause-counted c = λ apart.
     let old = kept_of c.args.examined.now in
     let new = kept_of c.remember.new.self in
-    let fresh : Remembers old (contents_of c.args.list.now) true new = subst (λ b. Remembers old (contents_of c.args.list.now) b new) c.if-not-branch.false c.in_ok-remember.ensures.remembers in
-    grows_one (document_of c.args.self.now) c.args.self.now.pass c.args.list.now (remembered c.args.examined.now) (remembered c.remember.new.self) c.args.comparisons.now c.examine_list.new.comparisons
-    listed (fresh.0, ap (λ (k : Kept). k.lists) fresh.1) c.examine_list.ensures.counted
+    let contents = contents_of c.args.list.now in
+    let fresh : Remembers old contents true new = subst (λ b. Remembers old contents b new) c.if-not-branch.false c.in_ok-remember.ensures.remembers in
+    grows_one (document_of c.args.self.now) c.args.self.now.pass c.args.list.now fresh.1.0 (remembered c.args.examined.now) (remembered c.remember.new.self) c.args.comparisons.now c.examine_list.new.comparisons
+    apart fresh.1.1.0 fresh.0 (ap (λ (k : Kept). k.lists) fresh.1.1.1) c.examine_list.ensures.more c.examine_list.ensures.counted

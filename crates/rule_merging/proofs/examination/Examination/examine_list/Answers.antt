@@ -19,6 +19,7 @@ loop-group-init c =
     subst (λ l. sum (map (compared e.pass) (map items_in l)) ≤ compared e.pass c.args.list.now) (sym c.deref-group-items.ensures.value) c.in_ok-groups.ensures.counted in
     record {
       examined = ([], ([], (sym (append-nil (brokens_of c.args.breaches.now)), (sym (append-nil (sets_in c.args.next.now)), no_groups e.pass (schema_of e) (document_of e)))));
+      more = omega arith;
       counted = omega (arith, all);
     }
 
@@ -40,6 +41,7 @@ loop-group-preserved c =
           (groups_step e.pass (schema_of e) (document_of e) (brokens_of c.args.breaches.now) (brokens_of c.loop-group.breaches) (brokens_of c.examine_group.new.breaches)
           (sets_in c.args.next.now) (sets_in c.loop-group.next) (sets_in c.examine_group.new.next) groups (fields_of x.items) inv.examined
           (subst (λ l. ExaminesGroup e (fields_of l) c.loop-group.breaches c.examine_group.new.breaches (sets_in c.loop-group.next) (sets_in c.examine_group.new.next)) c.deref.ensures.value here.examined));
+      more = omega (arith, inv.more, here.more);
       counted = omega (arith, inv.counted, here.counted, left_of (compared e.pass) items_in xs i x h c.group-item.is, ap (compared e.pass) c.deref.ensures.value);
     }
 
@@ -51,6 +53,9 @@ returns-in_err-examine_group-clause-counted c =
     let x = c.group-item.result in
     let h : i < length xs = omega arith in
     omega (arith, c.loop-group.invariant.counted, c.in_err-examine_group.ensures.counted, left_of (compared e.pass) items_in xs i x h c.group-item.is, ap (compared e.pass) c.deref.ensures.value)
+
+pub returns-in_err-examine_group-clause-more : goal.returns-in_err-examine_group-clause-more
+returns-in_err-examine_group-clause-more c = omega (arith, c.loop-group.invariant.more, c.in_err-examine_group.ensures.more)
 
 pub returns-clause-examined : goal.returns-clause-examined
 returns-clause-examined c =

@@ -12,5 +12,6 @@ abbrev pub invariant-loop-group : goal.invariant-loop-group
 invariant-loop-group l = record {
   examined : (added : List (Broken Place)) × ((below : List Sets) × ((brokens_of l.breaches ≡ brokens_of l.fn.breaches ++ added) × ((sets_in l.next ≡ sets_in l.fn.next ++ below)
       × GroupsExamined l.self.pass (schema_of l.self) (document_of l.self) (map fields_of (map (λ v. v.items) (take l.group-index l.group-items))) added below)));
+  more : l.fn.comparisons ≤ l.comparisons;
   counted : l.comparisons + sum (map (compared l.self.pass) (map (λ v. v.items) (drop l.group-index l.group-items))) ≤ l.fn.comparisons + compared l.self.pass l.list;
 }

@@ -7,7 +7,8 @@ use Rattle.rule_field_groups.proofs.Lists.{taken_more}
 use Rattle.rule_merging.specs.Remembered.{remembered, kept_of}
 use Rattle.rule_merging.specs.Examined.{sets_in, with_each, schema_of, document_of, ExaminesSets, ExaminesTwos}
 use Rattle.rule_merging.proofs.Examining.{front_more, none_told, no_twos, twos_more, lists_step}
-use Rattle.rule_merging.proofs.Counting.{grows_not, grows_on, each_listed}
+use Rattle.rule_merging.specs.Counted.{AreListed}
+use Rattle.rule_merging.proofs.Counting.{grows_not, grows_with, each_listed}
 use Rattle.rule_merging.proofs.examination.Examination.examine_twos.Goals as goal
 
 pub loop-set-init : goal.loop-set-init
@@ -16,22 +17,24 @@ loop-set-init c =
     record {
       seen = c.new-seen.ensures.items;
       examined = ([], (no_twos, none_told e.pass (schema_of e) (document_of e) (brokens_of c.args.breaches.now) (kept_of c.args.examined.now) (sets_in c.args.next.now)));
-      counted = λ listed. grows_not (document_of e) e.pass (remembered c.args.examined.now) c.args.comparisons.now;
+      counted = grows_not (document_of e) (λ os. AreListed (document_of e) os (meant_sets c.args.sets.now ∷ [])) e.pass (remembered c.args.examined.now) c.args.comparisons.now;
     }
 
 pub returns-in_err-push-clause-counted : goal.returns-in_err-push-clause-counted
 returns-in_err-push-clause-counted c = c.loop-set.invariant.counted
 
 pub returns-in_err-examine_with-clause-counted : goal.returns-in_err-examine_with-clause-counted
-returns-in_err-examine_with-clause-counted c = λ listed.
+returns-in_err-examine_with-clause-counted c =
     let e = c.args.self.now in
+    let d = document_of e in
     let xs = c.args.sets.now in
     let x = c.set-item.result in
     let i = c.loop-set.set-index in
     let h : i < length xs = omega arith in
     let seen : c.deref.result.now ≡ take (i + 1) xs = c.deref.ensures.value ∙ c.in_ok-push.ensures.items ∙ ap (λ l. l ++ x ∷ []) c.loop-set.invariant.seen ∙ sym (taken_more xs i x h c.set-item.is) in
-    grows_on (document_of e) e.pass (remembered c.args.examined.now) (remembered c.loop-set.examined) (remembered c.examine_with.new.examined) c.args.comparisons.now c.loop-set.comparisons c.examine_with.new.comparisons
-    (c.loop-set.invariant.counted listed) (c.in_err-examine_with.ensures.counted (each_listed (document_of e) xs c.deref.result.now i x h c.set-item.is seen listed))
+    grows_with d (λ os. AreListed d os (meant_sets xs ∷ [])) (λ os. AreListed d os (with_each (meant_at x) (meant_sets c.deref.result.now))) e.pass
+    (remembered c.args.examined.now) (remembered c.loop-set.examined) (remembered c.examine_with.new.examined) c.args.comparisons.now c.loop-set.comparisons c.examine_with.new.comparisons
+    c.loop-set.invariant.counted (λ os. each_listed d os xs c.deref.result.now i x h c.set-item.is seen) c.in_err-examine_with.ensures.counted
 
 pub loop-set-preserved : goal.loop-set-preserved
 loop-set-preserved c =
@@ -59,9 +62,11 @@ loop-set-preserved c =
               (kept_of c.args.examined.now) (kept_of c.loop-set.examined) (kept_of c.examine_with.new.examined) twos.1.1 here,
         ),
       );
-      counted = λ listed.
-          grows_on (document_of e) e.pass (remembered c.args.examined.now) (remembered c.loop-set.examined) (remembered c.examine_with.new.examined) c.args.comparisons.now c.loop-set.comparisons c.examine_with.new.comparisons
-          (c.loop-set.invariant.counted listed) (c.in_ok-examine_with.ensures.counted (each_listed (document_of e) xs c.deref.result.now i x h c.set-item.is seen listed));
+      counted =
+          let d = document_of e in
+          grows_with d (λ os. AreListed d os (meant_sets xs ∷ [])) (λ os. AreListed d os (with_each (meant_at x) (meant_sets c.deref.result.now))) e.pass
+          (remembered c.args.examined.now) (remembered c.loop-set.examined) (remembered c.examine_with.new.examined) c.args.comparisons.now c.loop-set.comparisons c.examine_with.new.comparisons
+          c.loop-set.invariant.counted (λ os. each_listed d os xs c.deref.result.now i x h c.set-item.is seen) c.in_ok-examine_with.ensures.counted;
     }
 
 pub returns-clause-examined : goal.returns-clause-examined

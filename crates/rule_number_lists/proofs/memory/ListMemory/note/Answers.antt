@@ -1,0 +1,4 @@
+use Rattle.rule_number_lists.proofs.memory.ListMemory.note.Goals as goal
+
+pub invariant_of-self : goal.invariant_of-self
+invariant_of-self g c = ?

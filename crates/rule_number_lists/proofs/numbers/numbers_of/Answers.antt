@@ -1,0 +1,34 @@
+use Rattle.std.proofs.Common.{ℕ, ◌+◌, ◌<◌, List, [], length, take, sym, subst, arith}
+use Rattle.rule_number_lists.specs.Numbered.{AreNumbersIn, Grows}
+use Rattle.rule_number_lists.proofs.Growing.{grows_not, grows_same, grows_on, grows_one, numbers_stay, numbers_more}
+use Rattle.rule_number_lists.proofs.numbers.numbers_of.Goals as goal
+
+pub loop-item-init : goal.loop-item-init
+loop-item-init g c = record {
+  numbers = subst (λ ns. AreNumbersIn g.T.PartialEq.eq c.args.table.now.keys [] ns) (sym c.new-numbers.ensures.items) tt;
+  grown = grows_not c.args.table.now.keys;
+  unique = c.len.ensures.unique;
+}
+
+pub loop-item-preserved : goal.loop-item-preserved
+loop-item-preserved g c =
+    let eq = g.T.PartialEq.eq in
+    let x = c.item-item.result in
+    let at = c.loop-item in
+    let xs = c.args.items.now in
+    let h : at.item-index < length xs = omega arith in
+    let old = at.table.keys in
+    let new = c.insert_full.new.self.keys in
+    let stored = c.in_ok-number.ensures.stored in
+    let one : Grows old new = grows_one eq old new x c.in_ok-number.ensures.keys in
+    record {
+      numbers = subst (λ ns. AreNumbersIn eq new (take (at.item-index + 1) xs) ns) (sym c.in_ok-push.ensures.items)
+          (numbers_more eq new xs at.numbers.items at.item-index x c.in_ok-number.number h c.item-item.is
+          (numbers_stay eq old new (take at.item-index xs) at.numbers.items one at.invariant.numbers) (stored.0, (stored.1, stored.2)));
+      grown = grows_on c.args.table.now.keys old new at.invariant.grown one;
+      unique = c.insert_full.ensures.unique;
+    }
+
+pub returns-in_err-number-clause-grown : goal.returns-in_err-number-clause-grown
+returns-in_err-number-clause-grown g c =
+    grows_on c.args.table.now.keys c.loop-item.table.keys c.insert_full.new.self.keys c.loop-item.invariant.grown (grows_same c.loop-item.table.keys c.insert_full.new.self.keys c.in_err-number.ensures.err)

@@ -1,0 +1,25 @@
+-- Numbers of items: the places of what they are equal to in a table.
+use Rattle.std.specs.Prelude.{◌≡◌, ◌++◌, ◌∷◌, [], ℕ, ◌<◌, Bool, true, List, map, length, get_or, slice_get, Some, Contains}
+use Rattle.std.specs.List.{AllZip}
+
+module _ {X : Type 0} where
+  -- the item is equal to what stands there
+  abbrev pub IsNumberIn : (X → X → Bool) → List X → X → ℕ → Type 0
+  IsNumberIn eq table x n = (k : X) × ((slice_get table n ≡ Some k) × (eq x k ≡ true))
+
+  -- the same of each item and its number
+  abbrev pub AreNumbersIn : (X → X → Bool) → List X → List X → List ℕ → Type 0
+  AreNumbersIn eq table items numbers = AllZip (IsNumberIn eq table) items numbers
+
+  -- what stood there stands there, and perhaps more behind it
+  abbrev pub Grows : List X → List X → Type 0
+  Grows old new = (added : List X) × (new ≡ old ++ added)
+
+  -- what stands at these places
+  abbrev pub at_places : List X → List ℕ → List X
+  at_places [] places = []
+  at_places (x ∷ xs) places = map (λ n. get_or (x ∷ xs) n x) places
+
+  -- each of these is a place of the list
+  abbrev pub AreWithin : List X → List ℕ → Type 0
+  AreWithin table places = (n : ℕ) → Contains places n → n < length table

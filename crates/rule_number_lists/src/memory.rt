@@ -1,0 +1,74 @@
+//! Lists of items that are remembered.
+ghost use Rattle.std.specs.Prelude.{◌≡◌, [], ℕ, List, Contains, IsTrue, IfOk, OnErr};
+ghost use Rattle.std.proofs.Props.{props};
+ghost use Rattle.rule_number_lists.specs.Numbered.{AreWithin};
+ghost use Rattle.rule_number_lists.specs.NumberLists.{lists_kept};
+
+use crate::lists::NumberLists;
+use crate::numbers::numbers_of;
+use indexmap::IndexSet;
+use std::alloc::{AllocError, Global};
+use std::hash::Hash;
+
+/// Lists of items, remembered by which items they have, in whatever order: each item has a number, that of what it is equal to.
+pub struct ListMemory<T: Eq + Hash + Copy> {
+    items: IndexSet<T>,
+    lists: NumberLists,
+    ghost within: { (l : List ℕ) → Contains (lists_kept lists) l → AreWithin items.keys l } by { Prim.hlevel props },
+}
+
+impl<T: Eq + Hash + Copy> Drop for ListMemory<T> {
+    fn drop(self) {
+        let ListMemory { items: _, lists: _ } = self;
+    }
+}
+
+impl<T: Eq + Hash + Copy> ListMemory<T> {
+    ghost use Rattle.indexmap.specs.IndexSet.{IsUnique};
+    ghost use Rattle.rule_number_lists.specs.Numbered.{Grows};
+    ghost use Rattle.rule_number_lists.specs.ListMemory.{items_of, numbers_kept, Remembers, HasList};
+
+    /// None.
+    pub fn new(alloc: Global) -> ListMemory<T>
+        ensures items { items_of result ≡ [] }
+        ensures lists { numbers_kept result ≡ [] }
+    {
+        ListMemory {
+            items: IndexSet::new(alloc),
+            lists: NumberLists::new(alloc),
+        }
+    }
+
+    /// Remembers a list. Whether it was not remembered before is given, in whatever order.
+    pub fn remember(&mut self, list: &[T]) -> Result<bool, AllocError>
+        ensures remembers { IfOk result (λ is_new. Remembers T.eq self.old list.now is_new self.new) }
+        ensures grown { Grows (items_of self.old) (items_of self.new) }
+        ensures unique { IsUnique T.eq self.new.items }
+        ensures refused { OnErr result (numbers_kept self.new ≡ numbers_kept self.old) }
+    {
+        let alloc = *self.items.allocator();
+        let numbers = numbers_of(alloc, &mut self.items, list)?;
+        self.lists.remember(numbers)
+    }
+
+    /// Whether a list is remembered, in whatever order. Its items have numbers from now on.
+    pub fn contains(&mut self, list: &[T]) -> Result<bool, AllocError>
+        ensures known { IfOk result (λ is_known. IsTrue is_known → HasList T.eq self.new list.now) }
+        ensures grown { Grows (items_of self.old) (items_of self.new) }
+        ensures lists { numbers_kept self.new ≡ numbers_kept self.old }
+    {
+        let alloc = *self.items.allocator();
+        let numbers = numbers_of(alloc, &mut self.items, list)?;
+        Ok(self.lists.contains(numbers))
+    }
+
+    /// Gives each of these items a number. How many there are now is given.
+    pub fn note(&mut self, items: &[T]) -> Result<usize, AllocError>
+        ensures grown { Grows (items_of self.old) (items_of self.new) }
+        ensures lists { numbers_kept self.new ≡ numbers_kept self.old }
+    {
+        let alloc = *self.items.allocator();
+        numbers_of(alloc, &mut self.items, items)?;
+        Ok(self.items.len())
+    }
+}
