@@ -31,6 +31,7 @@ use Rattle.rule_field_groups.specs.declared.pass.Pass.TheVariants.{Shapes, Selec
 use Rattle.rule_field_groups.specs.Below.{contents_of, meant_at, meant_sets, IsMergedIn}
 use Rattle.rule_merging.specs.Remembered.{Kept}
 use Rattle.rule_merging.specs.Examined.{SetsExamined, with_each}
+use Rattle.rule_merging.specs.Verdict.{OnlyGrow}
 use Rattle.rule_field_groups.specs.Compared.{compared}
 use Rattle.rule_merging.specs.Counted.{DifferInMembers, AreApart, IsLast, AreLast, IsListed, AreListed, Grows, IsCountedBy}
 use Rattle.rule_number_lists.specs.NumberLists.{HaveSame}
@@ -209,6 +210,14 @@ module _ (d : MeantDocument Place) where
   pub grows_with : (Given Other : Premise) (pass : Pass) (old mid new : List (List PlainField)) (before between after : ℕ) → Grows d Given pass old mid before between
       → ((os : List (MeantOperation Place)) → Given os → Other os) → Grows d Other pass mid new between after → Grows d Given pass old new before after
   grows_with Given Other pass old mid new before between after first less later = grows_on Given pass old mid new before between after first (grows_given Other Given less pass mid new between after later)
+
+  -- lists stay and the count never falls, in one pass and then in the other, whose lists are others
+  pub only_grow : (Given : Premise) (pass : Pass) (old new : List (List PlainField)) (before after : ℕ) → Grows d Given pass old new before after → OnlyGrow old before new after
+  only_grow Given pass old new before after g = ((g.added, g.is), g.more)
+
+  pub only_more : (Given : Premise) (pass : Pass) (others others_too : List (List PlainField)) (between after : ℕ) (old new : List (List PlainField)) (before : ℕ) → OnlyGrow old before new between
+      → Grows d Given pass others others_too between after → OnlyGrow old before new after
+  only_more Given pass others others_too between after old new before (stay, more) g = (stay, omega (arith, more, g.more))
 
   -- ---- the count
 

@@ -10,7 +10,7 @@ use Rattle.rule_document_definitions.specs.Selected.{operations}
 use Rattle.rule_merging_laws.specs.Contents.{PlainField, PlainStarts, AreShapesStanding}
 use Rattle.rule_merging_laws.specs.Settled.{StandIn, StartsStand}
 use Rattle.rule_merging.specs.Counted.{IsCountedBy}
-use Rattle.rule_merging.specs.Verdict.{lists_examined, comparisons_of}
+use Rattle.rule_merging.specs.Verdict.{lists_examined, comparisons_of, OnlyGrow}
 use Rattle.graphql_faults.specs.DetailsTree.{Telling}
 use Rattle.graphql_faults.specs.DetailsView.{diagnostics_of}
 use Rattle.graphql_faults.specs.declared.diagnostic_list.DiagnosticList.{DiagnosticList}
@@ -35,10 +35,14 @@ merger_of m = record {
   comparisons = comparisons_of m.examined;
 }
 
--- shapes were compared at most as often as the lists are long in all; no two lists are the same, each is without equal members, and
--- all members are last fields of chains of the document
+-- shapes were compared at most as often as the lists are long in all; no two lists have the same members, each is without equal
+-- members, and all members are last fields of chains of these operations, in the document
+abbrev pub IsCountedOver : List (MeantOperation Place) → Merger → Type 0
+IsCountedOver os m = IsCountedBy m.document os m.lists m.comparisons
+
+-- the same of the operations of the document
 abbrev pub IsCountedMerger : Merger → Type 0
-IsCountedMerger m = IsCountedBy m.document m.lists m.comparisons
+IsCountedMerger m = IsCountedOver (operations m.document) m
 
 -- behind what was told stands only what merging tells of the operation, under the schema and in the document of the value
 abbrev pub MergerTold : Merger → MeantOperation Place → Telling → Telling → Type 0
@@ -63,6 +67,10 @@ AddsNothing old new = diagnostics_of new ≡ diagnostics_of old
 abbrev pub StaysCleanInSilence : Merger → Merger → Telling → Telling → Type 0
 StaysCleanInSilence before after old new = IsTrue after.is_clean ↔ (IsTrue before.is_clean × (new ≡ old))
 
--- it is counted so after a call on an operation of the document, if it was before
+-- it is counted so after a call on one of these operations, if it was before: those of the document, or whichever else it is asked of
 abbrev pub StaysCounted : Merger → Merger → MeantOperation Place → Type 0
-StaysCounted before after o = Contains (operations before.document) o → IsCountedMerger before → IsCountedMerger after
+StaysCounted before after o = (os : List (MeantOperation Place)) → Contains os o → IsCountedOver os before → IsCountedOver os after
+
+-- the lists stay, and perhaps more come behind them; the count never falls
+abbrev pub OnlyGrows : Merger → Merger → Type 0
+OnlyGrows before after = OnlyGrow before.lists before.comparisons after.lists after.comparisons

@@ -1,5 +1,5 @@
 -- What the examination of an operation comes to.
-use Rattle.std.specs.Prelude.{◌≡◌, ◌++◌, ℕ, Bool, true, false, List, [], Contains}
+use Rattle.std.specs.Prelude.{◌≡◌, ◌≤◌, ◌++◌, ℕ, Bool, true, false, List, [], Contains}
 use Rattle.graphql_names.specs.Placed.{Place}
 use Rattle.document_meaning.specs.MeantTree.{MeantOperation, MeantDocument}
 use Rattle.rule_definitions.specs.Judged.{Judged}
@@ -9,6 +9,7 @@ use Rattle.rule_document_definitions.specs.Limits.{PassesChainBound}
 use Rattle.rule_field_groups.specs.in_ground.Broken.{brokens_of}
 use Rattle.rule_merging_laws.specs.Contents.{PlainField, PlainStarts}
 use Rattle.rule_merging_laws.specs.Settled.{StandIn, StartsStand}
+use Rattle.rule_number_lists.specs.Numbered.{Grows}
 use Rattle.rule_merging.specs.Counted.{IsCountedBy}
 use Rattle.rule_merging.specs.Remembered.{remembered, kept_of}
 use Rattle.rule_merging.specs.Examined.{Breaches, AreSettled}
@@ -40,5 +41,10 @@ lists_examined e = remembered e.shapes
 abbrev pub comparisons_of : Examined → ℕ
 comparisons_of e = e.comparisons
 
-abbrev pub IsCounted : MeantDocument Place → Examined → Type 0
-IsCounted d e = IsCountedBy d (lists_examined e) (comparisons_of e)
+-- the count is right, and the members of the lists are last fields of chains of these operations
+abbrev pub IsCounted : MeantDocument Place → List (MeantOperation Place) → Examined → Type 0
+IsCounted d os e = IsCountedBy d os (lists_examined e) (comparisons_of e)
+
+-- lists stay, and perhaps more come behind them; the count never falls
+abbrev pub OnlyGrow : List (List PlainField) → ℕ → List (List PlainField) → ℕ → Type 0
+OnlyGrow old before new after = Grows old new × (before ≤ after)

@@ -1,5 +1,5 @@
 //! Whether the fields of operations merge.
-ghost use Rattle.std.specs.Prelude.{◌≡◌, ◌↔◌, ◌++◌, [], false, map, IsTrue, OnOk, OnErr};
+ghost use Rattle.std.specs.Prelude.{◌≡◌, ◌↔◌, ◌++◌, List, [], false, map, IsTrue, OnOk, OnErr};
 ghost use Rattle.graphql_faults.specs.DetailsTree.{of_document};
 ghost use Rattle.graphql_faults.specs.DetailsView.{diagnostics_of, BeginsAs};
 ghost use Rattle.rule_field_groups.specs.in_ground.Broken.{brokens_of};
@@ -43,7 +43,9 @@ impl Drop for FieldsInSetCanMerge<'_> {
 }
 
 impl<'doc> FieldsInSetCanMerge<'doc> {
-    ghost use Rattle.rule_merging.specs.Merger.{merger_of, IsCountedMerger, MergerTold, SilenceMeansMerging, KeepsClosed, AddsNothing, StaysCleanInSilence, StaysCounted};
+    ghost use Rattle.document_meaning.specs.MeantTree.{MeantOperation};
+    ghost use Rattle.graphql_names.specs.Placed.{Place};
+    ghost use Rattle.rule_merging.specs.Merger.{merger_of, IsCountedOver, OnlyGrows, MergerTold, SilenceMeansMerging, KeepsClosed, AddsNothing, StaysCleanInSilence, StaysCounted};
 
     /// A clean value, for the operations of the document.
     pub fn new(
@@ -54,8 +56,9 @@ impl<'doc> FieldsInSetCanMerge<'doc> {
         ensures schema { (merger_of result).schema ≡ judged (schema_tree schema.now) }
         ensures document { (merger_of result).document ≡ document_meant document.now }
         ensures clean { IsTrue (merger_of result).is_clean }
-        ensures counted { IsCountedMerger (merger_of result) }
+        ensures counted { (os : List (MeantOperation Place)) → IsCountedOver os (merger_of result) }
         ensures none { (merger_of result).lists ≡ [] }
+        ensures zero { (merger_of result).comparisons ≡ 0 }
     {
         FieldsInSetCanMerge {
             alloc,
@@ -98,6 +101,7 @@ impl<'doc> FieldsInSetCanMerge<'doc> {
         ensures schema { (merger_of self.new).schema ≡ (merger_of self.old).schema }
         ensures document { (merger_of self.new).document ≡ (merger_of self.old).document }
         ensures counted { StaysCounted (merger_of self.old) (merger_of self.new) (operation_meant operation.now) }
+        ensures grown { OnlyGrows (merger_of self.old) (merger_of self.new) }
     {
         let was_clean = self.is_clean;
         self.is_clean = false;

@@ -1,5 +1,5 @@
 -- Lists of numbers in ascending order: with the same members, and nothing twice, they are the same.
-use Rattle.std.proofs.Common.{◌≡◌, ◌∙◌, ℕ, zero, suc, ◌+◌, ◌<◌, ◌≤◌, ◌==◌, Bool, true, false, ◌&&◌, ◌||◌, not, List, [], ◌∷◌, ◌++◌, map, length, get_or, slice_get, Some, Vec, Result, Ok, Err, Contains, nat_eq, refl, sym, ap, subst, arith, inl, inr, true≢false, if◌then◌else◌}
+use Rattle.std.proofs.Common.{◌≡◌, ◌∙◌, ℕ, suc, ◌<◌, ◌≤◌, Bool, true, false, ◌&&◌, ◌||◌, not, List, [], ◌∷◌, ◌++◌, map, get_or, Some, Vec, Result, Ok, Err, Contains, nat_eq, refl, sym, ap, subst, arith, inl, inr, true≢false, if◌then◌else◌}
 use Rattle.std.specs.Global.{Global}
 use Rattle.std.specs.List.{list_any}
 use Rattle.std.specs.List.Sorted.{IsPermutation, IsNonDecreasing}

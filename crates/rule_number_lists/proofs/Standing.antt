@@ -1,6 +1,7 @@
 -- What stands at numbers of a table: lists of numbers and lists of what they number have the same members alike.
-use Rattle.std.proofs.Common.{◌≡◌, ◌↔◌, ◌⊎◌, ◌∙◌, ℕ, suc, ◌+◌, ◌<◌, Bool, true, false, List, [], ◌∷◌, ◌++◌, map, length, get_or, slice_get, Option, None, Some, Contains, refl, sym, ap, subst, length-append, arith, inl, inr}
+use Rattle.std.proofs.Common.{◌≡◌, ◌⊎◌, ◌∙◌, ℕ, suc, ◌<◌, Bool, true, false, List, [], ◌∷◌, ◌++◌, map, length, get_or, slice_get, Some, Result, Ok, Err, Contains, refl, sym, ap, subst, length-append, arith, inl, inr}
 use Rattle.std.specs.Option.{option_map}
+use Rattle.std.specs.Result.{IfOk, OnErr}
 use Rattle.std.specs.List.{swap}
 use Rattle.std.specs.List.Sorted.{IsPermutation}
 use Rattle.std.proofs.lemmas.List.{length-map, map-append, get_or_append_left}
@@ -11,7 +12,7 @@ use Rattle.std.proofs.lemmas.Option.{slice_get_within, slice_get-get_or, get_or_
 use Rattle.std.proofs.lemmas.Bool.{cases_eq}
 use Rattle.rule_cycle_search.specs.Paths.{HasNoRepeat}
 use Rattle.rule_cycle_search.proofs.Lists.{not_in_nil, Contains-cons, Contains-first, index_found, index_given, slice_get-map}
-use Rattle.rule_number_lists.specs.Numbered.{IsNumberIn, AreNumbersIn, Grows, AreWithin, at_places}
+use Rattle.rule_number_lists.specs.Numbered.{AreNumbersIn, Grows, AreWithin, at_places}
 use Rattle.rule_number_lists.specs.NumberLists.{HaveSame, Keeps}
 
 -- ---- members of a list that is mapped
@@ -214,6 +215,12 @@ module _ {X : Type 0} where
   ]
   still_within table old new numbers false all here (known, is) l c = all l (subst (λ ls. Contains ls l) is c)
 
+  -- whatever comes of a call that keeps a list
+  pub after_keeping : {E : Type 0} (r : Result Bool E) (table : List X) (old new : List (List ℕ)) (numbers : List ℕ) → AllWithin table old → AreWithin table numbers
+      → IfOk r (λ is_new. Keeps old numbers is_new new) → OnErr r (new ≡ old) → AllWithin table new
+  after_keeping (Ok b) table old new numbers all here keeps kept = still_within table old new numbers b all here keeps
+  after_keeping (Err e) table old new numbers all here keeps kept = all_same table old new kept all
+
 -- numbers of items are places of the table
 pub of_table : {T : Type 0} (eq : T → T → Bool) (table items : List T) (numbers : List ℕ) → AreNumbersIn eq table items numbers → AreWithin table numbers
 of_table eq table [] [] h n c = not_in_nil n c
@@ -257,7 +264,7 @@ module _ {X : Type 0} where
 
   pub none_same : (table : List X) (old new : List (List ℕ)) (numbers : List ℕ) (is_new : Bool) → HasNoRepeat table → AllWithin table old → AreWithin table numbers → Keeps old numbers is_new new
       → NoneSame (map (at_places table) old) (at_places table numbers) is_new
-  none_same table old new numbers true apart all here (none, put) known c no_repeat no_repeat_too same =
+  none_same table old new numbers true apart all here (none, put) = λ known c no_repeat no_repeat_too same.
       let l = of_map (at_places table) old known c in
       none l.0 l.1.0 (places_apart table l.0 (all l.0 l.1.0) (subst HasNoRepeat (sym l.1.1) no_repeat)) (places_apart table numbers here no_repeat_too)
       (places_same table l.0 numbers apart (all l.0 l.1.0) here (subst (λ k. HaveSame k (at_places table numbers)) (sym l.1.1) same))

@@ -1,5 +1,5 @@
 //! Lists of items that are remembered.
-ghost use Rattle.std.specs.Prelude.{◌≡◌, [], ℕ, List, Contains, IsTrue, IfOk, OnErr};
+ghost use Rattle.std.specs.Prelude.{◌≡◌, [], ℕ, List, length, Contains, IsTrue, IfOk, OnErr};
 ghost use Rattle.std.proofs.Props.{props};
 ghost use Rattle.rule_number_lists.specs.Numbered.{AreWithin};
 ghost use Rattle.rule_number_lists.specs.NumberLists.{lists_kept};
@@ -62,8 +62,9 @@ impl<T: Eq + Hash + Copy> ListMemory<T> {
         Ok(self.lists.contains(numbers))
     }
 
-    /// Gives each of these items a number. How many there are now is given.
+    /// Gives each of these items a number. How many items have one now is given.
     pub fn note(&mut self, items: &[T]) -> Result<usize, AllocError>
+        ensures count { IfOk result (λ count. count ≡ length (items_of self.new)) }
         ensures grown { Grows (items_of self.old) (items_of self.new) }
         ensures lists { numbers_kept self.new ≡ numbers_kept self.old }
     {

@@ -1,4 +1,4 @@
-use Rattle.std.proofs.Common.{ℕ, ◌+◌, ◌<◌, List, [], length, take, sym, subst, arith}
+use Rattle.std.proofs.Common.{◌+◌, ◌<◌, [], length, take, sym, subst, arith}
 use Rattle.rule_number_lists.specs.Numbered.{AreNumbersIn, Grows}
 use Rattle.rule_number_lists.proofs.Growing.{grows_not, grows_same, grows_on, grows_one, numbers_stay, numbers_more}
 use Rattle.rule_number_lists.proofs.numbers.numbers_of.Goals as goal

@@ -7,7 +7,7 @@ pub invariant_of-result : goal.invariant_of-result
 invariant_of-result c = record { settled = ∣ (λ is. c.new.ensures.settled (judged (schema_tree c.args.schema.now)) (document_meant c.args.document.now)) ∣₁ }
 
 pub returns-clause-counted : goal.returns-clause-counted
-returns-clause-counted c = c.new.ensures.counted (document_meant c.args.document.now)
+returns-clause-counted c = λ os. c.new.ensures.counted (document_meant c.args.document.now) os
 
 pub returns-clause-none : goal.returns-clause-none
 returns-clause-none c = c.new.ensures.lists

@@ -13,4 +13,4 @@ pub returns-clause-lists : goal.returns-clause-lists
 returns-clause-lists c = ap (λ (k : Kept). k.lists) c.new.ensures
 
 pub returns-clause-counted : goal.returns-clause-counted
-returns-clause-counted c d = subst (λ (k : Kept). IsCountedBy d k.lists 0) (sym c.new.ensures) (none_counted d)
+returns-clause-counted c d os = subst (λ (k : Kept). IsCountedBy d os k.lists 0) (sym c.new.ensures) (none_counted d os)

@@ -1,7 +1,11 @@
 use Rattle.std.proofs.Common.{map}
-use Rattle.rule_field_groups.specs.Below.{contents_of}
-use Rattle.rule_merging.specs.Remembered.{sets_in_keys}
+use Rattle.rule_number_lists.specs.Numbered.{at_places}
+use Rattle.rule_number_lists.specs.ListMemory.{items_of}
+use Rattle.rule_field_groups.specs.Below.{contents_of, meant_sets, plain_sets}
 use Rattle.rule_merging.proofs.remembered.Remembered.new.Goals as goal
 
 pub returns : goal.returns
-returns c = λ i. record { lists = map (λ v. contents_of v.items) (c.new.ensures.empty i); expanded = sets_in_keys (c.new-2.ensures.empty i) }
+returns c = λ i. record {
+  lists = map (at_places (contents_of (items_of c.new.result))) (c.new.ensures.lists i);
+  expanded = map (at_places (plain_sets (meant_sets (items_of c.new-2.result)))) (c.new-2.ensures.lists i);
+}

@@ -1,11 +1,22 @@
-use Rattle.std.proofs.Common.{map, subst}
-use Rattle.rule_field_groups.specs.Below.{contents_of}
-use Rattle.rule_merging.specs.Remembered.{kept_of, sets_in_keys, Remembers}
-use Rattle.rule_merging.proofs.Remembering.{contents_in, remembers}
+use Rattle.std.proofs.lemmas.Result.{IfOk-weaker, on_err_weaker}
+use Rattle.rule_number_lists.specs.ListMemory.{items_of, numbers_kept}
+use Rattle.rule_merging.specs.Remembered.{looked_at}
+use Rattle.rule_merging.proofs.Remembering.{remembers, lists_still}
 use Rattle.rule_merging.proofs.remembered.Remembered.remember.Goals as goal
 
 pub returns-clause-remembers : goal.returns-clause-remembers
 returns-clause-remembers c =
-    let looked = sets_in_keys c.args.self.now.expanded.keys in
-    subst (λ l. Remembers (kept_of c.args.self.now) (contents_of l) c.in_ok-insert.field-0 (record { lists = map contents_in c.insert.new.self.keys; expanded = looked })) c.in_ok-list.ensures.items
-    (remembers c.args.self.now.lists.keys c.insert.new.self.keys c.in_ok-list.list c.in_ok-insert.field-0 looked c.in_ok-insert.ensures.added c.in_ok-insert.ensures.keys)
+    let old = c.args.self.now.lists in
+    let new = c.remember.new.self in
+    IfOk-weaker c.remember.result _ _
+    (λ is_new h. remembers (looked_at c.args.self.now) (items_of old) (items_of new) (numbers_kept old) (numbers_kept new) c.args.list.now h.0 is_new
+    c.remember.ensures.unique c.remember.ensures.grown old.within h.1.0 h.1.1)
+    c.remember.ensures.remembers
+
+pub returns-clause-refused : goal.returns-clause-refused
+returns-clause-refused c =
+    let old = c.args.self.now.lists in
+    let new = c.remember.new.self in
+    on_err_weaker c.remember.result
+    (λ is i. record { lists = lists_still (items_of old) (items_of new) (numbers_kept old) (numbers_kept new) c.remember.ensures.grown old.within is i; expanded = looked_at c.args.self.now })
+    c.remember.ensures.refused

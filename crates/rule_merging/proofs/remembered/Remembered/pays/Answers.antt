@@ -1,0 +1,16 @@
+use Rattle.rule_number_lists.specs.ListMemory.{items_of, numbers_kept}
+use Rattle.rule_merging.specs.Remembered.{looked_at}
+use Rattle.rule_merging.proofs.Remembering.{lists_still}
+use Rattle.rule_merging.proofs.remembered.Remembered.pays.Goals as goal
+
+pub returns-in_err-fields : goal.returns-in_err-fields
+returns-in_err-fields c =
+    let old = c.args.self.now.lists in
+    let new = c.note.new.self in
+    λ i. record { lists = lists_still (items_of old) (items_of new) (numbers_kept old) (numbers_kept new) c.note.ensures.grown old.within c.note.ensures.lists i; expanded = looked_at c.args.self.now }
+
+pub returns : goal.returns
+returns c =
+    let old = c.args.self.now.lists in
+    let new = c.note.new.self in
+    λ i. record { lists = lists_still (items_of old) (items_of new) (numbers_kept old) (numbers_kept new) c.note.ensures.grown old.within c.note.ensures.lists i; expanded = looked_at c.args.self.now }
