@@ -3,7 +3,7 @@ use Rattle.std.specs.Prelude.{◌≡◌, ◌↔◌, ◌⊎◌, ◌++◌, ◌∷�
 use Rattle.graphql_names.specs.Placed.{Place}
 use Rattle.schema_components.specs.Names.{Entries}
 use Rattle.document_typed_selections.specs.TypedTree.{typed_set_tree}
-use Rattle.document_meaning.specs.MeantTree.{MeantSet, meant_set, MeantSelections, no_meant, meant_then, MeantFragment, MeantDocument, meant_of_set}
+use Rattle.document_meaning.specs.MeantTree.{MeantSet, meant_set, no_meant, meant_then, MeantFragment, MeantDocument, meant_of_set}
 use Rattle.document_meaning.specs.Unplaced.{unplaced_set}
 use Rattle.rule_document_definitions.specs.Selected.{StandingField}
 use Rattle.rule_document_definitions.specs.Contents.{unplaced_content}

@@ -45,6 +45,10 @@ comparisons_of e = e.comparisons
 abbrev pub IsCounted : MeantDocument Place → List (MeantOperation Place) → Examined → Type 0
 IsCounted d os e = IsCountedBy d os (lists_examined e) (comparisons_of e)
 
+-- it stays so, if the operation is one of them
+abbrev pub StaysCountedIn : MeantDocument Place → MeantOperation Place → Examined → Examined → Type 0
+StaysCountedIn d o old new = (os : List (MeantOperation Place)) → Contains os o → IsCounted d os old → IsCounted d os new
+
 -- lists stay, and perhaps more come behind them; the count never falls
 abbrev pub OnlyGrow : List (List PlainField) → ℕ → List (List PlainField) → ℕ → Type 0
 OnlyGrow old before new after = Grows old new × (before ≤ after)

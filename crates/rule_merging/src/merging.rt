@@ -1,5 +1,5 @@
 //! Whether the fields of operations merge.
-ghost use Rattle.std.specs.Prelude.{◌≡◌, ◌↔◌, ◌++◌, List, [], false, map, IsTrue, OnOk, OnErr};
+ghost use Rattle.std.specs.Prelude.{◌≡◌, ◌↔◌, ◌++◌, [], false, map, IsTrue, OnOk, OnErr};
 ghost use Rattle.graphql_faults.specs.DetailsTree.{of_document};
 ghost use Rattle.graphql_faults.specs.DetailsView.{diagnostics_of, BeginsAs};
 ghost use Rattle.rule_field_groups.specs.in_ground.Broken.{brokens_of};
@@ -43,9 +43,7 @@ impl Drop for FieldsInSetCanMerge<'_> {
 }
 
 impl<'doc> FieldsInSetCanMerge<'doc> {
-    ghost use Rattle.document_meaning.specs.MeantTree.{MeantOperation};
-    ghost use Rattle.graphql_names.specs.Placed.{Place};
-    ghost use Rattle.rule_merging.specs.Merger.{merger_of, IsCountedOver, OnlyGrows, MergerTold, SilenceMeansMerging, KeepsClosed, AddsNothing, StaysCleanInSilence, StaysCounted};
+    ghost use Rattle.rule_merging.specs.Merger.{merger_of, IsCountedMerger, OnlyGrows, MergerTold, SilenceMeansMerging, KeepsClosed, AddsNothing, StaysCleanInSilence, StaysCounted};
 
     /// A clean value, for the operations of the document.
     pub fn new(
@@ -56,7 +54,7 @@ impl<'doc> FieldsInSetCanMerge<'doc> {
         ensures schema { (merger_of result).schema ≡ judged (schema_tree schema.now) }
         ensures document { (merger_of result).document ≡ document_meant document.now }
         ensures clean { IsTrue (merger_of result).is_clean }
-        ensures counted { (os : List (MeantOperation Place)) → IsCountedOver os (merger_of result) }
+        ensures counted { IsCountedMerger (merger_of result) }
         ensures none { (merger_of result).lists ≡ [] }
         ensures zero { (merger_of result).comparisons ≡ 0 }
     {

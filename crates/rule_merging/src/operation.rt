@@ -1,12 +1,12 @@
 //! The examination of an operation, in both passes.
-ghost use Rattle.std.specs.Prelude.{◌≡◌, List, Contains, IfOk, []};
+ghost use Rattle.std.specs.Prelude.{◌≡◌, List, IfOk, []};
 ghost use Rattle.document_typing.specs.in_schema.SchemaOf.{schema_tree};
 ghost use Rattle.rule_definitions.specs.Judged.{judged};
 ghost use Rattle.graphql_names.specs.Placed.{Place};
 ghost use Rattle.document_meaning.specs.MeantTree.{MeantOperation, MeantDocument};
 ghost use Rattle.document_typing.specs.DocumentView.{document_meant, operation_meant};
 ghost use Rattle.rule_definitions.specs.Judged.{Judged};
-ghost use Rattle.rule_merging.specs.Verdict.{comparisons_of, lists_examined, AreBothSettled, IsCounted, OnlyGrow, ExaminesOperation};
+ghost use Rattle.rule_merging.specs.Verdict.{comparisons_of, lists_examined, AreBothSettled, IsCounted, StaysCountedIn, OnlyGrow, ExaminesOperation};
 
 use crate::examination::Examination;
 use crate::remembered::Remembered;
@@ -56,7 +56,7 @@ pub fn examine_operation<'doc>(
     breaches: &mut Vec<Breach>,
 ) -> Result<bool, AllocError>
     ensures examined { IfOk result (λ left. ExaminesOperation (judged (schema_tree schema.now)) (document_meant document.now) (operation_meant operation.now) examined.old examined.new breaches.old breaches.new left) }
-    ensures counted { (os : List (MeantOperation Place)) → Contains os (operation_meant operation.now) → IsCounted (document_meant document.now) os examined.old → IsCounted (document_meant document.now) os examined.new }
+    ensures counted { StaysCountedIn (document_meant document.now) (operation_meant operation.now) examined.old examined.new }
     ensures grown { OnlyGrow (lists_examined examined.old) (comparisons_of examined.old) (lists_examined examined.new) (comparisons_of examined.new) }
 {
     let start = SelectedSet {

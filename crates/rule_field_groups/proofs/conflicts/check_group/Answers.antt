@@ -1,4 +1,4 @@
-use Rattle.std.proofs.Common.{◌≡◌, ◌∷◌, ◌<◌, ◌≤◌, length, arith}
+use Rattle.std.proofs.Common.{◌<◌, ◌≤◌, length, arith}
 use Rattle.graphql_schema.specs.SchemaOf.{schema_tree}
 use Rattle.rule_definitions.specs.Judged.{judged}
 use Rattle.rule_field_groups.proofs.Telling.{no_group, begun, compared_more, all_compared, counts_zero, count_none, count_more, count_within, count_next, count_all}

@@ -1,4 +1,5 @@
 use Rattle.rule_definitions.specs.Judged.{judged}
+use Rattle.rule_document_definitions.specs.Selected.{operations}
 use Rattle.document_typing.specs.in_schema.SchemaOf.{schema_tree}
 use Rattle.document_typing.specs.DocumentView.{document_meant}
 use Rattle.rule_merging.proofs.merging.FieldsInSetCanMerge.new.Goals as goal
@@ -7,7 +8,7 @@ pub invariant_of-result : goal.invariant_of-result
 invariant_of-result c = record { settled = ∣ (λ is. c.new.ensures.settled (judged (schema_tree c.args.schema.now)) (document_meant c.args.document.now)) ∣₁ }
 
 pub returns-clause-counted : goal.returns-clause-counted
-returns-clause-counted c = λ os. c.new.ensures.counted (document_meant c.args.document.now) os
+returns-clause-counted c = c.new.ensures.counted (document_meant c.args.document.now) (operations (document_meant c.args.document.now))
 
 pub returns-clause-none : goal.returns-clause-none
 returns-clause-none c = c.new.ensures.lists
