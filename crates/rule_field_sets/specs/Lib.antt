@@ -1,0 +1,6 @@
+pub mod Own
+pub mod Nodes
+pub mod View
+pub mod Laws
+pub mod Numbered
+pub mod Kept
