@@ -4,3 +4,5 @@ pub mod View
 pub mod Laws
 pub mod Numbered
 pub mod Kept
+pub mod OneProof
+pub mod Making

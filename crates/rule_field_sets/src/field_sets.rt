@@ -3,7 +3,9 @@ ghost use Rattle.std.specs.Prelude.{◌≡◌, ◌++◌, ◌<◌, [], map, lengt
 ghost use Rattle.document_meaning.specs.MeantTree.{meant_of_set};
 ghost use Rattle.document_typed_selections.specs.TypedTree.{typed_set_tree};
 ghost use Rattle.rule_document_ground.specs.Fields.{meant_fragments};
-ghost use Rattle.rule_field_sets.specs.Kept.{KeptNodes, KeptNodes-prop, HasFragments, values_of, lent_sets, BeginsAs};
+ghost use Rattle.rule_field_sets.specs.Numbered.{BeginsAs};
+ghost use Rattle.rule_field_sets.specs.Kept.{KeptNodes, HasFragments, values_of, lent_sets, fragment_values};
+ghost use Rattle.rule_field_sets.specs.OneProof.{KeptNodes-prop};
 ghost use Rattle.rule_field_sets.specs.Nodes.{set_of};
 
 use crate::node::SetNode;
@@ -66,13 +68,14 @@ impl<'doc> FieldSets<'doc> {
         ensures same { self.new.fragments ≡ self.old.fragments }
     {
         let mut opened = Opened {
-            alloc: self.alloc,
             fragments: self.fragments,
             nodes: &self.nodes,
             sets,
         };
         let mut made = opened.make_nodes(&mut self.numbers)?;
-        self.nodes.append(&mut made)
+        drop(opened);
+        self.nodes.append(&mut made)?;
+        Ok(())
     }
 
     /// Adds the nodes of the fragments, unless there are nodes.
@@ -108,7 +111,7 @@ fn fragment_sets<'doc>(
     alloc: Global,
     fragments: &'doc FragmentMap,
 ) -> Result<Vec<&'doc SelectionSet>, AllocError>
-    ensures { IfOk result (λ sets. HasFragments fragments.now.entries (lent_sets sets.items)) }
+    ensures { IfOk result (λ sets. lent_sets sets.items ≡ fragment_values fragments.now.entries) }
 {
     let mut sets = Vec::new(alloc);
     for (_, fragment) in fragments {
