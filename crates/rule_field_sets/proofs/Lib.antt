@@ -7,3 +7,4 @@ pub mod Reaching
 pub mod Meant
 pub mod Same
 pub mod Leading
+pub mod Plain

@@ -1,12 +1,13 @@
 -- Nodes that are made one by one, and put behind those that are there.
-use Rattle.std.proofs.Common.{◌≡◌, ◌∙◌, ℕ, ◌≤◌, List, [], ◌∷◌, ◌++◌, map, length, refl, sym, ap, subst, inl, inr, Contains}
+use Rattle.std.proofs.Common.{◌≡◌, ◌∙◌, ◌==◌, ℕ, suc, ◌≤◌, arith, Bool, true, false, true≢false, if◌then◌else◌, List, [], ◌∷◌, ◌++◌, map, length, refl, sym, ap, subst, inl, inr, Contains}
 use Rattle.std.specs.Prelude.{Option, Some, slice_get, option_map}
+use borrow.Author.Tests.{eqb-true}
 use Rattle.std.specs.Borrow.{Bor}
 use Rattle.std.specs.List.{AllZip}
 use Rattle.std.proofs.lemmas.List.{map-append, length-map}
 use Rattle.std.proofs.lemmas.List.Elements.{Contains-append_cases}
 use Rattle.std.proofs.lemmas.Option.{slice_get-map}
-use Rattle.schema_components.proofs.Places.{only, not_in_nil}
+use Rattle.schema_components.proofs.Places.{only, not_in_nil, Contains-first}
 use Rattle.document_typed_selections.specs.OwnFields.{field_nodes}
 use Rattle.document_typed_selections.specs.declared.selection.SelectionSet.{SelectionSet}
 use Rattle.rule_document_ground.specs.declared.field_selection.FieldSelection.{FieldSelection}
@@ -14,7 +15,7 @@ use Rattle.rule_field_sets.specs.declared.node.SetNode.{SetNode}
 use Rattle.rule_field_sets.specs.declared.numbers.Numbers.{Numbers}
 use Rattle.rule_field_sets.specs.declared.opened.Opened.{Opened}
 use Rattle.rule_field_sets.specs.Numbered.{set_eq, BeginsAs, IsNumberOf}
-use Rattle.rule_field_sets.specs.Kept.{NamedFragments, values_of, lent_sets, HasFragments, IsMember, IsKept, KeptNodes}
+use Rattle.rule_field_sets.specs.Kept.{NamedFragments, values_of, lent_sets, fragment_values, HasFragments, IsMember, IsKept, KeptNodes}
 use Rattle.rule_field_sets.specs.Making.{named_fragments, all_sets, Opens, Numbering, IsBegun, IsMade, AreMade}
 use Rattle.rule_field_sets.proofs.Lists.{begins_same, begins_next, begins_all, begins_map}
 use Rattle.rule_field_sets.proofs.Opening.{all_on, named_same, fragments_on, kept_on}
@@ -109,3 +110,28 @@ module _ (o p : Opened) (a b : Numbers) (nodes made new : List SetNode) (are : o
     where
       made_values : List SelectionSet
       made_values = values_of made
+
+-- put behind, or not
+pub kept_appended : (o p : Opened) (a b : Numbers) (nodes made new : List SetNode) → o.nodes.now ≡ nodes → Opens o p → Numbering a b → AreMade p b made → (put : Bool) → new ≡ (if put then nodes ++ made else nodes)
+    → HasFragments (named_fragments o) (values_of nodes ++ lent_sets o.sets.items) → KeptNodes (named_fragments o) a.fields.keys a.sets.keys nodes → KeptNodes (named_fragments o) b.fields.keys b.sets.keys new
+kept_appended o p a b nodes made new are opens grows all true is has h = kept_more o p a b nodes made new are opens grows all is has h
+kept_appended o p a b nodes made new are opens grows all false is has h =
+    subst (KeptNodes (named_fragments o) b.fields.keys b.sets.keys) (sym is) (kept_numbered (named_fragments o) a b nodes grows h)
+
+-- where there are nodes, the first are those of the fragments
+pub fragments_there : (es : NamedFragments) (fields : List FieldSelection) (sets : List (Bor SelectionSet)) (nodes : List SetNode) (n : ℕ) → n ≡ length nodes → (n == 0) ≡ false → KeptNodes es fields sets nodes → HasFragments es (values_of nodes)
+fragments_there es fields sets [] n long some h = absurd (true≢false (subst (λ k. (k == 0) ≡ false) long some))
+fragments_there es fields sets (x ∷ nodes) n long some h = h.fragments x (Contains-first x nodes x refl)
+
+-- where there are none, those that are put first are
+pub fragments_first : (es : NamedFragments) (nodes new : List SetNode) (sets : List (Bor SelectionSet)) → nodes ≡ [] → lent_sets sets ≡ fragment_values es → BeginsAs (values_of nodes ++ lent_sets sets) (values_of new) → HasFragments es (values_of new)
+fragments_first es nodes new sets none are begins =
+    fragments_on es (values_of nodes ++ lent_sets sets) (values_of new) begins
+    (λ k s e. ap (λ l. slice_get l k) (ap (λ l. values_of l ++ lent_sets sets) none ∙ are) ∙ e)
+
+pub no_nodes : (nodes : List SetNode) (n : ℕ) → n ≡ length nodes → (n == 0) ≡ true → nodes ≡ []
+no_nodes [] n long none = refl
+no_nodes (x ∷ nodes) n long none =
+    let nothing : n ≡ 0 = eqb-true n 0 none in
+    let all : n ≡ suc (length nodes) = long in
+    absurd (omega arith)

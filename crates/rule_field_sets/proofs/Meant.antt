@@ -1,10 +1,11 @@
 -- What is kept of nodes, said of what their sets mean.
-use Rattle.std.proofs.Common.{◌≡◌, ◌∙◌, ℕ, suc, Bool, true, false, List, [], ◌∷◌, ◌++◌, map, refl, sym, ap, subst, true≢false, Contains, inl, inr, if◌then◌else◌}
+use Rattle.std.proofs.Common.{◌≡◌, ◌∙◌, ℕ, suc, Bool, true, false, List, [], ◌∷◌, ◌++◌, map, length, refl, sym, ap, subst, true≢false, Contains, inl, inr, if◌then◌else◌}
 use Rattle.std.specs.Prelude.{Option, Some, None, is_some, not, option_map, option_to_list, slice_get, flat_map}
 use Rattle.std.specs.Borrow.{Bor}
 use Rattle.std.specs.List.{AllZip}
 use Rattle.std.specs.Map.{lookup}
 use Rattle.std.specs.Str.{bytes_eq}
+use Rattle.std.proofs.lemmas.List.{length-map}
 use Rattle.std.proofs.lemmas.Option.{slice_get-map}
 use Rattle.indexmap.specs.IndexMap.{IndexMap}
 use Rattle.graphql_names.specs.NameValue.{NameValue}
@@ -34,8 +35,10 @@ use Rattle.rule_document_ground.proofs.Found.{meant_node, found_under}
 use Rattle.rule_field_sets.specs.declared.node.Member.{Member}
 use Rattle.rule_field_sets.specs.declared.node.SetNode.{SetNode}
 use Rattle.rule_field_sets.specs.Own.{own_fields, filled, spread_set, spread_sets}
-use Rattle.rule_field_sets.specs.Kept.{values_of, set_in_field, set_in_fragment, fragment_value, and_spread, spread_values, IsBelow, IsMember, IsKept}
+use Rattle.rule_field_sets.specs.Numbered.{BeginsAs}
+use Rattle.rule_field_sets.specs.Kept.{values_of, lent_sets, set_in_field, set_in_fragment, fragment_value, and_spread, spread_values, IsBelow, IsMember, IsKept}
 use Rattle.rule_field_sets.specs.Nodes.{meant_at, member_field, set_of, IsNode}
+use Rattle.rule_field_sets.proofs.Lists.{seam, stands_on}
 
 abbrev Layer : Type 0
 Layer = Selection-F Selection Field InlineFragment SelectionSet
@@ -110,6 +113,15 @@ twice g f (Some x) = refl
 -- the set of a node at a place
 pub set_at : (nodes : List SetNode) (k : ℕ) → set_of nodes k ≡ option_map meant_value (slice_get (values_of nodes) k)
 set_at nodes k = sym (ap (option_map meant_value) (slice_get-map (λ (n : SetNode). n.set.now) nodes k) ∙ twice meant_value (λ (n : SetNode). n.set.now) (slice_get nodes k))
+
+-- the set of the node behind others
+pub placed : (old new : List SetNode) (sets : List (Bor SelectionSet)) (set : Bor SelectionSet) (at : ℕ) → at ≡ length old → sets ≡ set ∷ [] → BeginsAs (values_of old ++ lent_sets sets) (values_of new) → set_of new at ≡ Some (meant_value set.now)
+placed old new sets set at long one begins =
+    let here : slice_get (values_of old ++ lent_sets sets) at ≡ Some set.now =
+    ap (λ l. slice_get (values_of old ++ lent_sets l) at) one
+    ∙ ap (slice_get (values_of old ++ set.now ∷ [])) (long ∙ sym (length-map old (λ (n : SetNode). n.set.now)))
+    ∙ seam (values_of old) set.now [] in
+    set_at new at ∙ ap (option_map meant_value) (stands_on (values_of old ++ lent_sets sets) (values_of new) at set.now begins here)
 
 filled_so : (t : TypedSet Place) → filled (meant_of_set t) ≡ (if holds_none t then None else Some (meant_of_set t))
 filled_so (typed_set ty no_typed) = refl

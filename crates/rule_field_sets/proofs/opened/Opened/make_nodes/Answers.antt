@@ -1,5 +1,6 @@
-use Rattle.std.proofs.Common.{◌≡◌, ◌≤◌, length, arith}
+use Rattle.std.proofs.Common.{◌≡◌, ◌∙◌, ◌<◌, ◌≤◌, length, refl, subst, arith}
 use Rattle.std.specs.Prelude.{slice_get, Some}
+use Rattle.std.proofs.lemmas.Option.{slice_get_read}
 use Rattle.rule_field_sets.proofs.Opening.{opens_same, opens_on, numbering_same, numbering_on, fragments_opened}
 use Rattle.rule_field_sets.proofs.Making.{made_none, next_sets, next_each, made_all}
 use Rattle.rule_field_sets.proofs.opened.Opened.make_nodes.Goals as goal
@@ -23,7 +24,10 @@ loop-self-preserved c =
     let new = c.make_node.new.self in
     let there = c.index-set.ensures in
     let long = c.len-in-loop-self-2.ensures in
-    let at : slice_get old.sets.items (length c.loop-self.made.items) ≡ Some c.index-set.result.now = ? in
+    let within : c.len-in-loop-self-2.result < length old.sets.items = omega (arith, c.len.ensures, c.len-in-loop-self.ensures, long, old.sets.ok.0) in
+    let at : slice_get old.sets.items (length c.loop-self.made.items) ≡ Some c.index-set.result.now =
+    subst (λ k. slice_get old.sets.items k ≡ Some c.index-set.result.now) (long ∙ c.loop-self.made.ok.0)
+    (slice_get_read old.sets.items (length old.sets.items) c.len-in-loop-self-2.result c.index-set.result.now refl within there) in
     record {
       opens = opens_on c.args.self.now old new so_far.opens n.opens;
       grows = numbering_on c.args.numbers.now c.loop-self.numbers c.make_node.new.numbers so_far.grows n.grows;
@@ -37,3 +41,9 @@ returns-clause-made c =
     let so_far = c.loop-self.invariant in
     let long : length c.loop-self.self.sets.items ≤ length c.loop-self.made.items = omega (arith, c.len.ensures, c.len-in-loop-self.ensures) in
     made_all c.loop-self.self c.loop-self.numbers c.loop-self.made.items so_far.sets long so_far.each
+
+pub returns-in_err-node-clause-grows : goal.returns-in_err-node-clause-grows
+returns-in_err-node-clause-grows c = numbering_on c.args.numbers.now c.loop-self.numbers c.make_node.new.numbers c.loop-self.invariant.grows c.in_err-node.ensures.grows
+
+pub returns-in_err-push-clause-grows : goal.returns-in_err-push-clause-grows
+returns-in_err-push-clause-grows c = numbering_on c.args.numbers.now c.loop-self.numbers c.make_node.new.numbers c.loop-self.invariant.grows c.in_ok-node.ensures.grows
