@@ -1,17 +1,17 @@
 -- Spreads lead from node to node as they lead from set to set.
-use Rattle.std.proofs.Common.{◌≡◌, ◌↔◌, ◌∙◌, ℕ, List, map, refl, sym, ap, subst, Contains}
-use Rattle.std.specs.Prelude.{Option, Some, None, option_map, slice_get}
+use Rattle.std.proofs.Common.{◌≡◌, ◌↔◌, ◌∙◌, ℕ, List, refl, sym, ap, subst, Contains}
+use Rattle.std.specs.Prelude.{Some, option_map, slice_get}
 use Rattle.graphql_names.specs.Placed.{Place}
 use Rattle.schema_components.specs.Names.{Entries}
 use Rattle.document_walks.proofs.Finding.{some_is}
 use Rattle.document_meaning.specs.MeantTree.{MeantSet, MeantFragment}
 use Rattle.rule_document_definitions.specs.Selected.{StandingField}
-use Rattle.rule_document_definitions.specs.Reached.{Closed, first, next}
+use Rattle.rule_document_definitions.specs.Reached.{first, next}
 use Rattle.rule_document_definitions.proofs.Unplaced.{contains_map, contains_unmap}
 use Rattle.rule_field_sets.specs.declared.node.SetNode.{SetNode}
 use Rattle.rule_field_sets.specs.Own.{own_fields, spread_sets, IsSpreadFrom}
 use Rattle.rule_field_sets.specs.Laws.{HasOwnField, FieldsThroughNodes}
-use Rattle.rule_field_sets.specs.Nodes.{meant_at, member_field, set_of, AreNodes, LeadsTo, IsLedTo}
+use Rattle.rule_field_sets.specs.Nodes.{meant_at, set_of, AreNodes, LeadsTo, IsLedTo}
 use Rattle.rule_field_sets.proofs.Lists.{from_place}
 use Rattle.rule_field_sets.proofs.Reaching.{known, through_spreads}
 

@@ -4,12 +4,11 @@ use Rattle.std.specs.Prelude.{Option, Some, None, option_map, slice_get}
 use Rattle.std.specs.List.{AllZip, list_any}
 use Rattle.std.proofs.lemmas.List.{map-append, take_more, get_or_append_left}
 use Rattle.std.proofs.lemmas.Option.{slice_get_within, get_or_from_slice_get, slice_get-get_or}
-use Rattle.std.proofs.lemmas.List.Elements.{Contains-append_left, Contains-append_right, Contains-append_cases}
 use Rattle.std.proofs.Math.Seq.{get_or-append_seam}
 use Rattle.std.proofs.lemmas.Bool.{cases_lt}
 use Rattle.indexmap.specs.IndexSet.{insert_key}
-use Rattle.schema_components.proofs.Places.{not_in_nil, Contains-cons, Contains-first, Contains-rest}
-use Rattle.rule_field_sets.specs.Numbered.{BeginsAs, IsNumberOf, AreApart, Grows}
+use Rattle.schema_components.proofs.Places.{not_in_nil, Contains-cons}
+use Rattle.rule_field_sets.specs.Numbered.{BeginsAs, IsNumberOf, Grows}
 
 -- ---- places
 

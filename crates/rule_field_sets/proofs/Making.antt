@@ -1,6 +1,6 @@
 -- Nodes that are made one by one, and put behind those that are there.
 use Rattle.std.proofs.Common.{◌≡◌, ◌∙◌, ◌==◌, ℕ, suc, ◌≤◌, arith, Bool, true, false, true≢false, if◌then◌else◌, List, [], ◌∷◌, ◌++◌, map, length, refl, sym, ap, subst, inl, inr, Contains}
-use Rattle.std.specs.Prelude.{Option, Some, slice_get, option_map}
+use Rattle.std.specs.Prelude.{Some, slice_get, option_map}
 use borrow.Author.Tests.{eqb-true}
 use Rattle.std.specs.Borrow.{Bor}
 use Rattle.std.specs.List.{AllZip}
@@ -8,7 +8,6 @@ use Rattle.std.proofs.lemmas.List.{map-append, length-map}
 use Rattle.std.proofs.lemmas.List.Elements.{Contains-append_cases}
 use Rattle.std.proofs.lemmas.Option.{slice_get-map}
 use Rattle.schema_components.proofs.Places.{only, not_in_nil, Contains-first}
-use Rattle.document_typed_selections.specs.OwnFields.{field_nodes}
 use Rattle.document_typed_selections.specs.declared.selection.SelectionSet.{SelectionSet}
 use Rattle.rule_document_ground.specs.declared.field_selection.FieldSelection.{FieldSelection}
 use Rattle.rule_field_sets.specs.declared.node.SetNode.{SetNode}

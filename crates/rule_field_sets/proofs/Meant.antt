@@ -1,6 +1,6 @@
 -- What is kept of nodes, said of what their sets mean.
 use Rattle.std.proofs.Common.{◌≡◌, ◌∙◌, ℕ, suc, Bool, true, false, List, [], ◌∷◌, ◌++◌, map, length, refl, sym, ap, subst, true≢false, Contains, inl, inr, if◌then◌else◌}
-use Rattle.std.specs.Prelude.{Option, Some, None, is_some, not, option_map, option_to_list, slice_get, flat_map}
+use Rattle.std.specs.Prelude.{Option, Some, None, not, option_map, option_to_list, slice_get, flat_map}
 use Rattle.std.specs.Borrow.{Bor}
 use Rattle.std.specs.List.{AllZip}
 use Rattle.std.specs.Map.{lookup}
@@ -10,7 +10,7 @@ use Rattle.std.proofs.lemmas.Option.{slice_get-map}
 use Rattle.indexmap.specs.IndexMap.{IndexMap}
 use Rattle.graphql_names.specs.NameValue.{NameValue}
 use Rattle.graphql_names.specs.Node.{content, place}
-use Rattle.graphql_names.specs.Placed.{Place, name_tree}
+use Rattle.graphql_names.specs.Placed.{Place}
 use Rattle.graphql_names.specs.declared.node.Node.{Node}
 use Rattle.schema_components.proofs.Places.{not_in_nil, Contains-cons}
 use Rattle.schema_types.specs.Addresses.{under}
@@ -28,7 +28,7 @@ use Rattle.document_typed_selections.specs.declared.selection.SelectionSet.{Sele
 use Rattle.document_typed_selections.proofs.TypedTrees.{tree_here, typed_selection_tree_out, typed_set_tree_out}
 use Rattle.document_typed_operations.specs.declared.operation.Fragment.{Fragment}
 use Rattle.document_meaning.specs.MeantTree.{MeantSet, MeantFragment, meant, meant_of_set, meant_of_all}
-use Rattle.rule_document_definitions.specs.Selected.{Position, InOperation, StandingField, field_there, stand}
+use Rattle.rule_document_definitions.specs.Selected.{InOperation, StandingField, field_there, stand}
 use Rattle.rule_document_ground.specs.declared.field_selection.FieldSelection.{FieldSelection}
 use Rattle.rule_document_ground.specs.Fields.{meant_fragments}
 use Rattle.rule_document_ground.proofs.Found.{meant_node, found_under}
@@ -37,7 +37,7 @@ use Rattle.rule_field_sets.specs.declared.node.SetNode.{SetNode}
 use Rattle.rule_field_sets.specs.Own.{own_fields, filled, spread_set, spread_sets}
 use Rattle.rule_field_sets.specs.Numbered.{BeginsAs}
 use Rattle.rule_field_sets.specs.Kept.{values_of, lent_sets, set_in_field, set_in_fragment, fragment_value, and_spread, spread_values, IsBelow, IsMember, IsKept}
-use Rattle.rule_field_sets.specs.Nodes.{meant_at, member_field, set_of, IsNode}
+use Rattle.rule_field_sets.specs.Nodes.{member_field, set_of, IsNode}
 use Rattle.rule_field_sets.proofs.Lists.{seam, stands_on}
 
 abbrev Layer : Type 0

@@ -1,5 +1,5 @@
 -- Sets that are opened, and what grows with them.
-use Rattle.std.proofs.Common.{◌≡◌, ◌∙◌, ℕ, ◌+◌, List, [], ◌∷◌, ◌++◌, map, length, refl, sym, ap, subst, length-append, append_assoc, Contains}
+use Rattle.std.proofs.Common.{◌≡◌, ◌∙◌, ℕ, ◌+◌, List, [], ◌∷◌, ◌++◌, length, refl, sym, ap, subst, length-append, append_assoc}
 use Rattle.std.specs.Prelude.{Option, Some, slice_get}
 use Rattle.std.specs.Borrow.{Bor}
 use Rattle.std.proofs.lemmas.List.{map-append, length-map}
@@ -13,7 +13,7 @@ use Rattle.rule_field_sets.specs.declared.node.Member.{Member}
 use Rattle.rule_field_sets.specs.declared.node.SetNode.{SetNode}
 use Rattle.rule_field_sets.specs.declared.numbers.Numbers.{Numbers}
 use Rattle.rule_field_sets.specs.declared.opened.Opened.{Opened}
-use Rattle.rule_field_sets.specs.Numbered.{field_eq, set_eq, BeginsAs, Grows}
+use Rattle.rule_field_sets.specs.Numbered.{field_eq, set_eq, BeginsAs}
 use Rattle.rule_field_sets.specs.Kept.{NamedFragments, values_of, lent_sets, set_in_field, spread_values, HasFragments, IsBelow, IsMember, IsSoFar, IsKept}
 use Rattle.rule_field_sets.specs.Making.{named_fragments, all_sets, Opens, Numbering}
 use Rattle.rule_field_sets.proofs.Lists.{seam, stands_on, begins_same, begins_on, begins_behind, begins_map, grows_same, grows_on, number_on, zip_on, values_on}

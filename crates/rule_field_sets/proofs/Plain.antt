@@ -4,7 +4,7 @@ use Rattle.std.specs.Prelude.{Option, Some, None, option_map, option_to_list, fl
 use Rattle.std.proofs.lemmas.List.{map-append}
 use Rattle.schema_components.specs.Names.{Entries}
 use Rattle.schema_types.specs.Addresses.{under}
-use Rattle.document_meaning.specs.MeantTree.{MeantSelection, MeantField, MeantSpread, MeantInline, MeantSet, meant_set, MeantSelections, no_meant, meant_then, MeantFragment}
+use Rattle.document_meaning.specs.MeantTree.{MeantSelection, MeantField, MeantSpread, MeantInline, MeantSet, meant_set, no_meant, meant_then, MeantFragment}
 use Rattle.document_meaning.specs.Unplaced.{unplaced_meant, unplaced_set, unplaced_fragment}
 use Rattle.rule_document_definitions.specs.Selected.{InOperation, Standing, field_there, standing_in}
 use Rattle.rule_document_definitions.specs.Contents.{unplaced_content}

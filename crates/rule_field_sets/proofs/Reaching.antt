@@ -1,13 +1,13 @@
 -- The fields that a set has through fragments are the own fields of the sets that spreads lead to.
-use Rattle.std.proofs.Common.{◌≡◌, ◌↔◌, ◌∙◌, ℕ, suc, List, [], ◌∷◌, refl, ap, sym, subst, inl, inr, Contains, true≢false}
+use Rattle.std.proofs.Common.{◌≡◌, ◌↔◌, ◌∙◌, ℕ, suc, List, refl, ap, sym, subst, inl, inr, Contains, true≢false}
 use Rattle.std.specs.Prelude.{Option, Some, None, is_some, option_map, option_to_list}
 use Rattle.schema_components.specs.Names.{Entries}
 use Rattle.schema_components.proofs.Places.{not_in_nil, only, is_only, Contains-cons, Contains-first, Contains-rest}
 use Rattle.document_walks.proofs.Finding.{some_is}
 use Rattle.document_walks.proofs.WalkLaws.{from_one, to_all}
 use Rattle.document_meaning.specs.MeantTree.{MeantSelection, MeantField, MeantSpread, MeantInline, MeantSet, meant_set, MeantSelections, no_meant, meant_then, MeantFragment, MeantDocument}
-use Rattle.rule_document_definitions.specs.Selected.{Position, InOperation, InFragment, SelectionAt, Standing, StandingField, stand, standing_in, in_inline, spread_name, field_there, as_field, fragment_named, held}
-use Rattle.rule_document_definitions.specs.Reached.{Closed, first, next, InFragmentOf, IsFieldOf}
+use Rattle.rule_document_definitions.specs.Selected.{Position, InOperation, InFragment, SelectionAt, Standing, StandingField, stand, standing_in, field_there, as_field, fragment_named}
+use Rattle.rule_document_definitions.specs.Reached.{Closed, first, next, InFragmentOf}
 use Rattle.rule_document_definitions.specs.Contents.{content}
 use Rattle.rule_field_sets.specs.Own.{own_fields, spread_set, spread_sets, IsSpreadFrom}
 use Rattle.rule_field_sets.specs.Laws.{HasField, HasOwnField}

@@ -1,6 +1,6 @@
 -- Numbers say whether fields and sets say the same.
-use Rattle.std.proofs.Common.{◌≡◌, ◌↔◌, ◌∙◌, ℕ, Bool, true, List, refl, sym, ap, Contains}
-use Rattle.std.specs.Prelude.{Some, slice_get}
+use Rattle.std.proofs.Common.{◌≡◌, ◌↔◌, ◌∙◌, ℕ, Bool, true, List, refl, sym, ap}
+use Rattle.std.specs.Prelude.{slice_get}
 use Rattle.std.specs.Borrow.{Bor}
 use Rattle.indexmap.specs.IndexMap.{IndexMap}
 use Rattle.graphql_names.specs.NameValue.{NameValue}
@@ -17,11 +17,10 @@ use Rattle.document_meaning.specs.Unplaced.{unplaced_meant, unplaced_set, unplac
 use Rattle.rule_document_ground.specs.declared.field_selection.FieldSelection.{FieldSelection}
 use Rattle.rule_document_ground.specs.Fields.{meant_fragments, content_of}
 use Rattle.rule_document_ground.proofs.ContentEquality.{selection_eq-Decides}
-use Rattle.rule_field_sets.specs.declared.node.Member.{Member}
 use Rattle.rule_field_sets.specs.declared.node.SetNode.{SetNode}
 use Rattle.rule_field_sets.specs.Numbered.{field_eq, set_eq, IsNumberOf, AreApart}
 use Rattle.rule_field_sets.specs.Kept.{values_of, KeptNodes}
-use Rattle.rule_field_sets.specs.Nodes.{meant_at, AreNodes}
+use Rattle.rule_field_sets.specs.Nodes.{AreNodes}
 use Rattle.rule_field_sets.proofs.Lists.{number_stands}
 use Rattle.rule_field_sets.proofs.Meant.{meant_value, member_of, node_so}
 

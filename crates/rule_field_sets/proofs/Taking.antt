@@ -1,5 +1,5 @@
 -- The selections of a set, taken one by one.
-use Rattle.std.proofs.Common.{◌≡◌, ◌∙◌, ℕ, Bool, true, false, List, [], ◌∷◌, ◌++◌, map, refl, sym, ap, subst, append-nil, append_assoc}
+use Rattle.std.proofs.Common.{◌≡◌, ◌∙◌, ℕ, true, false, List, [], ◌∷◌, ◌++◌, map, refl, sym, ap, subst, append-nil, append_assoc}
 use Rattle.std.specs.Prelude.{Option, Some, None, is_some, option_map, option_to_list, slice_get, Vec}
 use Rattle.std.specs.List.{AllZip}
 use Rattle.std.specs.Map.{lookup}
@@ -22,7 +22,7 @@ use Rattle.rule_document_ground.specs.declared.field_selection.FieldSelection.{F
 use Rattle.rule_field_sets.specs.declared.node.Member.{Member}
 use Rattle.rule_field_sets.specs.declared.node.SetNode.{SetNode}
 use Rattle.rule_field_sets.specs.Numbered.{BeginsAs}
-use Rattle.rule_field_sets.specs.Kept.{NamedFragments, set_in_fragment, fragment_values, fragment_value, and_spread, spread_values, HasFragments, IsMember, IsSoFar}
+use Rattle.rule_field_sets.specs.Kept.{NamedFragments, set_in_fragment, fragment_value, and_spread, spread_values, HasFragments, IsMember, IsSoFar}
 use Rattle.rule_field_sets.proofs.Lists.{zip_push, values_push}
 use Rattle.rule_field_sets.proofs.Opening.{so_far_on}
 
@@ -59,10 +59,15 @@ found_some es n (Some f) e h = (f, (refl, ap (option_map set_in_fragment) e))
 pub found_place : (es : NamedFragments) (all : List SelectionSet) (n : List ℕ) (k : ℕ) → HasFragments es all → true ≡ is_some (lookup (λ k. bytes_eq n k.text) es)
     → slice_get (map (λ e. e.1) es) k ≡ lookup (λ k. bytes_eq n k.text) es → (s : SelectionSet) × ((fragment_value es n ≡ Some s) × (slice_get all k ≡ Some s))
 found_place es all n k has found at =
-    let f = found_some es n (lookup (λ k. bytes_eq n k.text) es) refl (sym found) in
-    (set_in_fragment f.0, (f.1.1, has k (set_in_fragment f.0)
-    (slice_get-map (λ (e : NameValue × Node Fragment). set_in_fragment e.1) es k
-    ∙ back (slice_get es k) f.0 (sym (slice_get-map (λ (e : NameValue × Node Fragment). e.1) es k) ∙ at ∙ f.1.0))))
+    let f = found_some es n (lookup (λ k. bytes_eq n k.text) es) refl (sym found) in (
+      set_in_fragment f.0,
+      (
+        f.1.1,
+        has k (set_in_fragment f.0)
+            (slice_get-map (λ (e : NameValue × Node Fragment). set_in_fragment e.1) es k
+            ∙ back (slice_get es k) f.0 (sym (slice_get-map (λ (e : NameValue × Node Fragment). e.1) es k) ∙ at ∙ f.1.0)),
+      ),
+    )
   where
     back : (o : Option (NameValue × Node Fragment)) (f : Node Fragment) → option_map (λ e. e.1) o ≡ Some f → option_map (λ e. set_in_fragment e.1) o ≡ Some (set_in_fragment f)
     back None f h = cc

@@ -1,5 +1,5 @@
 -- Private: leads to `AreNodes`. What is kept of nodes: equations on the values that they lend, so that there is one proof of each.
-use Rattle.std.specs.Prelude.{◌≡◌, ◌++◌, ℕ, Bool, not, List, [], ◌∷◌, map, Option, Some, is_some, option_map, option_to_list, slice_get, Contains}
+use Rattle.std.specs.Prelude.{◌≡◌, ◌++◌, ℕ, not, List, [], ◌∷◌, map, Option, Some, is_some, option_map, option_to_list, slice_get, Contains}
 use Rattle.std.specs.Borrow.{Bor}
 use Rattle.std.specs.List.{AllZip}
 use Rattle.std.specs.Map.{lookup}

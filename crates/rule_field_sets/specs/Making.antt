@@ -1,6 +1,5 @@
 -- Private: leads to `AreNodes`. Nodes while they are made.
-use Rattle.std.specs.Prelude.{◌≡◌, ◌++◌, ◌∷◌, [], List, Contains, Vec}
-use Rattle.std.specs.declared.alloc.Global.{Global}
+use Rattle.std.specs.Prelude.{◌≡◌, ◌++◌, ◌∷◌, [], List, Contains}
 use Rattle.document_typed_selections.specs.declared.selection.Selection.{Selection}
 use Rattle.document_typed_selections.specs.declared.selection.SelectionSet.{SelectionSet}
 use Rattle.rule_field_sets.specs.declared.node.SetNode.{SetNode}

@@ -1,5 +1,5 @@
 -- Private: leads to `AreNodes`. Numbers of what says the same: places in a list in which nothing that says the same stands twice.
-use Rattle.std.specs.Prelude.{◌≡◌, ◌++◌, ℕ, Bool, true, List, Option, Some, option_map, slice_get}
+use Rattle.std.specs.Prelude.{◌≡◌, ◌++◌, ℕ, Bool, true, List, Some, option_map, slice_get}
 use Rattle.std.specs.Borrow.{Bor}
 use Rattle.document_typed_selections.specs.declared.selection.SelectionSet.{SelectionSet}
 use Rattle.document_typed_selections.specs.contracts.selection.SelectionSetPartialEq.TheImpl as set

@@ -1,5 +1,5 @@
 -- Private: what is kept of nodes has one proof at most, since it is equations on values that have codes.
-use Rattle.std.specs.Prelude.{◌≡◌, ℕ, Bool, List, [], ◌∷◌, Option, Vec, slice_get, unwrap_or, refl}
+use Rattle.std.specs.Prelude.{ℕ, List, [], ◌∷◌, Option, Vec, slice_get, unwrap_or, refl}
 use Rattle.std.specs.Borrow.{Bor}
 use Rattle.std.specs.Coded.{Coded, Coded-set, coded_list, coded_option, coded_ℕ, coded_bool}
 use base.Stored.{coded_via}

@@ -3,7 +3,7 @@ use Rattle.std.specs.Prelude.{◌≡◌, List, Option, None, Some, option_map, o
 use Rattle.std.specs.List.{flat_map}
 use Rattle.schema_components.specs.Names.{Entries}
 use Rattle.schema_types.specs.Addresses.{under}
-use Rattle.document_meaning.specs.MeantTree.{MeantSelection, MeantField, MeantSpread, MeantInline, MeantSet, meant_set, MeantSelections, no_meant, meant_then, MeantFragment}
+use Rattle.document_meaning.specs.MeantTree.{MeantSelection, MeantField, MeantSpread, MeantInline, MeantSet, meant_set, no_meant, meant_then, MeantFragment}
 use Rattle.rule_document_definitions.specs.Selected.{InOperation, StandingField, field_there, standing_in}
 use Rattle.rule_document_definitions.specs.Reached.{Closed}
 

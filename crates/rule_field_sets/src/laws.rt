@@ -9,9 +9,7 @@ use crate::field_sets::FieldSets;
 /// spreads itself; sets and fields have one number exactly where they say the same.
 pub fn are_nodes(sets: &FieldSets<'_>)
     ensures { AreNodes (fragments_of sets.now) (nodes_of sets.now) }
-{
-    let _sets = sets;
-}
+{}
 
 /// A field is one of a set, through fragments, exactly if it is one of the own fields of a set that spreads lead to from it.
 pub fn fields_through_spreads()
@@ -21,6 +19,4 @@ pub fn fields_through_spreads()
 /// It is so exactly if it is one of a node that spreads lead to from the node of the set.
 pub fn fields_through_nodes(sets: &FieldSets<'_>)
     ensures { FieldsThroughNodes (fragments_of sets.now) (nodes_of sets.now) }
-{
-    let _sets = sets;
-}
+{}

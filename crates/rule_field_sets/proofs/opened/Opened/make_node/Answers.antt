@@ -1,7 +1,7 @@
-use Rattle.std.proofs.Common.{◌≡◌, ◌∙◌, ◌<◌, length, take, refl, sym, ap, subst, arith}
+use Rattle.std.proofs.Common.{◌∙◌, ◌<◌, length, take, refl, sym, subst, arith}
 use Rattle.std.proofs.lemmas.List.{take_all}
 use Rattle.rule_field_sets.specs.Numbered.{set_eq, IsNumberOf}
-use Rattle.rule_field_sets.specs.Making.{named_fragments, all_sets, IsBegun}
+use Rattle.rule_field_sets.specs.Making.{IsBegun}
 use Rattle.rule_field_sets.proofs.Lists.{taken_more, number_on}
 use Rattle.rule_field_sets.proofs.Opening.{opens_same, opens_on, numbering_on, fragments_opened}
 use Rattle.rule_field_sets.proofs.Making.{begun_empty, made_one}

@@ -1,4 +1,4 @@
-use Rattle.std.proofs.Common.{◌≡◌, ◌∙◌, ◌++◌, ◌∷◌, [], refl, sym, ap, subst}
+use Rattle.std.proofs.Common.{◌∙◌, ◌++◌, ◌∷◌, [], refl, sym, ap, subst}
 use Rattle.std.specs.Prelude.{option_to_list}
 use Rattle.document_typed_selections.specs.declared.selection.FragmentSpread.{FragmentSpread}
 use Rattle.document_typed_selections.specs.declared.selection.InlineFragment.{InlineFragment}
