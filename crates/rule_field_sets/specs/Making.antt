@@ -31,8 +31,8 @@ abbrev pub IsBegun : Opened → Numbers → List Selection → SetNode → Type 
 IsBegun o numbers taken node = IsSoFar (all_sets o) numbers.fields.keys (named_fragments o) taken node
 
 -- and then of one more
-abbrev pub TakesSelection : Opened → Opened → Numbers → Numbers → SetNode → SetNode → Selection → Type 0
-TakesSelection before after old new begun node s =
+abbrev pub AddsSelection : Opened → Opened → Numbers → Numbers → SetNode → SetNode → Selection → Type 0
+AddsSelection before after old new begun node s =
     (taken : List Selection) → HasFragments (named_fragments before) (all_sets before) → IsBegun before old taken begun → IsBegun after new (taken ++ s ∷ []) node
 
 -- the node is that of the set

@@ -1,7 +1,7 @@
 //! Sets whose nodes are made.
 ghost use Rattle.std.specs.Prelude.{◌≡◌, Some, slice_get, IfOk, OnOk};
 ghost use Rattle.rule_field_sets.specs.Kept.{IsBelow, IsMember, HasFragments};
-ghost use Rattle.rule_field_sets.specs.Making.{named_fragments, all_sets, Opens, Numbering, TakesSelection, IsMade, AreMade};
+ghost use Rattle.rule_field_sets.specs.Making.{named_fragments, all_sets, Opens, Numbering, AddsSelection, IsMade, AreMade};
 
 use crate::node::{Member, SetNode};
 use crate::numbers::Numbers;
@@ -70,13 +70,13 @@ impl<'nodes, 'doc> Opened<'nodes, 'doc> {
     }
 
     /// Adds a selection to the node of the set in which it stands: a field, or the place to which it leads, if there is one.
-    fn take(
+    fn add_selection(
         &mut self,
         selection: &'doc Selection,
         node: &mut SetNode<'doc>,
         numbers: &mut Numbers<'doc>,
     ) -> Result<(), AllocError>
-        ensures taken { OnOk result (TakesSelection self.old self.new numbers.old numbers.new node.old node.new selection.now) }
+        ensures added { OnOk result (AddsSelection self.old self.new numbers.old numbers.new node.old node.new selection.now) }
         ensures opens { OnOk result (Opens self.old self.new) }
         ensures grows { Numbering numbers.old numbers.new }
         ensures set { node.new.set ≡ node.old.set }
@@ -122,7 +122,7 @@ impl<'nodes, 'doc> Opened<'nodes, 'doc> {
             spreads: Vec::new(alloc),
         };
         for selection in &set.selections {
-            self.take(selection, &mut node, numbers)?;
+            self.add_selection(selection, &mut node, numbers)?;
         }
         Ok(node)
     }

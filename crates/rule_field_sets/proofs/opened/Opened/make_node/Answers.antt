@@ -21,24 +21,24 @@ loop-selection-init c = record {
 pub loop-selection-preserved : goal.loop-selection-preserved
 loop-selection-preserved c =
     let so_far = c.loop-selection.invariant in
-    let t = c.in_ok-take.ensures in
+    let t = c.in_ok-add_selection.ensures in
     let i = c.loop-selection.selection-index in
     let within : i < length c.deref-selection-items.result.now = omega arith in
     record {
       items = so_far.items;
-      opens = opens_on c.args.self.now c.loop-selection.self c.take.new.self so_far.opens t.opens;
-      grows = numbering_on c.args.numbers.now c.loop-selection.numbers c.take.new.numbers so_far.grows t.grows;
-      fragments = fragments_opened c.loop-selection.self c.take.new.self t.opens so_far.fragments;
+      opens = opens_on c.args.self.now c.loop-selection.self c.add_selection.new.self so_far.opens t.opens;
+      grows = numbering_on c.args.numbers.now c.loop-selection.numbers c.add_selection.new.numbers so_far.grows t.grows;
+      fragments = fragments_opened c.loop-selection.self c.add_selection.new.self t.opens so_far.fragments;
       set = t.set ∙ so_far.set;
-      number = subst (λ s. IsNumberOf set_eq c.take.new.numbers.sets.keys s c.take.new.node.number) (sym t.set)
-          (subst (IsNumberOf set_eq c.take.new.numbers.sets.keys c.loop-selection.node.set) (sym t.number)
-          (number_on set_eq c.loop-selection.numbers.sets.keys c.take.new.numbers.sets.keys c.loop-selection.node.set c.loop-selection.node.number t.grows.sets.begins so_far.number));
-      begun = subst (λ l. IsBegun c.take.new.self c.take.new.numbers l c.take.new.node) (sym (taken_more c.deref-selection-items.result.now i c.selection-item.result within c.selection-item.is))
-          (t.taken (take i c.deref-selection-items.result.now) so_far.fragments so_far.begun);
+      number = subst (λ s. IsNumberOf set_eq c.add_selection.new.numbers.sets.keys s c.add_selection.new.node.number) (sym t.set)
+          (subst (IsNumberOf set_eq c.add_selection.new.numbers.sets.keys c.loop-selection.node.set) (sym t.number)
+          (number_on set_eq c.loop-selection.numbers.sets.keys c.add_selection.new.numbers.sets.keys c.loop-selection.node.set c.loop-selection.node.number t.grows.sets.begins so_far.number));
+      begun = subst (λ l. IsBegun c.add_selection.new.self c.add_selection.new.numbers l c.add_selection.new.node) (sym (taken_more c.deref-selection-items.result.now i c.selection-item.result within c.selection-item.is))
+          (t.added (take i c.deref-selection-items.result.now) so_far.fragments so_far.begun);
     }
 
-pub returns-in_err-take-clause-grows : goal.returns-in_err-take-clause-grows
-returns-in_err-take-clause-grows c = numbering_on c.args.numbers.now c.loop-selection.numbers c.take.new.numbers c.loop-selection.invariant.grows c.in_err-take.ensures.grows
+pub returns-in_err-add_selection-clause-grows : goal.returns-in_err-add_selection-clause-grows
+returns-in_err-add_selection-clause-grows c = numbering_on c.args.numbers.now c.loop-selection.numbers c.add_selection.new.numbers c.loop-selection.invariant.grows c.in_err-add_selection.ensures.grows
 
 pub returns-clause-made : goal.returns-clause-made
 returns-clause-made c =

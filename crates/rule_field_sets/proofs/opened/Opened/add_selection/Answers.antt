@@ -9,10 +9,10 @@ use Rattle.rule_field_sets.specs.Making.{named_fragments, all_sets}
 use Rattle.rule_field_sets.proofs.Lists.{begins_same}
 use Rattle.rule_field_sets.proofs.Opening.{all_on, named_same}
 use Rattle.rule_field_sets.proofs.Taking.{found_place, found_none, takes_field, takes_place, takes_nothing}
-use Rattle.rule_field_sets.proofs.opened.Opened.take.Goals as goal
+use Rattle.rule_field_sets.proofs.opened.Opened.add_selection.Goals as goal
 
-pub returns-in_ok-push-in-Field-clause-taken : goal.returns-in_ok-push-in-Field-clause-taken
-returns-in_ok-push-in-Field-clause-taken c taken has before =
+pub returns-in_ok-push-in-Field-clause-added : goal.returns-in_ok-push-in-Field-clause-added
+returns-in_ok-push-in-Field-clause-added c taken has before =
     let o = c.args.self.now in
     let p = c.member.new.self in
     let m = c.in_ok-member-in-Field in
@@ -20,9 +20,9 @@ returns-in_ok-push-in-Field-clause-taken c taken has before =
     (takes_field (all_sets o) (all_sets p) (all_on o p m.ensures.opens) c.args.numbers.now.fields.keys c.member.new.numbers.fields.keys m.ensures.grows.fields.begins (named_fragments o) taken c.args.node.now c.args.selection.now before
     c.in-Field.field m.member c.push.new.self c.in-Field.is m.ensures.member c.in_ok-push-in-Field.ensures.items)
 
-pub returns-in_ok-push-in-FragmentSpread-clause-taken : goal.returns-in_ok-push-in-FragmentSpread-clause-taken
+pub returns-in_ok-push-in-FragmentSpread-clause-added : goal.returns-in_ok-push-in-FragmentSpread-clause-added
 unfolding out-Selection denote.Hole.Carrier.out
-returns-in_ok-push-in-FragmentSpread-clause-taken c taken has before =
+returns-in_ok-push-in-FragmentSpread-clause-added c taken has before =
     let o = c.args.self.now in
     let keys = c.args.numbers.now.fields.keys in
     let name = c.content.result.now.fragment_name.text in
@@ -32,9 +32,9 @@ returns-in_ok-push-in-FragmentSpread-clause-taken c taken has before =
     (ap (λ (s : FragmentSpread). option_to_list (fragment_value (named_fragments o) s.fragment_name.text) ++ []) (sym c.content.ensures) ∙ ap (λ v. option_to_list v ++ []) f.1.0)
     f.1.1 c.in_ok-push-in-FragmentSpread.ensures.items
 
-pub returns-in_default-clause-taken : goal.returns-in_default-clause-taken
+pub returns-in_default-clause-added : goal.returns-in_default-clause-added
 unfolding out-Selection denote.Hole.Carrier.out
-returns-in_default-clause-taken c taken has before =
+returns-in_default-clause-added c taken has before =
     let o = c.args.self.now in
     let keys = c.args.numbers.now.fields.keys in
     let name = c.content.result.now.fragment_name.text in
@@ -43,8 +43,8 @@ returns-in_default-clause-taken c taken has before =
     (ap (λ (s : FragmentSpread). option_to_list (fragment_value (named_fragments o) s.fragment_name.text) ++ []) (sym c.content.ensures)
     ∙ ap (λ v. option_to_list v ++ []) (found_none (named_fragments o) name c.in_default.ensures.found))
 
-pub returns-in_ok-push-in-InlineFragment-clause-taken : goal.returns-in_ok-push-in-InlineFragment-clause-taken
-returns-in_ok-push-in-InlineFragment-clause-taken c taken has before =
+pub returns-in_ok-push-in-InlineFragment-clause-added : goal.returns-in_ok-push-in-InlineFragment-clause-added
+returns-in_ok-push-in-InlineFragment-clause-added c taken has before =
     let o = c.args.self.now in
     let p = c.open.new.self in
     let keys = c.args.numbers.now.fields.keys in
