@@ -17,23 +17,13 @@ use std::alloc::{AllocError, Global};
 
 /// The selection sets that were added, all that stand in them, and those of the fragments of a document, as nodes with
 /// numbers. A node stays where it is and as it is.
+#[derive(Drop)]
 pub struct FieldSets<'doc> {
     alloc: Global,
     fragments: &'doc FragmentMap,
     numbers: Numbers<'doc>,
     nodes: Vec<SetNode<'doc>>,
     ghost kept: { KeptNodes fragments.now.entries numbers.fields.keys numbers.sets.keys nodes.items } by { KeptNodes-prop nodes-code fragments.now.entries numbers.fields.keys numbers.sets.keys nodes },
-}
-
-impl Drop for FieldSets<'_> {
-    fn drop(self) {
-        let FieldSets {
-            alloc: _,
-            fragments: _,
-            numbers: _,
-            nodes: _,
-        } = self;
-    }
 }
 
 impl<'doc> FieldSets<'doc> {

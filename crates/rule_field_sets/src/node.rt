@@ -4,6 +4,7 @@ use document_typed_selections::SelectionSet;
 use rule_document_ground::FieldSelection;
 
 /// A field of a set.
+#[derive(Drop)]
 pub struct Member<'doc> {
     /// The field, and the type of its set.
     pub selection: FieldSelection<'doc>,
@@ -13,17 +14,8 @@ pub struct Member<'doc> {
     pub below: Option<usize>,
 }
 
-impl Drop for Member<'_> {
-    fn drop(self) {
-        let Member {
-            selection: _,
-            number: _,
-            below: _,
-        } = self;
-    }
-}
-
 /// A selection set.
+#[derive(Drop)]
 pub struct SetNode<'doc> {
     /// The set, where it stands.
     pub set: &'doc SelectionSet,
@@ -34,15 +26,4 @@ pub struct SetNode<'doc> {
     /// The nodes of the sets of its inline fragments and of the fragments that it spreads, in the order of the text. A
     /// fragment that the document does not have is left out.
     pub spreads: Vec<usize>,
-}
-
-impl Drop for SetNode<'_> {
-    fn drop(self) {
-        let SetNode {
-            set: _,
-            number: _,
-            fields: _,
-            spreads: _,
-        } = self;
-    }
 }

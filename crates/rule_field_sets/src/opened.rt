@@ -11,20 +11,11 @@ use rule_document_ground::FieldSelection;
 use std::alloc::AllocError;
 
 /// Sets that get nodes behind those that are there, in this order. The first of all nodes are those of the fragments.
+#[derive(Drop)]
 pub(crate) struct Opened<'nodes, 'doc> {
     pub(crate) fragments: &'doc FragmentMap,
     pub(crate) nodes: &'nodes [SetNode<'doc>],
     pub(crate) sets: Vec<&'doc SelectionSet>,
-}
-
-impl Drop for Opened<'_, '_> {
-    fn drop(self) {
-        let Opened {
-            fragments: _,
-            nodes: _,
-            sets: _,
-        } = self;
-    }
 }
 
 impl<'nodes, 'doc> Opened<'nodes, 'doc> {
