@@ -8,3 +8,4 @@ pub mod Meant
 pub mod Same
 pub mod Leading
 pub mod Plain
+pub mod Always

@@ -6,7 +6,8 @@
 //! that spreads lead to from its own (`laws::fields_through_spreads`).
 //!
 //! For the layer above: `add_set` gives the node of a set, `node` what is in it; `AreNodes` of `specs/Nodes.antt` says what
-//! holds of all nodes at any time (`laws::are_nodes`). The meant fields and sets are those of `specs/Own.antt`.
+//! holds of all nodes at any time (`laws::are_nodes`, and `proofs/Always.antt`). The meant fields and sets are those of
+//! `specs/Own.antt`; they are the same without places (`proofs/Plain.antt`), as what is remembered is compared.
 //!
 //! Begin with `specs/Own.antt`, `node.rt` and `field_sets.rt`.
 #![tactic(auto)]
