@@ -18,8 +18,8 @@ HasField {P} d at s x = (f : StandingField P) × (IsFieldOf d at s f × (content
 abbrev pub HasOwnField : {P : Type 0} → Entries (MeantFragment P) → MeantSet P → StandingField P → Type 0
 HasOwnField {P} fragments s x = (t : MeantSet P) × (IsSpreadFrom fragments s t × Contains (own_fields t) x)
 
-abbrev pub FieldsThroughSpreads : Type 0
-FieldsThroughSpreads = (d : MeantDocument Place) (at : Position) (s : MeantSet Place) (x : StandingField Place) → HasField d at s x ↔ HasOwnField d.fragments s x
+abbrev pub FieldsThroughSpreads : (P : Type 0) → Type 0
+FieldsThroughSpreads P = (d : MeantDocument P) (at : Position) (s : MeantSet P) (x : StandingField P) → HasField d at s x ↔ HasOwnField d.fragments s x
 
 -- the same of the nodes of a document with these fragments
 abbrev pub FieldsThroughNodes : Entries (MeantFragment Place) → List SetNode → Type 0

@@ -1,5 +1,5 @@
 //! The selection sets of a document, as nodes.
-ghost use Rattle.std.specs.Prelude.{◌≡◌, ◌++◌, ◌<◌, [], map, length, slice_get, Some, IfOk, OnOk};
+ghost use Rattle.std.specs.Prelude.{◌≡◌, ◌++◌, ◌<◌, [], map, length, slice_get, Some, Contains, IfOk, OnOk};
 ghost use Rattle.document_meaning.specs.MeantTree.{meant_of_set};
 ghost use Rattle.document_typed_selections.specs.TypedTree.{typed_set_tree};
 ghost use Rattle.rule_document_ground.specs.Fields.{meant_fragments};
@@ -7,6 +7,7 @@ ghost use Rattle.rule_field_sets.specs.Numbered.{BeginsAs};
 ghost use Rattle.rule_field_sets.specs.Kept.{KeptNodes, HasFragments, values_of, lent_sets, fragment_values};
 ghost use Rattle.rule_field_sets.specs.OneProof.{KeptNodes-prop};
 ghost use Rattle.rule_field_sets.specs.Nodes.{set_of};
+ghost use Rattle.rule_field_sets.specs.declared.node.SetNode.{SetNode};
 
 use crate::node::SetNode;
 use crate::numbers::Numbers;
@@ -48,6 +49,13 @@ impl<'doc> FieldSets<'doc> {
         ensures { slice_get (nodes_of self.now) at ≡ Some result.now }
     {
         &self.nodes[at]
+    }
+
+    /// Above the numbers of all nodes.
+    pub fn set_count(&self) -> usize
+        ensures { (n : SetNode) → Contains (nodes_of self.now) n → n.number < result }
+    {
+        self.numbers.sets.len()
     }
 
     /// Adds the nodes of these sets, in this order, and behind them those of all sets in them.
