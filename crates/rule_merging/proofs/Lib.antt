@@ -5,3 +5,4 @@ pub mod Counting
 pub mod Operating
 pub mod Behind
 pub mod Conflicts
+pub mod Pairing

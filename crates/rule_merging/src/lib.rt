@@ -18,6 +18,7 @@ mod budget;
 mod examination;
 mod merging;
 mod operation;
+mod pairs;
 mod remembered;
 mod told;
 
