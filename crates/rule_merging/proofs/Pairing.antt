@@ -308,17 +308,11 @@ module _ (nodes : List SetNode) where
   both_some one other j k old new is to = looks_as no_two (are_at nodes j k) no_two (both_of nodes one other) old new (λ a b w. w) (λ a b w. w) (λ a b w. (j, (k, (is, (to, w)))))
       (λ a b w. subst (λ i. are_at nodes i k a b) (same_place w.0 j (sym w.1.1.0 ∙ is)) (subst (λ i. are_at nodes w.0 i a b) (same_place w.1.0 k (sym w.1.1.1.0 ∙ to)) w.1.1.1.1))
 
-  -- each with itself
-  pub apart_told : (one other : Option ℕ) (old mid new : State) → Looks nodes no_two (itself nodes one) old mid → Looks nodes no_two (itself nodes other) mid new → Looks nodes no_two (below_two nodes one other false) old new
-  apart_told one other old mid new first then' =
-      looks_as (λ a b. no_two a b ⊎ no_two a b) (λ a b. itself nodes one a b ⊎ itself nodes other a b) no_two (below_two nodes one other false) old new
-      (λ a b w. elim w [ inl v ↦ v | inr v ↦ v ]) (λ a b w. inl w) (λ a b w. w) (λ a b w. w) (looks_both no_two (itself nodes one) no_two (itself nodes other) old mid new first then')
-
-  -- and the two
+  -- each with itself, and the two
   pub below_told : (one other : Option ℕ) (old mid half new : State) → Looks nodes no_two (itself nodes one) old mid → Looks nodes no_two (itself nodes other) mid half → Looks nodes no_two (both_of nodes one other) half new
-      → Looks nodes no_two (below_two nodes one other true) old new
+      → Looks nodes no_two (below_two nodes one other) old new
   below_told one other old mid half new first then' last =
-      looks_as (λ a b. no_two a b ⊎ (no_two a b ⊎ no_two a b)) (λ a b. itself nodes one a b ⊎ (itself nodes other a b ⊎ both_of nodes one other a b)) no_two (below_two nodes one other true) old new
+      looks_as (λ a b. no_two a b ⊎ (no_two a b ⊎ no_two a b)) (λ a b. itself nodes one a b ⊎ (itself nodes other a b ⊎ both_of nodes one other a b)) no_two (below_two nodes one other) old new
       (λ a b w. elim w [ inl v ↦ v | inr v ↦ elim v [ inl u ↦ u | inr u ↦ u ] ]) (λ a b w. inl w) (λ a b w. w) (λ a b w. w)
       (looks_both no_two (itself nodes one) (λ a b. no_two a b ⊎ no_two a b) (λ a b. itself nodes other a b ⊎ both_of nodes one other a b) old mid new first
       (looks_both no_two (itself nodes other) no_two (both_of nodes one other) mid half new then' last))

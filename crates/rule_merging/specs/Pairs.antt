@@ -82,10 +82,9 @@ module _ (nodes : List SetNode) where
   abbrev pub both_of : Option ℕ → Option ℕ → TwoNodes
   both_of one other a b = (j : ℕ) × ((k : ℕ) × ((one ≡ Some j) × ((other ≡ Some k) × are_at j k a b)))
 
-  -- each of these with itself, and where they go together the two
-  abbrev pub below_two : Option ℕ → Option ℕ → Bool → TwoNodes
-  below_two one other true a b = itself one a b ⊎ (itself other a b ⊎ both_of one other a b)
-  below_two one other false a b = itself one a b ⊎ itself other a b
+  -- each of these with itself, and the two
+  abbrev pub below_two : Option ℕ → Option ℕ → TwoNodes
+  below_two one other a b = itself one a b ⊎ (itself other a b ⊎ both_of one other a b)
 
 -- ---- what the pairs mean
 

@@ -162,23 +162,19 @@ impl Pairs {
         }
     }
 
-    /// Looks at the sets below two fields, at the next level: at each with itself, and where the fields go together at the two.
+    /// Looks at the sets below two fields that go together, at the next level: at each with itself, and at the two.
     pub(crate) fn look_below(
         &mut self,
         sets: &FieldSets<'_>,
         one: Option<usize>,
         other: Option<usize>,
-        are_together: bool,
     ) -> Result<(), AllocError>
         requires one { (a : ℕ) → one ≡ Some a → a < length (nodes_of sets.now) }
         requires other { (a : ℕ) → other ≡ Some a → a < length (nodes_of sets.now) }
-        ensures { OnOk result (Looks (nodes_of sets.now) no_two (below_two (nodes_of sets.now) one other are_together) (state_of self.old) (state_of self.new)) }
+        ensures { OnOk result (Looks (nodes_of sets.now) no_two (below_two (nodes_of sets.now) one other) (state_of self.old) (state_of self.new)) }
     {
         self.look_at_itself(sets, one)?;
         self.look_at_itself(sets, other)?;
-        if !are_together {
-            return Ok(());
-        }
         self.look_at_both(sets, one, other)
     }
 }
