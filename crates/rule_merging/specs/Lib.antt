@@ -5,3 +5,4 @@ pub mod Verdict
 pub mod Merged
 pub mod Merger
 pub mod Pairs
+pub mod Twos

@@ -21,6 +21,7 @@ mod operation;
 mod pairs;
 mod remembered;
 mod told;
+mod twos;
 
 pub use merging::FieldsInSetCanMerge;
 pub use operation::{Examined, examine_operation};
