@@ -6,3 +6,4 @@ pub mod Operating
 pub mod Behind
 pub mod Conflicts
 pub mod Pairing
+pub mod PairDone
