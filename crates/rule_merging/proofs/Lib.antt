@@ -7,3 +7,4 @@ pub mod Behind
 pub mod Conflicts
 pub mod Pairing
 pub mod PairDone
+pub mod TwoDone

@@ -66,7 +66,7 @@ module _ (fragments : Entries (MeantFragment Place)) (nodes : List SetNode) (are
   spread_looked i j a b at to old new looks s c =
       let k = spread_node a (index_given nodes i a at) s c in
       let m = k.1.1 in
-      (m.0, (b, (index_given nodes k.0 m.0 m.1.0, (index_given nodes j b to, ((m.1.1, refl), looks.has m.0 b (inl (a, (at, (k.0, (k.1.0, (m.1.0, to))))))))))
+      (m.0, (b, (index_given nodes k.0 m.0 m.1.0, (index_given nodes j b to, ((m.1.1, refl), looks.has m.0 b (inl (a, (at, (k.0, (k.1.0, (m.1.0, to)))))))))))
 
   -- so the pair is done
   pub pair_done : (Together Stand : PlainField → PlainField → Type 0) (i j : ℕ) (a b : SetNode) → slice_get nodes i ≡ Some a → slice_get nodes j ≡ Some b → (keys : List Numbers)
