@@ -1,9 +1,11 @@
 //! The examination of two sets that are looked at together.
-ghost use Rattle.std.specs.Prelude.{◌≡◌, ◌<◌, ◌≤◌, ℕ, length, Some, IfOk, OnOk};
+ghost use Rattle.std.specs.Prelude.{◌≡◌, ◌<◌, ◌≤◌, ℕ, length, Some, Contains, IfOk, OnOk};
 ghost use Rattle.rule_field_sets.specs.View.{nodes_of};
 ghost use Rattle.rule_merging.specs.Pairs.{state_of};
 ghost use Rattle.rule_merging.specs.Remembered.{kept_of};
-ghost use Rattle.rule_merging.specs.Twos.{IsListOf, ExaminesTwo};
+ghost use Rattle.rule_merging.specs.Twos.{IsListOf, ExaminesTwo, ExaminesEach, with_all};
+ghost use Rattle.rule_field_groups.specs.in_ground.Broken.{brokens_of};
+ghost use Rattle.rule_field_sets.specs.declared.node.Member.{Member};
 
 use crate::examination::Examination;
 use crate::pairs::Pairs;
@@ -41,7 +43,7 @@ impl<'doc> Examination<'doc> {
     ) -> Result<(), AllocError>
         requires one { (a : ℕ) → fields.0.now.below ≡ Some a → a < length (nodes_of sets.now) }
         requires other { (a : ℕ) → fields.1.now.below ≡ Some a → a < length (nodes_of sets.now) }
-        ensures examined { OnOk result (ExaminesTwo self.now (nodes_of sets.now) fields.entry.0.now fields.entry.1.now (kept_of examined.old) (kept_of examined.new) breaches.old breaches.new (state_of pairs.old) (state_of pairs.new)) }
+        ensures examined { OnOk result (ExaminesTwo self.now (nodes_of sets.now) fields.entry.0.now fields.entry.1.now (kept_of examined.old) (kept_of examined.new) (brokens_of breaches.old) (brokens_of breaches.new) (state_of pairs.old) (state_of pairs.new)) }
         ensures more { comparisons.old ≤ comparisons.new }
     {
         let (one, other) = fields;
@@ -54,5 +56,27 @@ impl<'doc> Examination<'doc> {
         }
         check_group(self.pass, self.schema, &list, breaches, comparisons)?;
         pairs.look_below(sets, one.below, other.below)
+    }
+
+    /// Compares a field with each of the others.
+    fn examine_with_each(
+        &self,
+        sets: &FieldSets<'doc>,
+        fields: (&Member<'doc>, &[Member<'doc>]),
+        pairs: &mut Pairs,
+        examined: &mut Remembered<'doc>,
+        breaches: &mut Vec<Breach>,
+        comparisons: &mut u128,
+    ) -> Result<(), AllocError>
+        requires one { (a : ℕ) → fields.0.now.below ≡ Some a → a < length (nodes_of sets.now) }
+        requires others { (m : Member) → Contains fields.1.now m → (a : ℕ) → m.below ≡ Some a → a < length (nodes_of sets.now) }
+        ensures examined { OnOk result (ExaminesEach self.now (nodes_of sets.now) (with_all fields.entry.0.now fields.entry.1.now) (kept_of examined.old) (kept_of examined.new) (brokens_of breaches.old) (brokens_of breaches.new) (state_of pairs.old) (state_of pairs.new)) }
+        ensures more { comparisons.old ≤ comparisons.new }
+    {
+        let (one, others) = fields;
+        for other in others {
+            self.examine_two_fields(sets, (one, other), pairs, examined, breaches, comparisons)?;
+        }
+        Ok(())
     }
 }
