@@ -1,0 +1,1 @@
+use Rattle.report_lines.proofs.lines.Lines.start_of.Goals as goal
