@@ -1,5 +1,5 @@
 -- How many places pass a test.
-use Rattle.std.proofs.Common.{◌≡◌, ℕ, zero, suc, ◌+◌, ◌<◌, ◌≤◌, Bool, true, false, ◌&&◌, cond, refl, ◌∙◌, ap, arith, add-zero, inl, inr}
+use Rattle.std.proofs.Common.{◌≡◌, ℕ, zero, suc, ◌+◌, ◌<◌, ◌≤◌, Bool, true, false, ◌&&◌, cond, refl, sym, ◌∙◌, ap, subst, arith, add-zero, inl, inr}
 use lib.Dec.{leb, leb-zero}
 use Rattle.std.proofs.lemmas.Bool.Decides.{leb_tells}
 use Rattle.report_lines.specs.Ends.{how_many}
@@ -35,3 +35,11 @@ how_many-self p low = none_up_to low (omega arith)
         inl h ↦ absurd (omega arith)
       | inr h ↦ ap (λ b. how_many p low n + one_if (b && p (suc n))) h.0 ∙ add-zero _ ∙ none_up_to n (omega arith)
     ]
+
+-- up to a later place as many pass, or more
+pub how_many-le : (p : ℕ → Bool) (low mid high : ℕ) → mid ≤ high → how_many p low mid ≤ how_many p low high
+how_many-le p low mid zero le = let e : mid ≡ zero = omega arith in subst (λ (n : ℕ). how_many p low n ≤ how_many p low zero) (sym e) (omega arith)
+how_many-le p low mid (suc n) le = elim (leb_tells mid n) [
+    inl h ↦ omega (arith, how_many-le p low mid n h.1)
+  | inr h ↦ let e : mid ≡ suc n = omega arith in subst (λ (m : ℕ). how_many p low m ≤ how_many p low (suc n)) (sym e) (omega arith)
+]

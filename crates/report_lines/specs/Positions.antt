@@ -14,3 +14,17 @@ pub record IsLineStart (text : List ℕ) (place start : ℕ) : Type 0 where
 pub record IsPosition (text : List ℕ) (place : ℕ) (position : Position) : Type 0 where
   pub line : position.line ≡ 1 + how_many (ends_line text) 0 place
   pub column : (start : ℕ) × IsLineStart text place start × (position.column ≡ 1 + how_many (ends_character text) start place)
+
+-- of the places with the position it is the first
+pub record IsFirstPlace (text : List ℕ) (position : Position) (place : ℕ) : Type 0 where
+  pub at : IsPosition text place position
+  pub first : (k : ℕ) → k < place → ¬ IsPosition text k position
+
+-- the place has this column in the line that begins at `start`; it is the first that has it
+pub record IsColumn (text : List ℕ) (start column place : ℕ) : Type 0 where
+  pub line : IsLineStart text place start
+  pub counted : column ≡ 1 + how_many (ends_character text) start place
+
+pub record IsFirstInLine (text : List ℕ) (start column place : ℕ) : Type 0 where
+  pub at : IsColumn text start column place
+  pub first : (k : ℕ) → k < place → ¬ IsColumn text start column k

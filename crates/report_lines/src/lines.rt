@@ -1,13 +1,13 @@
 //! The lines of a text.
 
-ghost use Rattle.std.specs.Prelude.{◌≡◌, ℕ, ◌+◌, ◌<◌, ◌≤◌, ◌↔◌, true, false, nat_le, List, length, drop, IfOk, IfSome, IsSome};
+ghost use Rattle.std.specs.Prelude.{◌≡◌, ℕ, ◌+◌, ◌<◌, ◌≤◌, ◌↔◌, true, false, nat_le, List, length, drop, IfOk, IfSome, IfNone, IsSome};
 ghost use Rattle.std.specs.List.Sorted.{IsPartitionedBy, IsPartitionPoint};
 ghost use Rattle.report_lines.specs.Ends.{ends_line, how_many};
-ghost use Rattle.report_lines.specs.Positions.{IsLineStart, IsPosition};
+ghost use Rattle.report_lines.specs.Positions.{IsLineStart, IsPosition, IsFirstPlace, IsColumn, IsFirstInLine};
 ghost use Rattle.report_lines.specs.LineTexts.{IsNumberedStart, IsFirstLine, IsLineText};
 ghost use Rattle.report_lines.specs.Starts.{starts_up_to};
 
-use crate::ends::{characters_between, ends_line};
+use crate::ends::{characters_between, ends_character, ends_line};
 use crate::position::Position;
 use std::alloc::{AllocError, Global};
 use std::marker::Model;
@@ -39,6 +39,13 @@ impl<'a> Lines<'a> {
         Ok(Lines { text, starts })
     }
 
+    /// The text.
+    pub fn text(&self) -> &'a str
+        ensures { result.now ≡ self.now }
+    {
+        self.text
+    }
+
     /// The position of the place with so many bytes before it. One behind the end is at the end.
     pub fn position(&self, offset: usize) -> Position
         ensures { IsPosition self.now offset result }
@@ -50,6 +57,15 @@ impl<'a> Lines<'a> {
             line,
             column: characters_between(text, start, place) + 1,
         }
+    }
+
+    /// The first place with this position: how many bytes of the text stand before it. None where no place has it.
+    pub fn offset(&self, position: Position) -> Option<usize>
+        ensures found { IfSome result (λ place. IsFirstPlace self.now position place) }
+        ensures none { IfNone result ((place : ℕ) → ¬ IsPosition self.now place position) }
+    {
+        let start = self.start_of(position.line)?;
+        place_in_line(self.text.as_bytes(), start, position.column)
     }
 
     /// The text of the line of this number, without its line terminator. None where the text has no such line.
@@ -80,6 +96,32 @@ impl<'a> Lines<'a> {
     {
         let line = count_up_to(&self.starts, place);
         (line, self.starts[line - 1])
+    }
+}
+
+/// The first place of this column in the line that begins at `start`.
+fn place_in_line(text: &[u8], start: usize, column: usize) -> Option<usize>
+    requires within { start ≤ length text.now }
+    requires begins { IsLineStart text.now start start }
+    ensures found { IfSome result (λ place. IsFirstInLine text.now start column place) }
+    ensures none { IfNone result ((place : ℕ) → ¬ IsColumn text.now start column place) }
+{
+    let mut reached = 1usize;
+    for last in start..text.len() {
+        if reached == column {
+            return Some(last);
+        }
+        if ends_line(text, last) {
+            return None;
+        }
+        if ends_character(text, last) {
+            reached += 1;
+        }
+    }
+    if reached == column {
+        Some(text.len())
+    } else {
+        None
     }
 }
 

@@ -1,11 +1,11 @@
-use Rattle.std.proofs.Common.{◌≡◌, ℕ, suc, ◌+◌, ◌-◌, ◌<◌, ◌≤◌, length, List, get_or, true, false, subst, sym, ap, ◌∙◌, arith}
+use Rattle.std.proofs.Common.{◌≡◌, ℕ, ◌+◌, ◌-◌, ◌≤◌, length, List, get_or, true, false, subst, sym, ap, ◌∙◌, arith}
 use Rattle.std.proofs.lemmas.List.{get_or_default}
 use Rattle.std.specs.Prelude.{nat_le}
 use Rattle.std.specs.List.Sorted.{IsPartitionedBy, IsPartitionPoint}
 use Rattle.report_lines.specs.Ends.{ends_line, how_many}
 use Rattle.report_lines.specs.Positions.{IsLineStart}
 use Rattle.report_lines.specs.Starts.{starts_up_to}
-use Rattle.report_lines.proofs.LineStarts.{FoundLine, found_line, starts-parted, last_start, last_start-is}
+use Rattle.report_lines.proofs.LineStarts.{found_line, starts-parted, last_start-is}
 use Rattle.report_lines.proofs.lines.Lines.line_of.Goals as goal
 
 parted : (text starts : List ℕ) (place : ℕ) → starts ≡ starts_up_to text (length text) → place ≤ length text → IsPartitionedBy (λ y. nat_le y place) starts

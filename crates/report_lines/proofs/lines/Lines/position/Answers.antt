@@ -1,6 +1,5 @@
-use Rattle.std.proofs.Common.{◌≡◌, ℕ, ◌+◌, ◌≤◌, min, length, List, subst, sym, ap, ◌∙◌, refl, arith, inl, inr}
+use Rattle.std.proofs.Common.{◌≡◌, ℕ, ◌+◌, min, length, List, subst, ap, ◌∙◌, arith, inl, inr}
 use Rattle.std.proofs.lemmas.Bool.Decides.{leb_tells}
-use Rattle.report_lines.specs.declared.position.Position.{Position}
 use Rattle.report_lines.specs.Ends.{ends_line, ends_character, how_many}
 use Rattle.report_lines.specs.Positions.{IsLineStart, IsPosition}
 use Rattle.report_lines.proofs.LineStarts.{IsPosition-beyond}
