@@ -1,5 +1,9 @@
 //! An entry of a fault.
 
+ghost use Rattle.std.specs.Prelude.{IfOk};
+ghost use Rattle.graphql_faults.specs.DetailsView.{details_at};
+ghost use Rattle.graphql_report.specs.Reports.{Tells};
+
 use crate::excerpts::excerpt;
 use crate::fields::fields;
 use crate::hints::hint;
@@ -22,7 +26,9 @@ pub(crate) fn entry(
     path: &str,
     place: Option<SourceSpan>,
     details: &Details,
-) -> Result<Entry, AllocError> {
+) -> Result<Entry, AllocError>
+    ensures { IfOk result (Tells (details_at (place, details.now))) }
+{
     Ok(Entry {
         path: String::from_str(alloc, path_of(sources, path, place))?,
         place: place_of(sources, place),

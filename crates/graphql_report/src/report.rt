@@ -1,18 +1,25 @@
 //! Reports.
 
+ghost use Rattle.std.specs.Prelude.{◌≡◌, IfOk};
+ghost use Rattle.graphql_faults.specs.DetailsView.{diagnostics_of};
+ghost use Rattle.graphql_report.specs.Reports.{AreReported};
+
 use crate::entries::entry;
-use crate::order::order_of;
+use crate::order::rank_of;
 use crate::source::Source;
-use graphql_faults::{Details, DiagnosticList};
-use graphql_names::SourceSpan;
+use graphql_faults::DiagnosticList;
 use graphql_schema::Schema;
 use report_forms::Entry;
 use std::alloc::{AllocError, Global};
+use std::collections::{HashMap, HashSet};
+use std::marker::Model;
 
 /// How many faults of one name under one rule are printed.
 const OF_ONE_NAME: usize = 5;
 
 /// What is told of faults, in the order of texts and places, those without a place first.
+///
+/// A contract sees it as its entries.
 #[derive(Drop)]
 pub struct Report {
     entries: Vec<Entry>,
@@ -27,6 +34,17 @@ pub struct Folded {
     pub left_out: usize,
 }
 
+impl Model for Report {
+    ghost use Rattle.std.specs.Prelude.{List, ⊤};
+    ghost use Rattle.report_forms.specs.declared.entry.Entry.{Entry};
+
+    ghost Value = { List Entry };
+
+    ghost view = { λ r. r.entries.items };
+
+    ghost invariant = { λ r. ⊤ };
+}
+
 impl Report {
     /// The report of the faults. Text `n` is the `n`-th source; `path` is the name of what has no place. Names that may be meant
     /// are taken from the schema, if there is one.
@@ -36,32 +54,37 @@ impl Report {
         sources: &[Source<'_>],
         schema: Option<&Schema>,
         path: &str,
-    ) -> Result<Report, AllocError> {
-        let told = faults.iter().as_slice();
-        let mut places = Vec::new(alloc);
-        for (place, _) in told {
-            places.push(*place)?;
+    ) -> Result<Report, AllocError>
+        ensures { IfOk result (λ report. AreReported (diagnostics_of faults.now) report) }
+    {
+        let mut told = Vec::new(alloc);
+        for fault in faults.iter().as_slice() {
+            told.push(fault)?;
         }
+        told.sort_by_key(|fault| rank_of(fault.0))?;
         let mut entries = Vec::new(alloc);
-        for index in &order_of(alloc, &places)? {
-            if let Some((place, details)) = told.get(*index) {
-                entries.push(entry(alloc, sources, schema, path, *place, details)?)?;
-            }
+        for fault in &told {
+            entries.push(entry(alloc, sources, schema, path, fault.0, &fault.1)?)?;
         }
         Ok(Report { entries })
     }
 
     /// What is told, an entry for each fault.
-    pub fn entries(&self) -> &[Entry] {
+    pub fn entries(&self) -> &[Entry]
+        ensures { result.now ≡ self.now }
+    {
         &self.entries
     }
 
     /// What is printed of it: of faults of one rule with one message at many places the first five; and of a value fault on a
     /// variable that is told already, none.
     pub fn folded(&self, alloc: Global) -> Result<Folded, AllocError> {
+        let usages = self.usages(alloc)?;
+        let mut seen = HashMap::new(alloc);
         let mut printed = Vec::new(alloc);
-        for index in 0..self.entries.len() {
-            if !self.is_left_out(index) {
+        for (index, entry) in self.entries.iter().enumerate() {
+            let before = note(alloc, &mut seen, entry)?;
+            if before < OF_ONE_NAME && !repeats_usage(&usages, entry) {
                 printed.push(index)?;
             }
         }
@@ -69,30 +92,39 @@ impl Report {
         Ok(Folded { printed, left_out })
     }
 
-    /// Whether the entry is left out of what is printed.
-    fn is_left_out(&self, index: usize) -> bool {
-        let Some(entry) = self.entries.get(index) else {
-            return true;
-        };
-        let mut before = 0usize;
-        for other in self.entries.get(..index).unwrap_or(&[]) {
-            if other.rule == entry.rule && other.message.as_str() == entry.message.as_str() {
-                before = before.saturating_add(1);
+    /// The offsets at which the usage of a variable is told.
+    fn usages(&self, alloc: Global) -> Result<HashSet<usize>, AllocError> {
+        let mut offsets = HashSet::new(alloc);
+        for entry in &self.entries {
+            if let Some(place) = entry.place
+                && entry.rule == "DisallowedVariableUsage"
+            {
+                offsets.insert(place.offset)?;
             }
         }
-        before >= OF_ONE_NAME || self.repeats_usage(entry)
+        Ok(offsets)
     }
+}
 
-    /// Whether it is a value fault where the usage of a variable is told.
-    fn repeats_usage(&self, entry: &Entry) -> bool {
-        if entry.rule != "UnsupportedValueType" {
-            return false;
-        }
-        for other in self.entries.as_slice() {
-            if other.rule == "DisallowedVariableUsage" && other.place == entry.place {
-                return true;
-            }
-        }
-        false
+/// Whether it is a value fault where the usage of a variable is told.
+fn repeats_usage(usages: &HashSet<usize>, entry: &Entry) -> bool {
+    match entry.place {
+        None => false,
+        Some(place) => entry.rule == "UnsupportedValueType" && usages.contains(&place.offset),
     }
+}
+
+/// Notes the rule and the message of the entry: how often they were there before.
+fn note(
+    alloc: Global,
+    seen: &mut HashMap<String, usize>,
+    entry: &Entry,
+) -> Result<usize, AllocError> {
+    let rule = entry.rule;
+    let message = &entry.message;
+    let key = format!(in alloc; "{rule}: {message}")?;
+    let count = seen.entry(key)?.or_insert(0);
+    let before = *count;
+    *count = before.saturating_add(1);
+    Ok(before)
 }

@@ -1,5 +1,5 @@
 -- The forms of a fault.
-use Rattle.std.specs.Prelude.{◌≡◌, ℕ, ◌+◌, Bool, true, nat_le, List, [], ◌∷◌, ◌++◌, false, codes, decimal, length, max, replicate, Option, Some, None, option_map, string_bytes, chars}
+use Rattle.std.specs.Prelude.{◌≡◌, ℕ, Bool, true, nat_le, List, [], ◌∷◌, ◌++◌, false, codes, decimal, length, max, replicate, Option, Some, None, option_map, string_bytes, chars}
 use Rattle.std.specs.List.{list_all}
 use Rattle.report_forms.specs.Escapes.{escaped_text}
 use Rattle.report_lines.specs.declared.position.Position.{Position}

@@ -54,17 +54,23 @@ fn push_text(alloc: Global, out: &mut String, head: &str, text: &str) -> Result<
     ensures { OnOk result (one_line (string_bytes out.new) ≡ true) }
 {
     push_plain(out, head)?;
-    let text = quoted(alloc, text)?;
+    let text = quoted_line(alloc, text)?;
     push_plain(out, &text)?;
     Ok(())
 }
 
 /// The text as JSON.
 fn quoted(alloc: Global, text: &str) -> Result<String, AllocError>
-    ensures value { IfOk result (λ json. string_bytes json ≡ quoted text.now) }
-    ensures plain { IfOk result (λ json. one_line (string_bytes json) ≡ true) }
+    ensures { IfOk result (λ json. string_bytes json ≡ quoted text.now) }
 {
-    let json = Value::String(String::from_str(alloc, text)?).to_string(alloc)?;
+    Value::String(String::from_str(alloc, text)?).to_string(alloc)
+}
+
+/// The text as JSON, of which it is known that it stands in a line.
+fn quoted_line(alloc: Global, text: &str) -> Result<String, AllocError>
+    ensures { IfOk result (λ json. one_line (string_bytes json) ≡ true) }
+{
+    let json = quoted(alloc, text)?;
     Ok(json)
 }
 
