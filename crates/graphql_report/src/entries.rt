@@ -29,13 +29,14 @@ pub(crate) fn entry(
 ) -> Result<Entry, AllocError>
     ensures { IfOk result (Tells (details_at (place, details.now))) }
 {
+    let path = path_of(sources, path, place);
     Ok(Entry {
-        path: String::from_str(alloc, path_of(sources, path, place))?,
+        path: String::from_str(alloc, path)?,
         place: place_of(sources, place),
         rule: details.name(),
         message: details.to_string(alloc)?,
         excerpt: excerpt_of(alloc, sources, place)?,
-        related: others(alloc, sources, place, details)?,
+        related: others(alloc, sources, path, place, details)?,
         hint: hint(alloc, sources, schema, place, details)?,
         fields: fields(alloc, details)?,
     })
@@ -78,28 +79,37 @@ fn excerpt_of(
 fn others(
     alloc: Global,
     sources: &[Source<'_>],
+    path: &str,
     place: Option<SourceSpan>,
     details: &Details,
 ) -> Result<Vec<Related>, AllocError> {
     let mut others = Vec::new(alloc);
-    for noted in &related(alloc, details)? {
-        if place != Some(noted.0) {
-            others.push(other(alloc, sources, *noted)?)?;
+    let found = related(alloc, details)?;
+    for noted in &found {
+        if place != Some(noted.span) {
+            let other = other(alloc, sources, path, *noted)?;
+            others.push(other)?;
         }
     }
     Ok(others)
 }
 
 /// One of them.
-fn other(alloc: Global, sources: &[Source<'_>], noted: Noted) -> Result<Related, AllocError> {
-    let (span, words) = noted;
-    let place = Some(span);
+fn other(
+    alloc: Global,
+    sources: &[Source<'_>],
+    path: &str,
+    noted: Noted,
+) -> Result<Related, AllocError> {
+    let place = Some(noted.span);
     let start = match place_of(sources, place) {
         None => None,
         Some(place) => Some(place.start),
     };
+    let path = path_of(sources, path, place);
+    let words = noted.words.text();
     Ok(Related {
-        path: String::from_str(alloc, path_of(sources, "", place))?,
+        path: String::from_str(alloc, path)?,
         start,
         words: String::from_str(alloc, words)?,
     })

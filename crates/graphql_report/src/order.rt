@@ -1,21 +1,34 @@
 //! The order of entries.
 
+ghost use Rattle.std.specs.Prelude.{◌≡◌};
+
 use graphql_names::SourceSpan;
 
-/// Where an entry stands among others: by text and then by offset, and before all others without a place.
+/// Where a fault stands among others: without a place first, then by text and by offset, and then as told.
 #[derive(Clone, Copy, PartialEq, Eq, PartialOrd, Ord)]
 pub(crate) struct Rank {
     text: u64,
     offset: usize,
+    /// Its index in the list of faults.
+    pub(crate) told: usize,
 }
 
-/// The rank of what is told at that place.
-pub(crate) fn rank_of(place: Option<SourceSpan>) -> Rank {
-    match place {
-        None => Rank { text: 0, offset: 0 },
-        Some(span) => Rank {
-            text: span.file_id.0,
-            offset: span.offset,
-        },
+impl Rank {
+    /// The rank of the fault of this index, which is told at that place.
+    pub(crate) fn new(place: Option<SourceSpan>, told: usize) -> Rank
+        ensures { result.told ≡ told }
+    {
+        match place {
+            None => Rank {
+                text: 0,
+                offset: 0,
+                told,
+            },
+            Some(span) => Rank {
+                text: span.file_id.0,
+                offset: span.offset,
+                told,
+            },
+        }
     }
 }

@@ -6,8 +6,57 @@ use graphql_faults::Details;
 use graphql_names::{Node, SourceSpan};
 use std::alloc::{AllocError, Global};
 
+/// What stands at a place that belongs to a fault.
+#[derive(Clone, Copy)]
+pub(crate) enum Words {
+    WayBack,
+    OtherField,
+    FirstUsed,
+    FirstRoot,
+    Type,
+    Extended,
+    FirstDefined,
+    FirstGiven,
+    Implemented,
+    InterfaceField,
+    InterfaceArgument,
+    DirectiveDefinition,
+    Definition,
+    VariableDefinition,
+    FragmentDefinition,
+    TypeDefinition,
+}
+
+impl Words {
+    /// The words.
+    pub(crate) fn text(self) -> &'static str {
+        match self {
+            Words::WayBack => "the way back leads through here",
+            Words::OtherField => "the other field",
+            Words::FirstUsed => "first used here",
+            Words::FirstRoot => "first named as a root here",
+            Words::Type => "the type",
+            Words::Extended => "extended here",
+            Words::FirstDefined => "first defined here",
+            Words::FirstGiven => "first given here",
+            Words::Implemented => "implemented here",
+            Words::InterfaceField => "the interface's field",
+            Words::InterfaceArgument => "the interface's argument",
+            Words::DirectiveDefinition => "the directive's definition",
+            Words::Definition => "the definition",
+            Words::VariableDefinition => "the variable's definition",
+            Words::FragmentDefinition => "the fragment's definition",
+            Words::TypeDefinition => "the type's definition",
+        }
+    }
+}
+
 /// A place, and what stands there.
-pub(crate) type Noted = (SourceSpan, &'static str);
+#[derive(Clone, Copy)]
+pub(crate) struct Noted {
+    pub(crate) span: SourceSpan,
+    pub(crate) words: Words,
+}
 
 /// The places that the fault has beside its own, in the order in which its data has them.
 pub(crate) fn related(alloc: Global, details: &Details) -> Result<Vec<Noted>, AllocError> {
@@ -24,10 +73,10 @@ pub(crate) fn related(alloc: Global, details: &Details) -> Result<Vec<Noted>, Al
 fn push(
     places: &mut Vec<Noted>,
     place: Option<SourceSpan>,
-    words: &'static str,
+    words: Words,
 ) -> Result<(), AllocError> {
     if let Some(span) = place {
-        places.push((span, words))?;
+        places.push(Noted { span, words })?;
     }
     Ok(())
 }
@@ -36,7 +85,7 @@ fn push(
 fn push_all(
     places: &mut Vec<Noted>,
     found: &[Option<SourceSpan>],
-    words: &'static str,
+    words: Words,
 ) -> Result<(), AllocError> {
     for place in found {
         push(places, *place, words)?;
@@ -47,7 +96,7 @@ fn push_all(
 /// Adds the places of a way that leads back.
 fn push_way<T>(places: &mut Vec<Noted>, way: &[Node<T>]) -> Result<(), AllocError> {
     for step in way {
-        push(places, step.location(), "the way back leads through here")?;
+        push(places, step.location(), Words::WayBack)?;
     }
     Ok(())
 }
@@ -56,14 +105,14 @@ fn push_way<T>(places: &mut Vec<Noted>, way: &[Node<T>]) -> Result<(), AllocErro
 fn push_of_document(places: &mut Vec<Noted>, error: &BuildError) -> Result<(), AllocError> {
     match error {
         BuildError::ConflictingFieldName(conflict) =>
-            push(places, conflict.original_location, "the other field"),
+            push(places, conflict.original_location, Words::OtherField),
         BuildError::ConflictingFieldArgument(conflict) =>
-            push(places, conflict.original_location, "the other field"),
+            push(places, conflict.original_location, Words::OtherField),
         BuildError::ConflictingFieldType(conflict) =>
-            push(places, conflict.original_location, "the other field"),
+            push(places, conflict.original_location, Words::OtherField),
         BuildError::DuplicateDeferLabel {
             original_location, ..
-        } => push(places, *original_location, "first used here"),
+        } => push(places, *original_location, Words::FirstUsed),
         _ => Ok(()),
     }
 }
@@ -74,10 +123,10 @@ fn push_of_data(places: &mut Vec<Noted>, data: &DiagnosticData) -> Result<(), Al
         DiagnosticData::DuplicateRootOperationType {
             original_definition,
             ..
-        } => push(places, *original_definition, "first named as a root here"),
+        } => push(places, *original_definition, Words::FirstRoot),
         DiagnosticData::OutputType { type_location, .. }
         | DiagnosticData::InputType { type_location, .. } =>
-            push(places, *type_location, "the type"),
+            push(places, *type_location, Words::Type),
         DiagnosticData::EmptyFieldSet {
             extensions_locations,
             ..
@@ -93,7 +142,7 @@ fn push_of_data(places: &mut Vec<Noted>, data: &DiagnosticData) -> Result<(), Al
         | DiagnosticData::EmptyInputValueSet {
             extensions_locations,
             ..
-        } => push_all(places, extensions_locations, "extended here"),
+        } => push_all(places, extensions_locations, Words::Extended),
         DiagnosticData::UniqueInputValue {
             original_definition,
             ..
@@ -101,15 +150,15 @@ fn push_of_data(places: &mut Vec<Noted>, data: &DiagnosticData) -> Result<(), Al
         | DiagnosticData::UniqueVariable {
             original_definition,
             ..
-        } => push(places, *original_definition, "first defined here"),
+        } => push(places, *original_definition, Words::FirstDefined),
         DiagnosticData::UniqueArgument {
             original_definition,
             ..
-        } => push(places, *original_definition, "first given here"),
+        } => push(places, *original_definition, Words::FirstGiven),
         DiagnosticData::UniqueDirective {
             original_application,
             ..
-        } => push(places, *original_application, "first used here"),
+        } => push(places, *original_application, Words::FirstUsed),
         _ => push_of_definition(places, data),
     }
 }
@@ -120,9 +169,9 @@ fn push_of_definition(places: &mut Vec<Noted>, data: &DiagnosticData) -> Result<
         DiagnosticData::TransitiveImplementedInterfaces {
             transitive_interface_location,
             ..
-        } => push(places, *transitive_interface_location, "implemented here"),
+        } => push(places, *transitive_interface_location, Words::Implemented),
         DiagnosticData::MissingInterfaceField { field_location, .. } =>
-            push(places, *field_location, "the interface's field"),
+            push(places, *field_location, Words::InterfaceField),
         DiagnosticData::InvalidImplementationFieldType {
             interface_field_location,
             ..
@@ -130,7 +179,7 @@ fn push_of_definition(places: &mut Vec<Noted>, data: &DiagnosticData) -> Result<
         | DiagnosticData::ExtraRequiredImplementationFieldArgument {
             interface_field_location,
             ..
-        } => push(places, *interface_field_location, "the interface's field"),
+        } => push(places, *interface_field_location, Words::InterfaceField),
         DiagnosticData::MissingInterfaceFieldArgument {
             interface_argument_location,
             ..
@@ -138,11 +187,11 @@ fn push_of_definition(places: &mut Vec<Noted>, data: &DiagnosticData) -> Result<
         | DiagnosticData::InvalidImplementationFieldArgumentType {
             interface_argument_location,
             ..
-        } => push(places, *interface_argument_location, "the interface's argument"),
+        } => push(places, *interface_argument_location, Words::InterfaceArgument),
         DiagnosticData::UnsupportedLocation {
             definition_location,
             ..
-        } => push(places, *definition_location, "the directive's definition"),
+        } => push(places, *definition_location, Words::DirectiveDefinition),
         DiagnosticData::UndefinedArgument {
             definition_location,
             ..
@@ -166,17 +215,17 @@ fn push_of_definition(places: &mut Vec<Noted>, data: &DiagnosticData) -> Result<
         | DiagnosticData::RequiredField {
             definition_location,
             ..
-        } => push(places, *definition_location, "the definition"),
+        } => push(places, *definition_location, Words::Definition),
         DiagnosticData::DisallowedVariableUsage {
             variable_location, ..
-        } => push(places, *variable_location, "the variable's definition"),
+        } => push(places, *variable_location, Words::VariableDefinition),
         DiagnosticData::InvalidFragmentSpread {
             fragment_location,
             type_location,
             ..
         } => {
-            push(places, *fragment_location, "the fragment's definition")?;
-            push(places, *type_location, "the type's definition")
+            push(places, *fragment_location, Words::FragmentDefinition)?;
+            push(places, *type_location, Words::TypeDefinition)
         }
         DiagnosticData::RecursiveInputObjectDefinition { trace, .. } => push_way(places, trace),
         DiagnosticData::RecursiveDirectiveDefinition { trace, .. } => push_way(places, trace),

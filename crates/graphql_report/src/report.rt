@@ -1,13 +1,16 @@
 //! Reports.
 
-ghost use Rattle.std.specs.Prelude.{◌≡◌, IfOk};
+ghost use Rattle.std.specs.Prelude.{◌≡◌, length, map, IfOk};
+ghost use Rattle.std.specs.List.Sorted.{IsPermutation};
 ghost use Rattle.graphql_faults.specs.DetailsView.{diagnostics_of};
-ghost use Rattle.graphql_report.specs.Reports.{AreReported};
+ghost use Rattle.graphql_report.specs.Reports.{numbers_below, AreReported};
+ghost use Rattle.graphql_report.specs.declared.order.Rank.{Rank};
 
 use crate::entries::entry;
-use crate::order::rank_of;
+use crate::order::Rank;
 use crate::source::Source;
-use graphql_faults::DiagnosticList;
+use graphql_faults::{Details, DiagnosticList};
+use graphql_names::SourceSpan;
 use graphql_schema::Schema;
 use report_forms::Entry;
 use std::alloc::{AllocError, Global};
@@ -57,14 +60,13 @@ impl Report {
     ) -> Result<Report, AllocError>
         ensures { IfOk result (λ report. AreReported (diagnostics_of faults.now) report) }
     {
-        let mut told = Vec::new(alloc);
-        for fault in faults.iter().as_slice() {
-            told.push(fault)?;
-        }
-        told.sort_by_key(|fault| rank_of(fault.0))?;
+        let told = faults.iter().as_slice();
+        let ranks = ranks_of(alloc, told)?;
         let mut entries = Vec::new(alloc);
-        for fault in &told {
-            entries.push(entry(alloc, sources, schema, path, fault.0, &fault.1)?)?;
+        for rank in &ranks {
+            let fault = &told[rank.told];
+            let entry = entry(alloc, sources, schema, path, fault.0, &fault.1)?;
+            entries.push(entry)?;
         }
         Ok(Report { entries })
     }
@@ -104,6 +106,22 @@ impl Report {
         }
         Ok(offsets)
     }
+}
+
+/// The ranks of the faults, in order.
+fn ranks_of(
+    alloc: Global,
+    told: &[(Option<SourceSpan>, Details)],
+) -> Result<Vec<Rank>, AllocError>
+    ensures { IfOk result (λ ranks. IsPermutation (numbers_below (length told.now)) (map (λ (r : Rank). r.told) ranks.items)) }
+{
+    let mut ranks = Vec::new(alloc);
+    for (index, fault) in told.iter().enumerate() {
+        let rank = Rank::new(fault.0, index);
+        ranks.push(rank)?;
+    }
+    ranks.sort()?;
+    Ok(ranks)
 }
 
 /// Whether it is a value fault where the usage of a variable is told.

@@ -1,87 +1,81 @@
-//! Rows of faults in the forms of a report.
+//! Rows of the forms of a fault.
 
-use graphql_checked::{CheckedSchema, Checker, Limits, Refusal};
-use graphql_report::{Entry, Lines, Report, Source};
-use row_files::{Answer, Case, Problem, Tally, Way, compare, text_of};
+use report_forms::{Entry, Excerpt, Place, Position, Related};
+use row_files::{Case, Problem, Tally, Way, compare, number, text_of};
 use std::alloc::{AllocError, Global};
 
-/// The names of the texts.
-const SCHEMA: &str = "schema.graphql";
-const DOCUMENT: &str = "document.graphql";
-
-/// Judges what is told of the row's document over its schema, in the form that the call names.
+/// Judges the fault that the row has, in the form that the call names.
 pub(crate) fn by_form(alloc: Global, case: Case<'_>, tally: &mut Tally) -> Result<(), Problem> {
-    for nesting in &case.given.limits {
-        for document in &case.given.documents {
-            let text = text_of(case, document)?;
-            tell(alloc, case, *nesting, text, &mut tally.answer)?;
-            compare(case, Way::whole(case.call, document, *nesting), tally)?;
-        }
-    }
-    Ok(())
+    let entry = entry_of(alloc, case)?;
+    let formed = formed(alloc, case.call, &entry)?;
+    tally.answer.text.put(&formed);
+    tally.answer.status.put("0");
+    compare(case, Way::whole(case.call, &[], 500), tally)
 }
 
-/// Tells what is wrong with the schema texts, or with the document over them.
-fn tell(
-    alloc: Global,
-    case: Case<'_>,
-    nesting: usize,
-    document: &str,
-    answer: &mut Answer,
-) -> Result<(), Problem> {
-    let mut checker = Checker::new(alloc, Limits { nesting });
-    let mut lines = Vec::new(alloc);
-    for schema in &case.given.schemas {
-        let text = text_of(case, schema)?;
-        if checker.add_schema(text).is_err() {
-            return Err(Problem::Memory);
-        }
-        lines.push(Lines::new(alloc, text)?)?;
+/// The fault that the row has.
+fn entry_of(alloc: Global, case: Case<'_>) -> Result<Entry, Problem> {
+    let place = place_of(case)?;
+    let mut related = Vec::new(alloc);
+    if let Some(bytes) = case.given.inputs.get(5) {
+        related.push(Related {
+            path: input(alloc, case, 0)?,
+            start: None,
+            words: String::from_str(alloc, text_of(case, bytes)?)?,
+        })?;
     }
-    lines.push(Lines::new(alloc, document)?)?;
-    let mut sources = Vec::new(alloc);
-    for (index, lines) in lines.iter().enumerate() {
-        let path = if index < case.given.schemas.len() { SCHEMA } else { DOCUMENT };
-        sources.push(Source { path, lines })?;
-    }
-    match checker.finish() {
-        Err(refusal) => tell_refusal(alloc, case, &sources, None, SCHEMA, &refusal, answer),
-        Ok(schema) => match schema.check(document) {
-            Ok(_) => {
-                answer.status.put("0");
-                Ok(())
-            }
-            Err(refusal) =>
-                tell_refusal(alloc, case, &sources, Some(&schema), DOCUMENT, &refusal, answer),
-        },
-    }
-}
-
-/// Tells why texts are refused.
-fn tell_refusal(
-    alloc: Global,
-    case: Case<'_>,
-    sources: &[Source<'_>],
-    schema: Option<&CheckedSchema>,
-    path: &str,
-    refusal: &Refusal,
-    answer: &mut Answer,
-) -> Result<(), Problem> {
-    let Refusal::Faults(faults) = refusal else {
-        return Err(Problem::Memory);
-    };
-    let schema = match schema {
+    let hint = match case.given.inputs.get(6) {
         None => None,
-        Some(schema) => Some(schema.schema()),
+        Some(bytes) => Some(String::from_str(alloc, text_of(case, bytes)?)?),
     };
-    answer.status.put("1");
-    let report = Report::new(alloc, faults, sources, schema, path)?;
-    for index in &report.folded(alloc)?.printed {
-        if let Some(entry) = report.entries().get(*index) {
-            answer.text.put(&formed(alloc, case.call, entry)?);
-        }
+    let excerpt = match place {
+        None => None,
+        Some(_) => Some(Excerpt {
+            before: input(alloc, case, 2)?,
+            marked: input(alloc, case, 3)?,
+            after: input(alloc, case, 4)?,
+        }),
+    };
+    Ok(Entry {
+        path: input(alloc, case, 0)?,
+        place,
+        rule: "Rule",
+        message: input(alloc, case, 1)?,
+        excerpt,
+        related,
+        hint,
+        fields: Vec::new(alloc),
+    })
+}
+
+/// The place that the row has, if it names a line.
+fn place_of(case: Case<'_>) -> Result<Option<Place>, Problem> {
+    let row = case.row;
+    let line = number(row, "at", "0")?;
+    if line == 0 {
+        return Ok(None);
     }
-    Ok(())
+    let column = number(row, "column", "1")?;
+    let length = number(row, "length", "1")?;
+    let start = Position { line, column };
+    let end = Position {
+        line,
+        column: column.saturating_add(length),
+    };
+    Ok(Some(Place {
+        start,
+        end,
+        offset: number(row, "offset", "0")?,
+        length,
+    }))
+}
+
+/// The input of this number, or the empty text.
+fn input(alloc: Global, case: Case<'_>, index: usize) -> Result<String, Problem> {
+    match case.given.inputs.get(index) {
+        None => Ok(String::new(alloc)),
+        Some(bytes) => Ok(String::from_str(alloc, text_of(case, bytes)?)?),
+    }
 }
 
 /// The entry in the form of this name.

@@ -1,6 +1,6 @@
 //! Rows of positions, and of what is shown.
 
-use graphql_report::{Lines, shown};
+use report_forms::{Lines, shown};
 use row_files::{Case, Problem, Tally, Way, compare, text_of};
 use std::alloc::Global;
 

@@ -1,4 +1,4 @@
-//! Rows of faults in the forms of a report, of positions in texts, and of what is shown of texts. Its words name the files of its
+//! Rows of the forms of a fault, of positions in texts, and of what is shown of texts. Its words name the files of its
 //! `data/`.
 #![tactic(auto)]
 
@@ -11,13 +11,13 @@ use row_files::{Calls, Case, Problem, Tally, judge_files};
 use std::alloc::Global;
 use std::process::ExitCode;
 
-/// The forms of a report, and what they stand on.
+/// The forms of a fault, and what they stand on.
 struct Reporting;
 
 impl Calls for Reporting {
     fn names_of(&self, call: &str) -> Option<&'static [&'static str]> {
         match call {
-            "text" | "short" | "json" | "github" => Some(&["nesting", "schema", "document"]),
+            "text" | "short" | "json" | "github" => Some(&["at", "column", "length", "offset", "input"]),
             "positions" | "shown" => Some(&["input"]),
             _ => None,
         }
