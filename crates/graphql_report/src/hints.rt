@@ -119,7 +119,7 @@ fn field_hint(
         }
         _ => {}
     }
-    closest.hint()
+    closest.hint("")
 }
 
 /// A type.
@@ -132,7 +132,7 @@ fn type_hint(
     for (name, _) in schema.types.iter() {
         closest.see(name.as_str())?;
     }
-    closest.hint()
+    closest.hint("")
 }
 
 /// A directive.
@@ -145,7 +145,7 @@ fn directive_hint(
     for (name, _) in schema.directive_definitions.iter() {
         closest.see(name.as_str())?;
     }
-    closest.hint()
+    closest.hint("@")
 }
 
 /// A value of the enum, or a field of the input object.
@@ -169,7 +169,7 @@ fn member_hint(
         }
         _ => {}
     }
-    closest.hint()
+    closest.hint("")
 }
 
 /// An argument of the field or of the directive.
@@ -180,13 +180,12 @@ fn argument_hint(
     stands: &Name,
 ) -> Result<Option<String>, AllocError> {
     match coordinate {
-        SchemaCoordinate::FieldArgument(argument) =>
-            match schema.type_field(&argument.ty, &argument.field) {
-                Ok(field) => named_hint(alloc, &field.node.content().arguments, stands),
-                Err(_) => Ok(None),
-            },
-        SchemaCoordinate::DirectiveArgument(argument) =>
-            match schema.directive_definitions.get(&argument.directive) {
+        SchemaCoordinate::TypeAttribute(field) => match schema.type_field(&field.ty, &field.attribute) {
+            Ok(field) => named_hint(alloc, &field.node.content().arguments, stands),
+            Err(_) => Ok(None),
+        },
+        SchemaCoordinate::Directive(directive) =>
+            match schema.directive_definitions.get(&directive.directive) {
                 Some(directive) => named_hint(alloc, &directive.content().arguments, stands),
                 None => Ok(None),
             },
@@ -204,7 +203,7 @@ fn named_hint(
     for argument in arguments {
         closest.see(argument.content().name.as_str())?;
     }
-    closest.hint()
+    closest.hint("")
 }
 
 /// A name that stands behind such a token in the text of the place.
@@ -231,7 +230,7 @@ fn text_hint(
         last = token.kind;
         rest = behind;
     }
-    closest.hint()
+    closest.hint("$")
 }
 
 /// A name that stands behind the word `fragment` in the text of the place.
@@ -257,7 +256,7 @@ fn fragment_hint(
         last = token.text;
         rest = behind;
     }
-    closest.hint()
+    closest.hint("")
 }
 
 /// The first token of a text, and what stands behind it.

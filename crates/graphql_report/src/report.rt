@@ -12,7 +12,7 @@ use crate::source::Source;
 use graphql_faults::{Details, DiagnosticList};
 use graphql_names::SourceSpan;
 use graphql_schema::Schema;
-use report_forms::Entry;
+use report_forms::{Entry, Place};
 use std::alloc::{AllocError, Global};
 use std::collections::{HashMap, HashSet};
 use std::marker::Model;
@@ -94,17 +94,17 @@ impl Report {
         Ok(Folded { printed, left_out })
     }
 
-    /// The offsets at which the usage of a variable is told.
+    /// Where the arguments end of which the usage of a variable is told.
     fn usages(&self, alloc: Global) -> Result<HashSet<usize>, AllocError> {
-        let mut offsets = HashSet::new(alloc);
+        let mut ends = HashSet::new(alloc);
         for entry in &self.entries {
             if let Some(place) = entry.place
                 && entry.rule == "DisallowedVariableUsage"
             {
-                offsets.insert(place.offset)?;
+                ends.insert(end_of(place))?;
             }
         }
-        Ok(offsets)
+        Ok(ends)
     }
 }
 
@@ -124,12 +124,17 @@ fn ranks_of(
     Ok(ranks)
 }
 
-/// Whether it is a value fault where the usage of a variable is told.
+/// Whether it is a value fault on a variable of which the usage is told: an argument ends where its value does.
 fn repeats_usage(usages: &HashSet<usize>, entry: &Entry) -> bool {
     match entry.place {
         None => false,
-        Some(place) => entry.rule == "UnsupportedValueType" && usages.contains(&place.offset),
+        Some(place) => entry.rule == "UnsupportedValueType" && usages.contains(&end_of(place)),
     }
+}
+
+/// Where the place ends.
+fn end_of(place: Place) -> usize {
+    place.offset.saturating_add(place.length)
 }
 
 /// Notes the rule and the message of the entry: how often they were there before.

@@ -86,9 +86,11 @@ fn check_documents(
 fn status(rt: &HostRuntime, settings: &Settings) -> u8 {
     let mut tally = Tally::new();
     let stopped = run(rt, settings, &mut tally);
-    tally.tell(rt);
     match stopped {
-        Ok(()) => tally.status(),
+        Ok(()) => {
+            tally.tell(rt);
+            tally.status()
+        }
         Err(stop) => stop.tell(rt),
     }
 }
