@@ -65,7 +65,7 @@ pub entries_more : (told : List (Place × Details)) (ranks : List Rank) (k : ℕ
     → AreTold (map details_at told) (map number_of (take k ranks)) old → AreTold (map details_at told) (map number_of (take (k + 1) ranks)) new
 entries_more told ranks k r fault old new e less is within at t grown h =
     let more : map number_of (take (k + 1) ranks) ≡ map number_of (take k ranks) ++ r.told ∷ [] =
-        ap (map number_of) (take_more ranks k r less) ∙ map-append number_of (take k ranks) (get_or ranks k r ∷ []) ∙ ap (λ (x : Rank). map number_of (take k ranks) ++ x.told ∷ []) (sym is) in
+    ap (map number_of) (take_more ranks k r less) ∙ map-append number_of (take k ranks) (get_or ranks k r ∷ []) ∙ ap (λ (x : Rank). map number_of (take k ranks) ++ x.told ∷ []) (sym is) in
     subst (λ (l : List Entry). AreTold (map details_at told) (map number_of (take (k + 1) ranks)) l) (sym grown)
     (subst (λ (l : List ℕ). AreTold (map details_at told) l (old ++ e ∷ [])) (sym more)
     (told_more (map details_at told) (map number_of (take k ranks)) old r.told e h (tells_at told r.told fault e within at t)))

@@ -18,7 +18,11 @@ pub(crate) fn excerpt(
     let (head, rest) = split_at(text, place.offset);
     let (marked, behind) = split_at(rest, place.length);
     let shown = first_of_line(marked);
-    let after = if shown == marked { first_of_line(behind) } else { "" };
+    let after = if shown == marked {
+        first_of_line(behind)
+    } else {
+        ""
+    };
     Ok(Excerpt {
         before: String::from_str(alloc, last_of_line(head))?,
         marked: String::from_str(alloc, shown)?,

@@ -70,8 +70,12 @@ fn push_of_document(
         BuildError::UndefinedTypeInNamedFragmentTypeCondition { type_name }
         | BuildError::UndefinedTypeInInlineFragmentTypeCondition { type_name }
         | BuildError::SubselectionOnScalarType { type_name }
-        | BuildError::SubselectionOnEnumType { type_name } =>
-            push(alloc, fields, "type_name", type_name),
+        | BuildError::SubselectionOnEnumType { type_name } => push(
+            alloc,
+            fields,
+            "type_name",
+            type_name,
+        ),
         BuildError::UndefinedField {
             type_name,
             field_name,
@@ -79,12 +83,14 @@ fn push_of_document(
             push(alloc, fields, "type_name", type_name)?;
             push(alloc, fields, "field_name", field_name)
         }
-        BuildError::ConflictingFieldName(conflict) =>
-            push(alloc, fields, "alias", &conflict.alias),
-        BuildError::ConflictingFieldArgument(conflict) =>
-            push(alloc, fields, "alias", &conflict.alias),
-        BuildError::ConflictingFieldType(conflict) =>
-            push(alloc, fields, "alias", &conflict.alias),
+        BuildError::ConflictingFieldName(conflict) => push(alloc, fields, "alias", &conflict.alias),
+        BuildError::ConflictingFieldArgument(conflict) => push(
+            alloc,
+            fields,
+            "alias",
+            &conflict.alias,
+        ),
+        BuildError::ConflictingFieldType(conflict) => push(alloc, fields, "alias", &conflict.alias),
         _ => Ok(()),
     }
 }
@@ -121,13 +127,18 @@ fn push_of_data(
         | DiagnosticData::UnusedVariable { name }
         | DiagnosticData::UndefinedFragment { name }
         | DiagnosticData::UnusedFragment { name }
-        | DiagnosticData::RecursiveFragmentDefinition { name, .. } =>
-            push(alloc, fields, "name", name),
+        | DiagnosticData::RecursiveFragmentDefinition { name, .. } => push(
+            alloc, fields, "name", name,
+        ),
         DiagnosticData::EmptyFieldSet { type_name, .. }
         | DiagnosticData::EmptyValueSet { type_name, .. }
         | DiagnosticData::EmptyMemberSet { type_name, .. }
-        | DiagnosticData::EmptyInputValueSet { type_name, .. } =>
-            push(alloc, fields, "type_name", type_name),
+        | DiagnosticData::EmptyInputValueSet { type_name, .. } => push(
+            alloc,
+            fields,
+            "type_name",
+            type_name,
+        ),
         _ => push_of_others(alloc, fields, data),
     }
 }
@@ -186,10 +197,14 @@ fn push_of_others(
             push(alloc, fields, "argument_type", argument_type)
         }
         DiagnosticData::UndefinedEnumValue {
-            value, definition, ..
+            value,
+            definition,
+            ..
         }
         | DiagnosticData::UndefinedInputValue {
-            value, definition, ..
+            value,
+            definition,
+            ..
         } => {
             push(alloc, fields, "value", value)?;
             push(alloc, fields, "definition", definition)

@@ -24,10 +24,16 @@ pub(crate) fn hint(
     match details {
         Details::Syntax(_) => syntax_hint(alloc, sources, place),
         Details::DocumentBuild(error) => typing_hint(alloc, schema, error),
-        Details::Data(DiagnosticData::UndefinedVariable { name }) =>
-            text_hint(alloc, sources, place, TokenKind::Dollar, name),
-        Details::Data(DiagnosticData::UndefinedFragment { name }) =>
-            fragment_hint(alloc, sources, place, name),
+        Details::Data(DiagnosticData::UndefinedVariable { name }) => text_hint(
+            alloc,
+            sources,
+            place,
+            TokenKind::Dollar,
+            name,
+        ),
+        Details::Data(DiagnosticData::UndefinedFragment { name }) => fragment_hint(
+            alloc, sources, place, name,
+        ),
         Details::Data(data) => schema_hint(alloc, schema, data),
         _ => Ok(None),
     }
@@ -67,8 +73,9 @@ fn typing_hint(
             field_name,
         } => field_hint(alloc, schema, type_name, field_name),
         BuildError::UndefinedTypeInNamedFragmentTypeCondition { type_name }
-        | BuildError::UndefinedTypeInInlineFragmentTypeCondition { type_name } =>
-            type_hint(alloc, schema, type_name),
+        | BuildError::UndefinedTypeInInlineFragmentTypeCondition { type_name } => type_hint(
+            alloc, schema, type_name,
+        ),
         _ => Ok(None),
     }
 }
@@ -86,13 +93,19 @@ fn schema_hint(
         DiagnosticData::UndefinedDefinition { name } => type_hint(alloc, schema, name),
         DiagnosticData::UndefinedDirective { name } => directive_hint(alloc, schema, name),
         DiagnosticData::UndefinedArgument {
-            name, coordinate, ..
+            name,
+            coordinate,
+            ..
         } => argument_hint(alloc, schema, coordinate, name),
         DiagnosticData::UndefinedEnumValue {
-            value, definition, ..
+            value,
+            definition,
+            ..
         }
         | DiagnosticData::UndefinedInputValue {
-            value, definition, ..
+            value,
+            definition,
+            ..
         } => member_hint(alloc, schema, definition, value),
         _ => Ok(None),
     }
@@ -123,11 +136,7 @@ fn field_hint(
 }
 
 /// A type.
-fn type_hint(
-    alloc: Global,
-    schema: &Schema,
-    stands: &Name,
-) -> Result<Option<String>, AllocError> {
+fn type_hint(alloc: Global, schema: &Schema, stands: &Name) -> Result<Option<String>, AllocError> {
     let mut closest = Closest::new(alloc, stands.as_str());
     for (name, _) in schema.types.iter() {
         closest.see(name.as_str())?;
@@ -180,15 +189,20 @@ fn argument_hint(
     stands: &Name,
 ) -> Result<Option<String>, AllocError> {
     match coordinate {
-        SchemaCoordinate::TypeAttribute(field) => match schema.type_field(&field.ty, &field.attribute) {
+        SchemaCoordinate::TypeAttribute(field) => match schema.type_field(
+            &field.ty,
+            &field.attribute,
+        ) {
             Ok(field) => named_hint(alloc, &field.node.content().arguments, stands),
             Err(_) => Ok(None),
         },
-        SchemaCoordinate::Directive(directive) =>
-            match schema.directive_definitions.get(&directive.directive) {
-                Some(directive) => named_hint(alloc, &directive.content().arguments, stands),
-                None => Ok(None),
-            },
+        SchemaCoordinate::Directive(directive) => match schema
+            .directive_definitions
+            .get(&directive.directive)
+        {
+            Some(directive) => named_hint(alloc, &directive.content().arguments, stands),
+            None => Ok(None),
+        },
         _ => Ok(None),
     }
 }

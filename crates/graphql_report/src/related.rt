@@ -104,14 +104,24 @@ fn push_way<T>(places: &mut Vec<Noted>, way: &[Node<T>]) -> Result<(), AllocErro
 /// Adds the places of a fault of typing, merging, subscriptions or `@defer`.
 fn push_of_document(places: &mut Vec<Noted>, error: &BuildError) -> Result<(), AllocError> {
     match error {
-        BuildError::ConflictingFieldName(conflict) =>
-            push(places, conflict.original_location, Words::OtherField),
-        BuildError::ConflictingFieldArgument(conflict) =>
-            push(places, conflict.original_location, Words::OtherField),
-        BuildError::ConflictingFieldType(conflict) =>
-            push(places, conflict.original_location, Words::OtherField),
+        BuildError::ConflictingFieldName(conflict) => push(
+            places,
+            conflict.original_location,
+            Words::OtherField,
+        ),
+        BuildError::ConflictingFieldArgument(conflict) => push(
+            places,
+            conflict.original_location,
+            Words::OtherField,
+        ),
+        BuildError::ConflictingFieldType(conflict) => push(
+            places,
+            conflict.original_location,
+            Words::OtherField,
+        ),
         BuildError::DuplicateDeferLabel {
-            original_location, ..
+            original_location,
+            ..
         } => push(places, *original_location, Words::FirstUsed),
         _ => Ok(()),
     }
@@ -125,8 +135,11 @@ fn push_of_data(places: &mut Vec<Noted>, data: &DiagnosticData) -> Result<(), Al
             ..
         } => push(places, *original_definition, Words::FirstRoot),
         DiagnosticData::OutputType { type_location, .. }
-        | DiagnosticData::InputType { type_location, .. } =>
-            push(places, *type_location, Words::Type),
+        | DiagnosticData::InputType { type_location, .. } => push(
+            places,
+            *type_location,
+            Words::Type,
+        ),
         DiagnosticData::EmptyFieldSet {
             extensions_locations,
             ..
@@ -170,8 +183,11 @@ fn push_of_definition(places: &mut Vec<Noted>, data: &DiagnosticData) -> Result<
             transitive_interface_location,
             ..
         } => push(places, *transitive_interface_location, Words::Implemented),
-        DiagnosticData::MissingInterfaceField { field_location, .. } =>
-            push(places, *field_location, Words::InterfaceField),
+        DiagnosticData::MissingInterfaceField { field_location, .. } => push(
+            places,
+            *field_location,
+            Words::InterfaceField,
+        ),
         DiagnosticData::InvalidImplementationFieldType {
             interface_field_location,
             ..
@@ -187,7 +203,11 @@ fn push_of_definition(places: &mut Vec<Noted>, data: &DiagnosticData) -> Result<
         | DiagnosticData::InvalidImplementationFieldArgumentType {
             interface_argument_location,
             ..
-        } => push(places, *interface_argument_location, Words::InterfaceArgument),
+        } => push(
+            places,
+            *interface_argument_location,
+            Words::InterfaceArgument,
+        ),
         DiagnosticData::UnsupportedLocation {
             definition_location,
             ..
@@ -217,7 +237,8 @@ fn push_of_definition(places: &mut Vec<Noted>, data: &DiagnosticData) -> Result<
             ..
         } => push(places, *definition_location, Words::Definition),
         DiagnosticData::DisallowedVariableUsage {
-            variable_location, ..
+            variable_location,
+            ..
         } => push(places, *variable_location, Words::VariableDefinition),
         DiagnosticData::InvalidFragmentSpread {
             fragment_location,

@@ -109,10 +109,7 @@ impl Report {
 }
 
 /// The ranks of the faults, in order.
-fn ranks_of(
-    alloc: Global,
-    told: &[(Option<SourceSpan>, Details)],
-) -> Result<Vec<Rank>, AllocError>
+fn ranks_of(alloc: Global, told: &[(Option<SourceSpan>, Details)]) -> Result<Vec<Rank>, AllocError>
     ensures { IfOk result (λ ranks. IsPermutation (numbers_below (length told.now)) (map (λ (r : Rank). r.told) ranks.items)) }
 {
     let mut ranks = Vec::new(alloc);

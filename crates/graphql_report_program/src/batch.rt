@@ -64,7 +64,8 @@ fn answer(
     }
     tally.refused = tally.refused.saturating_add(1);
     tally.faults = tally.faults.saturating_add(1);
-    let wrong = "{\"id\":null,\"accepted\":false,\"error\":\"the line is no object with `id` and a text `document`\"}\n";
+    let wrong =
+        "{\"id\":null,\"accepted\":false,\"error\":\"the line is no object with `id` and a text `document`\"}\n";
     Ok(String::from_str(alloc, wrong)?)
 }
 

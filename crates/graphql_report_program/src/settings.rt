@@ -88,7 +88,9 @@ fn command<'a>(alloc: Global) -> Result<Command<'a>, AllocError> {
             Arg::new(alloc, "batch")
                 .long("batch")
                 .action(ArgAction::SetTrue)
-                .help("Documents from standard input, a JSON object a line: {\"id\": .., \"document\": ..}"),
+                .help(
+                    "Documents from standard input, a JSON object a line: {\"id\": .., \"document\": ..}",
+                ),
         )?
         .arg(
             Arg::new(alloc, "DOCUMENT")

@@ -30,7 +30,7 @@ one (suc k) d less = absurd (omega arith)
 pub clean-line : (old line new : List ℕ) → IsUtf8 old → IsUtf8 line → new ≡ old ++ line ++ 10 ∷ [] → HasOnlyLineFeeds old → HasNoControl line → HasOnlyLineFeeds new
 clean-line old line new o l e before shown =
     let parts : chars new ≡ (chars old ++ chars line) ++ chars (10 ∷ []) =
-        ap chars e ∙ chars-append (old ++ line) (10 ∷ []) (IsUtf8-append old line o l) ∙ ap (λ cs. cs ++ chars (10 ∷ [])) (chars-append old line o) in
+    ap chars e ∙ chars-append (old ++ line) (10 ∷ []) (IsUtf8-append old line o l) ∙ ap (λ cs. cs ++ chars (10 ∷ [])) (chars-append old line o) in
     subst (All (λ c. (is_control c && not (c == 10)) ≡ false)) (sym (parts ∙ ap (λ cs. (chars old ++ chars line) ++ cs) feed))
     (All-append (λ c. (is_control c && not (c == 10)) ≡ false) (chars old ++ chars line) (10 ∷ [])
     (All-append (λ c. (is_control c && not (c == 10)) ≡ false) (chars old) (chars line) before (also (chars line) shown)) one)

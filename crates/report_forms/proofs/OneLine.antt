@@ -46,11 +46,11 @@ letter_of false false false false false false x h e = cc
 
 quote_is_big : (x : ℕ) → ((x == 34) || (x == 92)) ≡ true → 32 ≤ x
 quote_is_big x e = elim (eqb_tells x 34) [
-    inl h ↦ omega (arith, h.1)
+  | inl h ↦ omega (arith, h.1)
   | inr h ↦ elim (eqb_tells x 92) [
-      inl i ↦ omega (arith, i.1)
+    | inl i ↦ omega (arith, i.1)
     | inr i ↦ absurd (neither _ _ h.0 i.0 e)
-    ]
+  ]
 ]
   where
     neither : (a b : Bool) → a ≡ false → b ≡ false → (a || b) ≡ true → ⊥
@@ -61,13 +61,13 @@ quote_is_big x e = elim (eqb_tells x 34) [
 one_line-escape_byte : (x : ℕ) → one_line (escape_byte x) ≡ true
 unfolding escape_byte
 one_line-escape_byte x = elim (nat_lt 0 (escape_letter x)) as (λ b. nat_lt 0 (escape_letter x) ≡ b → one_line (cond b (92 ∷ escape_letter x ∷ []) (cond (nat_lt x 32) (92 ∷ 117 ∷ 48 ∷ 48 ∷ digit_char (x / 16) ∷ digit_char (x % 16) ∷ []) (x ∷ []))) ≡ true) [
-    true ↦ λ e. both (nat_le 32 (escape_letter x)) true (letter_of ((x == 34) || (x == 92)) (x == 8) (x == 12) (x == 10) (x == 13) (x == 9) x (quote_is_big x) e) refl
+  | true ↦ λ e. both (nat_le 32 (escape_letter x)) true (letter_of ((x == 34) || (x == 92)) (x == 8) (x == 12) (x == 10) (x == 13) (x == 9) x (quote_is_big x) e) refl
   | false ↦ λ e. elim (leb_tells (suc x) 32) [
-      inl h ↦ ap (λ b. one_line (cond b (92 ∷ 117 ∷ 48 ∷ 48 ∷ digit_char (x / 16) ∷ digit_char (x % 16) ∷ []) (x ∷ []))) h.0
-          ∙ both (nat_le 32 (digit_char (x / 16))) (nat_le 32 (digit_char (x % 16)) && true) (digit (x / 16)) (both (nat_le 32 (digit_char (x % 16))) true (digit (x % 16)) refl)
+    | inl h ↦ ap (λ b. one_line (cond b (92 ∷ 117 ∷ 48 ∷ 48 ∷ digit_char (x / 16) ∷ digit_char (x % 16) ∷ []) (x ∷ []))) h.0
+        ∙ both (nat_le 32 (digit_char (x / 16))) (nat_le 32 (digit_char (x % 16)) && true) (digit (x / 16)) (both (nat_le 32 (digit_char (x % 16))) true (digit (x % 16)) refl)
     | inr h ↦ ap (λ b. one_line (cond b (92 ∷ 117 ∷ 48 ∷ 48 ∷ digit_char (x / 16) ∷ digit_char (x % 16) ∷ []) (x ∷ []))) h.0
-          ∙ both (nat_le 32 x) true (big x (omega (arith, h.1))) refl
-    ]
+        ∙ both (nat_le 32 x) true (big x (omega (arith, h.1))) refl
+  ]
 ] refl
 
 one_line-escape : (s : List ℕ) → one_line (escape s) ≡ true

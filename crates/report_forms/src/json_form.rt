@@ -101,7 +101,10 @@ fn push_place(alloc: Global, out: &mut String, place: Option<Place>) -> Result<(
     ensures { OnOk result (one_line (string_bytes out.new) ≡ true) }
 {
     let Some(place) = place else {
-        push_plain(out, ",\"line\":null,\"column\":null,\"end\":null,\"offset\":null,\"length\":null")?;
+        push_plain(
+            out,
+            ",\"line\":null,\"column\":null,\"end\":null,\"offset\":null,\"length\":null",
+        )?;
         return Ok(());
     };
     push_number(alloc, out, ",\"line\":", place.start.line)?;

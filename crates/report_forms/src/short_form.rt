@@ -46,7 +46,11 @@ impl Entry {
 }
 
 /// Adds a line and a column, each behind a colon.
-pub(crate) fn push_position(alloc: Global, out: &mut String, start: Option<Position>) -> Result<(), AllocError>
+pub(crate) fn push_position(
+    alloc: Global,
+    out: &mut String,
+    start: Option<Position>,
+) -> Result<(), AllocError>
     ensures { OnOk result (string_bytes out.new ≡ string_bytes out.old ++ position_text start) }
 {
     let Some(position) = start else {

@@ -34,7 +34,12 @@ impl Entry {
 }
 
 /// Adds the line with its number, and under it a mark for each column of the place, one at the least.
-fn push_excerpt(alloc: Global, out: &mut String, number: usize, excerpt: &Excerpt) -> Result<(), AllocError>
+fn push_excerpt(
+    alloc: Global,
+    out: &mut String,
+    number: usize,
+    excerpt: &Excerpt,
+) -> Result<(), AllocError>
     ensures value { OnOk result (string_bytes out.new ≡ string_bytes out.old ++ excerpt_text number excerpt.now) }
     ensures clean { OnOk result (HasOnlyLineFeeds (string_bytes out.old) → HasOnlyLineFeeds (string_bytes out.new)) }
 {

@@ -20,8 +20,8 @@ counted_here n c e = ap (λ b. one_if (b && c)) (leb-zero n) ∙ ap one_if e
 pub how_many-none : (p : ℕ → Bool) (low mid high : ℕ) → mid ≤ high → ((k : ℕ) → mid < k → k ≤ high → p k ≡ false) → how_many p low high ≡ how_many p low mid
 how_many-none p low mid zero le none = let e : zero ≡ mid = omega arith in ap (λ n. how_many p low n) e
 how_many-none p low mid (suc n) le none = elim (leb_tells mid n) [
-    inl h ↦ ap (λ x. how_many p low n + x) (none_here _ (p (suc n)) (none (suc n) (omega arith) (omega arith))) ∙ add-zero _
-        ∙ how_many-none p low mid n h.1 (λ k after upto. none k after (omega arith))
+  | inl h ↦ ap (λ x. how_many p low n + x) (none_here _ (p (suc n)) (none (suc n) (omega arith) (omega arith))) ∙ add-zero _
+      ∙ how_many-none p low mid n h.1 (λ k after upto. none k after (omega arith))
   | inr h ↦ let e : suc n ≡ mid = omega arith in ap (λ m. how_many p low m) e
 ]
 
@@ -32,7 +32,7 @@ how_many-self p low = none_up_to low (omega arith)
     none_up_to : (n : ℕ) → n ≤ low → how_many p low n ≡ 0
     none_up_to zero le = refl
     none_up_to (suc n) le = elim (leb_tells low n) [
-        inl h ↦ absurd (omega arith)
+      | inl h ↦ absurd (omega arith)
       | inr h ↦ ap (λ b. how_many p low n + one_if (b && p (suc n))) h.0 ∙ add-zero _ ∙ none_up_to n (omega arith)
     ]
 
@@ -40,6 +40,6 @@ how_many-self p low = none_up_to low (omega arith)
 pub how_many-le : (p : ℕ → Bool) (low mid high : ℕ) → mid ≤ high → how_many p low mid ≤ how_many p low high
 how_many-le p low mid zero le = let e : mid ≡ zero = omega arith in subst (λ (n : ℕ). how_many p low n ≤ how_many p low zero) (sym e) (omega arith)
 how_many-le p low mid (suc n) le = elim (leb_tells mid n) [
-    inl h ↦ omega (arith, how_many-le p low mid n h.1)
+  | inl h ↦ omega (arith, how_many-le p low mid n h.1)
   | inr h ↦ let e : mid ≡ suc n = omega arith in subst (λ (m : ℕ). how_many p low m ≤ how_many p low (suc n)) (sym e) (omega arith)
 ]

@@ -22,15 +22,15 @@ last_start text (suc n) = cond (ends_line text (suc n)) (suc n) (last_start text
 pub last_start-is : (text : List ℕ) (n : ℕ) → IsLineStart text n (last_start text n)
 last_start-is text zero = record { before = omega arith; begins = λ ne. absurd (ne refl); last = λ k after upto. absurd (omega arith) }
 last_start-is text (suc n) = elim (ends_line text (suc n)) as (λ b. ends_line text (suc n) ≡ b → IsLineStart text (suc n) (cond b (suc n) (last_start text n))) [
-    true ↦ λ e. record { before = omega arith; begins = λ _. e; last = λ k after upto. absurd (omega arith) }
+  | true ↦ λ e. record { before = omega arith; begins = λ _. e; last = λ k after upto. absurd (omega arith) }
   | false ↦ λ e. let ih = last_start-is text n in record {
-      before = omega (arith, ih.before);
-      begins = ih.begins;
-      last = λ k after upto. elim (leb_tells k n) [
-          inl h ↦ ih.last k after h.1
-        | inr h ↦ let is : suc n ≡ k = omega arith in subst (λ (m : ℕ). ends_line text m ≡ false) is e
-      ];
-    }
+    before = omega (arith, ih.before);
+    begins = ih.begins;
+    last = λ k after upto. elim (leb_tells k n) [
+      | inl h ↦ ih.last k after h.1
+      | inr h ↦ let is : suc n ≡ k = omega arith in subst (λ (m : ℕ). ends_line text m ≡ false) is e
+    ];
+  }
 ] refl
 
 -- they end with the last, and before it stand as many as line terminators end
@@ -42,26 +42,26 @@ pub record EndWithLast (text : List ℕ) (n : ℕ) : Type 0 where
 pub starts-end : (text : List ℕ) (n : ℕ) → EndWithLast text n
 starts-end text zero = record { front = []; split = refl; counted = refl }
 starts-end text (suc n) = let ih = starts-end text n in elim (ends_line text (suc n)) as (λ b. ends_line text (suc n) ≡ b → EndWithLast text (suc n)) [
-    true ↦ λ e. record {
-      front = starts_up_to text n;
-      split = ap (λ b. cond b (starts_up_to text n ++ suc n ∷ []) (starts_up_to text n)) e ∙ ap (λ b. starts_up_to text n ++ cond b (suc n) (last_start text n) ∷ []) (sym e);
-      counted = ap length ih.split ∙ length-append ih.front (last_start text n ∷ []) ∙ ap (λ m. m + 1) ih.counted ∙ ap (λ x. how_many (ends_line text) 0 n + x) (sym (counted_here n _ e));
-    }
+  | true ↦ λ e. record {
+    front = starts_up_to text n;
+    split = ap (λ b. cond b (starts_up_to text n ++ suc n ∷ []) (starts_up_to text n)) e ∙ ap (λ b. starts_up_to text n ++ cond b (suc n) (last_start text n) ∷ []) (sym e);
+    counted = ap length ih.split ∙ length-append ih.front (last_start text n ∷ []) ∙ ap (λ m. m + 1) ih.counted ∙ ap (λ x. how_many (ends_line text) 0 n + x) (sym (counted_here n _ e));
+  }
   | false ↦ λ e. record {
-      front = ih.front;
-      split = ap (λ b. cond b (starts_up_to text n ++ suc n ∷ []) (starts_up_to text n)) e ∙ ih.split ∙ ap (λ b. ih.front ++ cond b (suc n) (last_start text n) ∷ []) (sym e);
-      counted = ih.counted ∙ sym (add-zero _) ∙ ap (λ x. how_many (ends_line text) 0 n + x) (sym (none_here (nat_le 0 n) _ e));
-    }
+    front = ih.front;
+    split = ap (λ b. cond b (starts_up_to text n ++ suc n ∷ []) (starts_up_to text n)) e ∙ ih.split ∙ ap (λ b. ih.front ++ cond b (suc n) (last_start text n) ∷ []) (sym e);
+    counted = ih.counted ∙ sym (add-zero _) ∙ ap (λ x. how_many (ends_line text) 0 n + x) (sym (none_here (nat_le 0 n) _ e));
+  }
 ] refl
 
 pub starts-le : (text : List ℕ) (n k d : ℕ) → k < length (starts_up_to text n) → get_or (starts_up_to text n) k d ≤ n
 starts-le text zero zero d less = omega arith
 starts-le text zero (suc k) d less = absurd (omega arith)
 starts-le text (suc n) k d less = elim (ends_line text (suc n)) as (λ b. k < length (cond b (starts_up_to text n ++ suc n ∷ []) (starts_up_to text n)) → get_or (cond b (starts_up_to text n ++ suc n ∷ []) (starts_up_to text n)) k d ≤ suc n) [
-    true ↦ λ within. elim (leb_tells (length (starts_up_to text n)) k) [
-        inl h ↦ let at : length (starts_up_to text n) ≡ k = omega (arith, h.1, within, length-append (starts_up_to text n) (suc n ∷ [])) in rw (get_or_at (starts_up_to text n) (suc n) [] d k at) (omega arith)
-      | inr h ↦ rw (get_or_append_left (starts_up_to text n) (suc n ∷ []) d k h.1) (omega (arith, starts-le text n k d h.1))
-    ]
+  | true ↦ λ within. elim (leb_tells (length (starts_up_to text n)) k) [
+    | inl h ↦ let at : length (starts_up_to text n) ≡ k = omega (arith, h.1, within, length-append (starts_up_to text n) (suc n ∷ [])) in rw (get_or_at (starts_up_to text n) (suc n) [] d k at) (omega arith)
+    | inr h ↦ rw (get_or_append_left (starts_up_to text n) (suc n ∷ []) d k h.1) (omega (arith, starts-le text n k d h.1))
+  ]
   | false ↦ λ within. omega (arith, starts-le text n k d within)
 ] less
 
@@ -82,29 +82,29 @@ starts-extend text n zero le = let e : zero ≡ n = omega arith in record {
   behind = λ k d less. absurd (omega arith);
 }
 starts-extend text n (suc m) le = elim (leb_tells n m) [
-    inl h ↦ grow h.1 (starts-extend text n m h.1)
+  | inl h ↦ grow h.1 (starts-extend text n m h.1)
   | inr h ↦ let e : suc m ≡ n = omega arith in record {
-      rest = [];
-      split = ap (λ k. starts_up_to text k) e ∙ starts-append_nil _;
-      behind = λ k d less. absurd (omega arith);
-    }
+    rest = [];
+    split = ap (λ k. starts_up_to text k) e ∙ starts-append_nil _;
+    behind = λ k d less. absurd (omega arith);
+  }
 ]
   where
     grow : n ≤ m → Extend text n m → Extend text n (suc m)
     grow below ih = elim (ends_line text (suc m)) as (λ b. ends_line text (suc m) ≡ b → Extend text n (suc m)) [
-        true ↦ λ e. record {
-          rest = ih.rest ++ suc m ∷ [];
-          split = ap (λ b. cond b (starts_up_to text m ++ suc m ∷ []) (starts_up_to text m)) e ∙ ap (λ l. l ++ suc m ∷ []) ih.split ∙ append_assoc (starts_up_to text n) ih.rest (suc m ∷ []);
-          behind = λ k d less. elim (leb_tells (length ih.rest) k) [
-              inl h ↦ let at : length ih.rest ≡ k = omega (arith, h.1, less, length-append ih.rest (suc m ∷ [])) in rw (get_or_at ih.rest (suc m) [] d k at) (omega arith)
-            | inr h ↦ rw (get_or_append_left ih.rest (suc m ∷ []) d k h.1) (ih.behind k d h.1)
-          ];
-        }
+      | true ↦ λ e. record {
+        rest = ih.rest ++ suc m ∷ [];
+        split = ap (λ b. cond b (starts_up_to text m ++ suc m ∷ []) (starts_up_to text m)) e ∙ ap (λ l. l ++ suc m ∷ []) ih.split ∙ append_assoc (starts_up_to text n) ih.rest (suc m ∷ []);
+        behind = λ k d less. elim (leb_tells (length ih.rest) k) [
+          | inl h ↦ let at : length ih.rest ≡ k = omega (arith, h.1, less, length-append ih.rest (suc m ∷ [])) in rw (get_or_at ih.rest (suc m) [] d k at) (omega arith)
+          | inr h ↦ rw (get_or_append_left ih.rest (suc m ∷ []) d k h.1) (ih.behind k d h.1)
+        ];
+      }
       | false ↦ λ e. record {
-          rest = ih.rest;
-          split = ap (λ b. cond b (starts_up_to text m ++ suc m ∷ []) (starts_up_to text m)) e ∙ ih.split;
-          behind = ih.behind;
-        }
+        rest = ih.rest;
+        split = ap (λ b. cond b (starts_up_to text m ++ suc m ∷ []) (starts_up_to text m)) e ∙ ih.split;
+        behind = ih.behind;
+      }
     ] refl
 
 -- a search for the last at or before the place is a search in a list that the test parts
@@ -114,15 +114,17 @@ starts-parted text place within i j d le less passes =
     let all = starts_up_to text (length text) in
     let early = starts_up_to text place in
     let below : j < length early = elim (leb_tells (length early) j) [
-        inl h ↦ absurd (omega (arith, e.behind (j - length early) d (omega (arith, h.1, less, ap length e.split, length-append early e.rest)), behind_at e.rest e.split h.1, told passes))
+      | inl h ↦ absurd (omega (arith, e.behind (j - length early) d (omega (arith, h.1, less, ap length e.split, length-append early e.rest)), behind_at e.rest e.split h.1, told passes))
       | inr h ↦ h.1
     ] in
     tells (subst (λ (l : List ℕ). get_or l i d ≤ place) (sym e.split) (rw (get_or_append_left early e.rest d i (omega arith)) (starts-le text place i d (omega arith))))
   where
     told : nat_le (get_or (starts_up_to text (length text)) j d) place ≡ true → get_or (starts_up_to text (length text)) j d ≤ place
     told h = grind (arith, nat_tests)
+
     tells : get_or (starts_up_to text (length text)) i d ≤ place → nat_le (get_or (starts_up_to text (length text)) i d) place ≡ true
     tells h = grind (arith, nat_tests)
+
     behind_at : (rest : List ℕ) → starts_up_to text (length text) ≡ starts_up_to text place ++ rest → length (starts_up_to text place) ≤ j → get_or (starts_up_to text (length text)) j d ≡ get_or rest (j - length (starts_up_to text place)) d
     behind_at rest split h = ap (λ l. get_or l j d) split ∙ get_or-append_right (starts_up_to text place) rest (length (starts_up_to text place)) j d refl h
 
@@ -140,16 +142,16 @@ found_line text place i within short point =
     let parts = starts-extend text place (length text) within in
     let ends = starts-end text place in
     let counted : length early ≡ suc (how_many (ends_line text) 0 place)
-        = omega (arith, ap length ends.split, length-append ends.front (last_start text place ∷ []), ends.counted) in
+    = omega (arith, ap length ends.split, length-append ends.front (last_start text place ∷ []), ends.counted) in
     let sizes : length all ≡ length early + length parts.rest = ap length parts.split ∙ length-append early parts.rest in
     let not_less : length early ≤ i = elim (leb_tells (length early) i) [
-        inl h ↦ h.1
+      | inl h ↦ h.1
       | inr h ↦
           let first : get_or all i 0 ≡ get_or early i 0 = ap (λ l. get_or l i 0) parts.split ∙ get_or_append_left early parts.rest 0 i h.1 in
           absurd (omega (arith, first, starts-le text place i 0 h.1, refused (get_or all i 0) place (point.1 i 0 (omega arith) (omega (arith, h.1)))))
     ] in
     let not_more : i ≤ length early = elim (leb_tells i (length early)) [
-        inl h ↦ h.1
+      | inl h ↦ h.1
       | inr h ↦
           let next : get_or all (length early) 0 ≡ get_or parts.rest 0 0 = ap (λ l. get_or l (length early) 0) parts.split ∙ at_seam early parts.rest in
           absurd (omega (arith, next, parts.behind 0 0 (omega arith), accepted (get_or all (length early) 0) place (point.0 (length early) 0 (omega arith) h.1)))
@@ -158,17 +160,19 @@ found_line text place i within short point =
     record {
       line = at ∙ counted;
       start =
-        let before : i - 1 ≡ length ends.front = omega (arith, counted, ends.counted) in
-        let inside : length ends.front < length early = omega (arith, counted, ends.counted) in
-        ap (λ (n : ℕ). get_or all n 0) before ∙ ap (λ l. get_or l (length ends.front) 0) parts.split
-        ∙ get_or_append_left early parts.rest 0 (length ends.front) inside
-        ∙ ap (λ l. get_or l (length ends.front) 0) ends.split ∙ get_or_at ends.front (last_start text place) [] 0 (length ends.front) refl;
+          let before : i - 1 ≡ length ends.front = omega (arith, counted, ends.counted) in
+          let inside : length ends.front < length early = omega (arith, counted, ends.counted) in
+          ap (λ (n : ℕ). get_or all n 0) before ∙ ap (λ l. get_or l (length ends.front) 0) parts.split
+          ∙ get_or_append_left early parts.rest 0 (length ends.front) inside
+          ∙ ap (λ l. get_or l (length ends.front) 0) ends.split ∙ get_or_at ends.front (last_start text place) [] 0 (length ends.front) refl;
     }
   where
     refused : (a b : ℕ) → nat_le a b ≡ false → b < a
     refused a b h = grind (arith, nat_tests)
+
     accepted : (a b : ℕ) → nat_le a b ≡ true → a ≤ b
     accepted a b h = grind (arith, nat_tests)
+
     at_seam : (xs ys : List ℕ) → get_or (xs ++ ys) (length xs) 0 ≡ get_or ys 0 0
     at_seam [] ys = refl
     at_seam (x ∷ xs) ys = at_seam xs ys
@@ -181,7 +185,7 @@ ends_line-beyond text (suc k) less = rw (get_or_past text k 0 (omega arith)) ref
 pub ends_character-beyond : (text : List ℕ) (k : ℕ) → length text < k → ends_character text k ≡ false
 ends_character-beyond text zero less = absurd (omega arith)
 ends_character-beyond text (suc k) less = elim (leb_tells (suc k) (length text)) [
-    inl h ↦ absurd (omega (arith, h.1))
+  | inl h ↦ absurd (omega (arith, h.1))
   | inr h ↦ ap (λ b. b && not (continues_character (get_or text (suc k) 0))) h.0
 ]
 
@@ -190,11 +194,15 @@ pub IsPosition-beyond : (text : List ℕ) (place : ℕ) (position : Position) �
 IsPosition-beyond text place position beyond is =
     let start = is.column.1 in record {
       line = is.line ∙ ap (λ n. 1 + n) (sym (how_many-none (ends_line text) 0 (length text) place beyond (λ k after upto. ends_line-beyond text k after)));
-      column = (is.column.0, record {
-        before = omega (arith, start.before);
-        begins = start.begins;
-        last = λ k after upto. elim (leb_tells k (length text)) [ inl h ↦ start.last k after h.1 | inr h ↦ ends_line-beyond text k h.1 ];
-      }, is.column.2 ∙ ap (λ n. 1 + n) (sym (how_many-none (ends_character text) is.column.0 (length text) place beyond (λ k after upto. ends_character-beyond text k after))));
+      column = (
+        is.column.0,
+        record {
+          before = omega (arith, start.before);
+          begins = start.begins;
+          last = λ k after upto. elim (leb_tells k (length text)) [ inl h ↦ start.last k after h.1 | inr h ↦ ends_line-beyond text k h.1 ];
+        },
+        is.column.2 ∙ ap (λ n. 1 + n) (sym (how_many-none (ends_character text) is.column.0 (length text) place beyond (λ k after upto. ends_character-beyond text k after))),
+      );
     }
 
 -- behind which byte a line terminator ends
@@ -205,11 +213,11 @@ neither false false c p q e = cc
 
 pub terminator_byte : (text : List ℕ) (k : ℕ) → ends_line text (suc k) ≡ true → (get_or text k 0 ≡ 10) ⊎ (get_or text k 0 ≡ 13)
 terminator_byte text k e = elim (eqb_tells (get_or text k 0) 10) [
-    inl h ↦ inl h.1
+  | inl h ↦ inl h.1
   | inr h ↦ elim (eqb_tells (get_or text k 0) 13) [
-      inl i ↦ inr i.1
+    | inl i ↦ inr i.1
     | inr i ↦ absurd (neither _ _ _ h.0 i.0 e)
-    ]
+  ]
 ]
 
 -- a text may be cut where a line begins
@@ -235,16 +243,16 @@ numbered text zero zero within less = record {
 }
 numbered text zero (suc i) within less = absurd (omega arith)
 numbered text (suc n) i within less = elim (ends_line text (suc n)) as (λ b. ends_line text (suc n) ≡ b → i < length (cond b (starts_up_to text n ++ suc n ∷ []) (starts_up_to text n)) → IsNumberedStart text (i + 1) (get_or (cond b (starts_up_to text n ++ suc n ∷ []) (starts_up_to text n)) i 0)) [
-    true ↦ λ e short. elim (leb_tells (length (starts_up_to text n)) i) [
-        inl h ↦
-          let at : length (starts_up_to text n) ≡ i = omega (arith, h.1, short, length-append (starts_up_to text n) (suc n ∷ [])) in
-          let one_more : how_many (ends_line text) 0 (suc n) ≡ how_many (ends_line text) 0 n + 1 = ap (λ x. how_many (ends_line text) 0 n + x) (counted_here n _ e) in
-          subst (IsNumberedStart text (i + 1)) (sym (get_or_at (starts_up_to text n) (suc n) [] 0 i at)) (record {
-            within = within;
-            begins = record { before = omega arith; begins = λ _. e; last = λ k after upto. absurd (omega arith) };
-            counted = omega (arith, at, one_more, length-starts text n);
-          })
-      | inr h ↦ subst (IsNumberedStart text (i + 1)) (sym (get_or_append_left (starts_up_to text n) (suc n ∷ []) 0 i h.1)) (numbered text n i (omega arith) h.1)
-    ]
+  | true ↦ λ e short. elim (leb_tells (length (starts_up_to text n)) i) [
+    | inl h ↦
+        let at : length (starts_up_to text n) ≡ i = omega (arith, h.1, short, length-append (starts_up_to text n) (suc n ∷ [])) in
+        let one_more : how_many (ends_line text) 0 (suc n) ≡ how_many (ends_line text) 0 n + 1 = ap (λ x. how_many (ends_line text) 0 n + x) (counted_here n _ e) in
+        subst (IsNumberedStart text (i + 1)) (sym (get_or_at (starts_up_to text n) (suc n) [] 0 i at)) (record {
+          within = within;
+          begins = record { before = omega arith; begins = λ _. e; last = λ k after upto. absurd (omega arith) };
+          counted = omega (arith, at, one_more, length-starts text n);
+        })
+    | inr h ↦ subst (IsNumberedStart text (i + 1)) (sym (get_or_append_left (starts_up_to text n) (suc n ∷ []) 0 i h.1)) (numbered text n i (omega arith) h.1)
+  ]
   | false ↦ λ e short. numbered text n i (omega arith) short
 ] refl less

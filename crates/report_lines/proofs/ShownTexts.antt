@@ -21,10 +21,10 @@ picture c less = grind (arith, nat_tests)
 
 stands_in : (c : ℕ) → is_control (stand_in c) ≡ false
 stands_in c = elim (is_control c) as (λ b. is_control c ≡ b → is_control (cond b (cond (nat_lt c 32) (9216 + c) (cond (c == 127) 9249 0xFFFD)) c) ≡ false) [
-    true ↦ λ e. elim (leb_tells (suc c) 32) [
-        inl h ↦ ap (λ b. is_control (cond b (9216 + c) (cond (c == 127) 9249 0xFFFD))) h.0 ∙ picture c (omega (arith, h.1))
-      | inr h ↦ ap (λ b. is_control (cond b (9216 + c) (cond (c == 127) 9249 0xFFFD))) h.0 ∙ either (c == 127)
-    ]
+  | true ↦ λ e. elim (leb_tells (suc c) 32) [
+    | inl h ↦ ap (λ b. is_control (cond b (9216 + c) (cond (c == 127) 9249 0xFFFD))) h.0 ∙ picture c (omega (arith, h.1))
+    | inr h ↦ ap (λ b. is_control (cond b (9216 + c) (cond (c == 127) 9249 0xFFFD))) h.0 ∙ either (c == 127)
+  ]
   | false ↦ λ e. e
 ] refl
   where
@@ -43,7 +43,7 @@ spaces = All-append (λ c. is_control c ≡ false) (32 ∷ []) (32 ∷ 32 ∷ 32
 
 character_shown : (c : ℕ) → All (λ c. is_control c ≡ false) (shown_character c)
 character_shown c = elim (c == 9) as (λ b. All (λ c. is_control c ≡ false) (cond b (32 ∷ 32 ∷ 32 ∷ 32 ∷ []) (stand_in c ∷ []))) [
-    true ↦ spaces
+  | true ↦ spaces
   | false ↦ one (stand_in c) (stands_in c)
 ]
 

@@ -17,7 +17,10 @@ pub(crate) fn by_positions(
         let mut separator = "";
         for offset in 0..=text.len() {
             let position = lines.position(offset);
-            tally.answer.text.show_between(separator, &position.line, ":");
+            tally
+                .answer
+                .text
+                .show_between(separator, &position.line, ":");
             tally.answer.text.show(&position.column);
             if let Some(back) = lines.offset(position)
                 && back != offset

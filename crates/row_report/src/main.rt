@@ -17,7 +17,9 @@ struct Reporting;
 impl Calls for Reporting {
     fn names_of(&self, call: &str) -> Option<&'static [&'static str]> {
         match call {
-            "text" | "short" | "json" | "github" => Some(&["at", "column", "length", "offset", "input"]),
+            "text" | "short" | "json" | "github" => Some(&[
+                "at", "column", "length", "offset", "input",
+            ]),
             "positions" | "shown" => Some(&["input"]),
             _ => None,
         }

@@ -22,7 +22,7 @@ found : (text starts : List ℕ) (place i : ℕ) → starts ≡ starts_up_to tex
     → IsPartitionPoint (λ y. nat_le y place ≡ true) (λ y. nat_le y place ≡ false) starts i → Found text starts place i
 found text starts place i is within short point =
     let f = found_line text place i within (subst (λ (l : List ℕ). i ≤ length l) is short)
-        (subst (λ (l : List ℕ). IsPartitionPoint (λ y. nat_le y place ≡ true) (λ y. nat_le y place ≡ false) l i) is point) in
+    (subst (λ (l : List ℕ). IsPartitionPoint (λ y. nat_le y place ≡ true) (λ y. nat_le y place ≡ false) l i) is point) in
     record {
       above = omega (arith, f.line);
       short = short;
@@ -50,7 +50,7 @@ overflow_sub-line c =
 pub index-requires : goal.index-requires
 index-requires c =
     let f = found c.self.inside.text.now c.deref.result.now c.args.place c.count_up_to-line.result (c.deref.ensures.value ∙ c.self.invariant)
-        (within_text c.self.inside.text.now c.args.self.now c.args.place c.self.view_is c.requires) c.count_up_to-line.ensures.bound c.count_up_to-line.ensures.point in
+    (within_text c.self.inside.text.now c.args.self.now c.args.place c.self.view_is c.requires) c.count_up_to-line.ensures.bound c.count_up_to-line.ensures.point in
     omega (arith, f.above, f.short, c.deref.ensures.len)
 
 pub returns-clause-number : goal.returns-clause-number

@@ -19,7 +19,7 @@ some_then (Some v) P Q f p = f v p
 pub returns-in_err-start-clause-none : goal.returns-in_err-start-clause-none
 returns-in_err-start-clause-none c =
     let nowhere : (place : ℕ) → ¬ (IsPosition c.args.self.now place c.args.position) = λ place is.
-        let bad : false ≡ true = c.in_err-start.ensures.found.1 (line_is_there c.args.self.now place c.args.position is) in cc in
+    let bad : false ≡ true = c.in_err-start.ensures.found.1 (line_is_there c.args.self.now place c.args.position is) in cc in
     where_none c.from_residual.result _ nowhere
 
 pub returns-clause-found : goal.returns-clause-found

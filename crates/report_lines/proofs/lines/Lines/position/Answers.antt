@@ -12,8 +12,8 @@ at_place : (text : List ℕ) (offset place line start column : ℕ) → place �
 at_place text offset place line start column is counted starts count =
     let there : IsPosition text place (record { line = line; column = column + 1 }) = record { line = counted; column = (start, starts, omega (arith, count)) } in
     elim (leb_tells (length text) offset) [
-      inl h ↦ let end : place ≡ length text = omega (arith, h.1) in IsPosition-beyond text offset _ h.1 (subst (λ (p : ℕ). IsPosition text p (record { line = line; column = column + 1 })) end there)
-    | inr h ↦ let same : place ≡ offset = omega (arith, h.1) in subst (λ (p : ℕ). IsPosition text p (record { line = line; column = column + 1 })) same there
+      | inl h ↦ let end : place ≡ length text = omega (arith, h.1) in IsPosition-beyond text offset _ h.1 (subst (λ (p : ℕ). IsPosition text p (record { line = line; column = column + 1 })) end there)
+      | inr h ↦ let same : place ≡ offset = omega (arith, h.1) in subst (λ (p : ℕ). IsPosition text p (record { line = line; column = column + 1 })) same there
     ]
 
 pub returns : goal.returns
