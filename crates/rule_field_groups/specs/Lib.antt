@@ -1,6 +1,7 @@
 pub mod Kinds
 pub mod Shapes
 pub mod Grouped
+pub mod KeyGroups
 pub mod Passes
 pub mod Compared
 pub mod Below
