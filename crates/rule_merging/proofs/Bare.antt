@@ -1,5 +1,5 @@
 -- Sets without selections select nothing.
-use Rattle.std.proofs.Common.{◌≡◌, None, Contains}
+use Rattle.std.proofs.Common.{◌≡◌, None}
 use Rattle.rule_definitions.proofs.Lists.{not_in_nil}
 use Rattle.document_meaning.specs.MeantTree.{MeantSet, meant_set, no_meant, meant_then, MeantDocument}
 use Rattle.document_meaning.specs.Unplaced.{unplaced_set}

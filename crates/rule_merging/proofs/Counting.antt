@@ -23,7 +23,7 @@ use Rattle.rule_document_definitions.specs.Merging.{Below, Starts}
 use Rattle.rule_document_definitions.proofs.Unplaced.{contains_map, contains_unmap}
 use Rattle.rule_field_groups.specs.in_ground.Fields.{field_of, fields_of}
 use Rattle.rule_field_groups.specs.in_ground.declared.field_selection.FieldSelection.{FieldSelection}
-use Rattle.rule_merging_laws.specs.Contents.{PlainField, PlainBelow, IsSelected}
+use Rattle.rule_merging_laws.specs.Contents.{PlainField, PlainBelow}
 use Rattle.rule_merging_laws.proofs.Elsewhere.{content_starts}
 use Rattle.rule_merging_laws.proofs.PlainFacts.{plain_below, below_standing}
 use Rattle.rule_field_groups.specs.declared.pass.Pass.{Pass}
@@ -33,7 +33,7 @@ use Rattle.rule_merging.specs.Remembered.{Kept}
 use Rattle.rule_merging.specs.Examined.{SetsExamined, with_each}
 use Rattle.rule_merging.specs.Verdict.{OnlyGrow}
 use Rattle.rule_field_groups.specs.Compared.{compared}
-use Rattle.rule_merging.specs.Counted.{DifferInMembers, AreApart, IsLast, AreLast, IsListed, AreListed, Grows, IsCountedBy}
+use Rattle.rule_merging.specs.Counted.{DifferInMembers, AreApart, IsLast, AreLast, AreListed, Grows, IsCountedBy}
 use Rattle.rule_number_lists.specs.NumberLists.{HaveSame}
 use Rattle.rule_number_lists.proofs.Standing.{same_order, same_trans, same_sym, no_repeat_order}
 use Rattle.rule_field_groups.proofs.Lists.{slice_get-push_cases, contains_from_get}

@@ -23,11 +23,11 @@ use Rattle.rule_document_definitions.proofs.Unplaced.{contains_map, contains_unm
 use Rattle.rule_field_groups.specs.in_ground.Fields.{field_of, fields_of}
 use Rattle.rule_field_groups.specs.in_ground.declared.field_selection.FieldSelection.{FieldSelection}
 use Rattle.rule_merging_laws.specs.Contents.{PlainField, PlainSet, PlainBelow, PlainStarts, IsSelected}
-use Rattle.rule_merging_laws.specs.Settled.{StandIn, StartsStand, IsUnderWay}
+use Rattle.rule_merging_laws.specs.Settled.{StandIn, StartsStand}
 use Rattle.rule_merging_laws.specs.Going.{IsEndOf, IsGoing}
 use Rattle.rule_merging_laws.proofs.SettledFacts.{settled_nothing, by_head, begun, moved, ended}
 use Rattle.rule_merging_laws.proofs.GoingFacts.{going_start, going_below, end_start, end_below}
-use Rattle.rule_merging_laws.proofs.PlainFacts.{arguments_plain, plain_selected, selected_plain, starts_plain}
+use Rattle.rule_merging_laws.proofs.PlainFacts.{arguments_plain, selected_plain}
 use Rattle.rule_merging_laws.proofs.Merges.{going_breaks, bound_passed}
 use Rattle.rule_field_groups.specs.declared.pass.Pass.{Pass}
 use Rattle.rule_field_groups.specs.declared.pass.Pass.TheVariants.{Shapes, Selections}
@@ -38,7 +38,7 @@ use Rattle.rule_merging.proofs.Bare.{IsIn, bare_selects, bare_plain}
 use Rattle.rule_number_lists.specs.NumberLists.{HaveSame}
 use Rattle.rule_number_lists.proofs.Standing.{same_sym}
 use Rattle.rule_merging.specs.Remembered.{Kept, nothing_kept, HasLooked, Expands}
-use Rattle.rule_merging.specs.Examined.{Sets, all_sets, all_plain, with_each, with_sets, if_any, AreOf, HaveBoth, PlainSelected, IsLeft, AllStand, AreSettled, AreUnderWay, HaveFields, GroupExamined, GroupsExamined, ListExamined, IsGroupIn, ComeFrom, TellsIn, SetsExamined, AreTwosOf, AllExamined}
+use Rattle.rule_merging.specs.Examined.{Sets, all_sets, all_plain, with_each, with_sets, if_any, AreOf, HaveBoth, PlainSelected, IsLeft, AllStand, AreSettled, AreUnderWay, HaveFields, GroupExamined, GroupsExamined, ListExamined, SetsExamined, AreTwosOf, AllExamined}
 
 -- ---- lists
 

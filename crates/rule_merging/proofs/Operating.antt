@@ -1,5 +1,5 @@
 -- What both passes over the lists of an operation come to.
-use Rattle.std.proofs.Common.{◌≡◌, ◌⊎◌, ◌∙◌, Bool, true, false, ◌||◌, List, [], ◌++◌, refl, sym, ap, subst, append_assoc, inl, inr}
+use Rattle.std.proofs.Common.{◌≡◌, ◌⊎◌, ◌∙◌, Bool, true, false, ◌||◌, List, ◌++◌, refl, sym, ap, subst, append_assoc, inl, inr}
 use Rattle.std.proofs.lemmas.List.Elements.{Contains-append_cases}
 use Rattle.graphql_names.specs.Placed.{Place}
 use Rattle.graphql_names.specs.Node.{content}

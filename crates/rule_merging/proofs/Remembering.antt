@@ -1,6 +1,5 @@
 -- Lists that are remembered: what stands at the numbers that are kept.
-use Rattle.std.proofs.Common.{◌≡◌, ◌⊎◌, ◌∙◌, ℕ, ◌+◌, ◌<◌, ◌≤◌, Bool, true, false, List, [], ◌∷◌, ◌++◌, map, length, get_or, slice_get, Some, Result, Ok, Err, Contains, true≢false, refl, sym, ap, subst, length-append, arith, inl, inr}
-use Rattle.std.specs.Option.{option_map}
+use Rattle.std.proofs.Common.{◌≡◌, ◌⊎◌, ◌∙◌, ℕ, ◌<◌, ◌≤◌, Bool, true, false, List, [], ◌∷◌, map, length, get_or, slice_get, Some, Contains, true≢false, refl, sym, ap, subst, length-append, arith, inl, inr}
 use Rattle.std.specs.List.{IsDistinct}
 use Rattle.std.specs.List.Sorted.{IsPermutation}
 use Rattle.std.proofs.lemmas.Bool.{cases_eq, cases_lt}
@@ -10,11 +9,10 @@ use Rattle.std.proofs.lemmas.Option.{slice_get_within, get_or_from_slice_get}
 use Rattle.rule_cycle_search.specs.Paths.{HasNoRepeat}
 use Rattle.rule_cycle_search.proofs.Lists.{mapped_some, slice_get-map}
 use Rattle.rule_number_lists.specs.Numbered.{AreNumbersIn, Grows, AreWithin, at_places}
-use Rattle.rule_number_lists.specs.NumberLists.{HaveSame, Keeps}
+use Rattle.rule_number_lists.specs.NumberLists.{Keeps}
 use Rattle.rule_number_lists.proofs.Standing.{AllWithin, HasSame, Notes, NoneSame, all_stay, kept_same, notes, none_same, numbered_so, of_table, same_sym, same_order}
 use Rattle.document_meaning.specs.Unplaced.{unplaced_set}
-use Rattle.rule_document_definitions.specs.Contents.{unplaced_content}
-use Rattle.rule_field_groups.specs.in_ground.Fields.{field_of, fields_of, content_of}
+use Rattle.rule_field_groups.specs.in_ground.Fields.{content_of}
 use Rattle.rule_field_groups.specs.in_ground.declared.field_selection.FieldSelection.{FieldSelection}
 use Rattle.rule_field_groups.proofs.in_ground.ContentEquality.{selection_eq, selection_eq-Decides}
 use Rattle.rule_field_groups.specs.declared.below.SelectedSet.{SelectedSet}
@@ -96,7 +94,7 @@ complete_fields : (a b : FieldSelection) → content_of a ≡ content_of b → s
 complete_fields a b = (selection_eq-Decides a b).1
 
 module _ (looked : List (List PlainSet)) where
-  kept_with : List (List PlainField) → Kept
+  abbrev kept_with : List (List PlainField) → Kept
   kept_with ls = record { lists = ls; expanded = looked }
 
   -- what is noted of a list, and that none with its members was there
@@ -122,7 +120,7 @@ lists_still old new lists now grown all is =
 
 -- ---- lists of sets
 
-plain_of : SelectedSet → PlainSet
+abbrev plain_of : SelectedSet → PlainSet
 plain_of s = unplaced_set (meant_at s)
 
 sets_said : (xs : List SelectedSet) → map plain_of xs ≡ plain_sets (meant_sets xs)
@@ -130,7 +128,7 @@ sets_said [] = refl
 sets_said (x ∷ xs) = ap (λ l. plain_of x ∷ l) (sets_said xs)
 
 module _ (fields : List (List PlainField)) where
-  sets_with : List (List PlainSet) → Kept
+  abbrev sets_with : List (List PlainSet) → Kept
   sets_with ls = record { lists = fields; expanded = ls }
 
   expands_from : (old new : List (List PlainSet)) (sets : List PlainSet) (is_new : Bool) → Notes old sets is_new new → Expands (sets_with old) sets is_new (sets_with new)

@@ -1,9 +1,8 @@
-use Rattle.std.proofs.Common.{◌∷◌, [], ◌||◌, List, Contains, sym, ap, ◌∙◌}
-use Rattle.graphql_names.specs.Placed.{Place}
+use Rattle.std.proofs.Common.{◌∷◌, [], ◌||◌, sym, ap, ◌∙◌}
 use Rattle.document_typing.specs.in_schema.SchemaOf.{schema_tree}
 use Rattle.document_typing.specs.DocumentView.{document_meant, operation_meant}
 use Rattle.document_typed_selections.specs.TypedTree.{typed_set_tree}
-use Rattle.document_meaning.specs.MeantTree.{MeantSet, MeantOperation, meant_of_set}
+use Rattle.document_meaning.specs.MeantTree.{meant_of_set}
 use Rattle.rule_definitions.specs.Judged.{judged}
 use Rattle.rule_field_groups.specs.in_ground.Broken.{brokens_of}
 use Rattle.rule_merging.specs.Counted.{AreListed}

@@ -1,4 +1,4 @@
-use Rattle.std.proofs.Common.{◌≡◌, ◌≤◌, ◌∙◌, List, Vec, Contains, [], ◌∷◌, ◌++◌, map, sym, ap, subst, refl, append-nil, arith}
+use Rattle.std.proofs.Common.{◌≡◌, ◌≤◌, ◌∙◌, List, Vec, Contains, [], ◌∷◌, map, sym, ap, subst, refl, append-nil, arith}
 use Rattle.std.proofs.lemmas.Result.{IfOk-weaker}
 use Rattle.std.specs.declared.alloc.Global.{Global}
 use Rattle.rule_field_groups.specs.declared.below.SelectedSet.{SelectedSet}

@@ -1,4 +1,4 @@
-use Rattle.std.proofs.Common.{◌≡◌, ◌<◌, ◌+◌, [], ◌∷◌, ◌++◌, map, take, length, sym, ap, subst, arith}
+use Rattle.std.proofs.Common.{◌<◌, [], ◌∷◌, map, take, length, sym, ap, subst, arith}
 use Rattle.std.proofs.lemmas.List.{take_all}
 use Rattle.rule_document_definitions.proofs.Unplaced.{contains_map}
 use Rattle.rule_field_groups.specs.in_ground.Broken.{brokens_of}

@@ -1,6 +1,5 @@
-use Rattle.std.proofs.Common.{◌≡◌, ◌<◌, ◌+◌, List, [], ◌∷◌, ◌++◌, take, length, Contains, ap, sym, subst, ◌∙◌, arith}
+use Rattle.std.proofs.Common.{◌≡◌, ◌<◌, ◌+◌, [], ◌∷◌, ◌++◌, take, length, ap, sym, subst, ◌∙◌, arith}
 use Rattle.std.proofs.lemmas.List.{take_all}
-use Rattle.rule_field_groups.specs.declared.below.SelectedSet.{SelectedSet}
 use Rattle.rule_field_groups.specs.in_ground.Broken.{brokens_of}
 use Rattle.rule_field_groups.specs.Below.{meant_at, meant_sets}
 use Rattle.rule_field_groups.proofs.Lists.{taken_more}

@@ -9,8 +9,14 @@ returns-in_err-fields c =
     let new = c.note.new.self in
     λ i. record { lists = lists_still (items_of old) (items_of new) (numbers_kept old) (numbers_kept new) c.note.ensures.grown old.within c.note.ensures.lists i; expanded = looked_at c.args.self.now }
 
-pub returns : goal.returns
-returns c =
+pub returns-then-is_paid : goal.returns-then-is_paid
+returns-then-is_paid c =
+    let old = c.args.self.now.lists in
+    let new = c.note.new.self in
+    λ i. record { lists = lists_still (items_of old) (items_of new) (numbers_kept old) (numbers_kept new) c.note.ensures.grown old.within c.note.ensures.lists i; expanded = looked_at c.args.self.now }
+
+pub returns-else-is_paid : goal.returns-else-is_paid
+returns-else-is_paid c =
     let old = c.args.self.now.lists in
     let new = c.note.new.self in
     λ i. record { lists = lists_still (items_of old) (items_of new) (numbers_kept old) (numbers_kept new) c.note.ensures.grown old.within c.note.ensures.lists i; expanded = looked_at c.args.self.now }
