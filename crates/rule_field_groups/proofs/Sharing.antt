@@ -21,9 +21,10 @@ use Rattle.rule_field_groups.specs.Passes.{Together}
 use Rattle.rule_field_groups.specs.declared.pass.Pass.{Pass}
 use Rattle.rule_field_groups.specs.declared.pass.Pass.TheVariants.{Shapes, Selections}
 use Rattle.rule_field_groups.specs.declared.groups.KeyGroup.{KeyGroup}
-use Rattle.rule_field_groups.specs.Grouped.{key_of, parent_of, lists_of, has, IsPartOf, ArePartsOf, AreFiled, AreParentGroups, IsOnOne}
-use Rattle.rule_field_groups.specs.KeyGroups.{is_shared, with_own, compared_in, ArePartsFor}
+use Rattle.rule_field_groups.specs.Grouped.{key_of, parent_of, has, IsPartOf, ArePartsOf, AreFiled, AreParentGroups, IsOnOne}
+use Rattle.rule_field_groups.specs.KeyGroups.{is_shared, own_lists, with_own, compared_in, ArePartsFor}
 use Rattle.rule_field_groups.proofs.Filing.{in_filter, of_filter, all_pass, part_of_part}
+use Rattle.rule_field_groups.proofs.Parts.{part_of_shared, part_of_own, of_parts}
 use Rattle.rule_field_groups.proofs.Shaped.{is_abstract_so, so_is_abstract}
 
 named_so : (n m : List ℕ) → bytes_eq n m ≡ true → n ≡ m
@@ -62,21 +63,6 @@ are_key_groups list groups filed = record {
 -- ---- by parents
 
 module _ (s : Judged) where
-  own_first : {X : Type 0} (shared : List X) (owns : List (List X)) (x : X) → Contains shared x → (part : List X) × (Contains (with_own shared owns) part × ((y : X) → Contains shared y → Contains part y))
-  own_first shared [] x c = (shared, (Contains-first shared [] shared refl, λ y k. k))
-  own_first shared (own ∷ owns) x c =
-      (shared ++ own, (Contains-first (shared ++ own) (map (λ l. shared ++ l) owns) (shared ++ own) refl, λ y k. Contains-append_left shared own y k))
-
-  -- what is of one type is in one part with all that is shared
-  own_there : {X : Type 0} (shared : List X) (owns : List (List X)) (own : List X) → Contains owns own → Contains (with_own shared owns) (shared ++ own)
-  own_there shared [] own c = absurd (not_in_nil own c)
-  own_there shared (first ∷ owns) own c = contains_map (λ l. shared ++ l) (first ∷ owns) own c
-
-  -- a part is what is shared, with what is of one type or nothing
-  of_own : {X : Type 0} (shared : List X) (owns : List (List X)) (part : List X) → Contains (with_own shared owns) part → (part ≡ shared) ⊎ ((own : List X) × (Contains owns own × (part ≡ shared ++ own)))
-  of_own shared [] part c = inl (only shared part c)
-  of_own shared (first ∷ owns) part c = let o = contains_unmap (λ l. shared ++ l) (first ∷ owns) part c in inr (o.0, (o.1.0, sym o.1.1))
-
   module _ (list shared : List FieldSelection) (owns : List (List FieldSelection)) (is : shared ≡ filter (is_shared s) list)
       (filed : AreFiled parent_of (filter (λ x. not (is_shared s x)) list) owns) where
     in_shared : (y : FieldSelection) → Contains list y → is_shared s y ≡ true → Contains shared y
@@ -97,7 +83,7 @@ module _ (s : Judged) where
     its_part x c e =
         let own = filter (has parent_of (parent_of x)) objects in
         let there = filed.has_all x (in_objects x c e) in
-        (shared ++ own, (own_there shared owns own there, λ y k on. by y k on (is_shared s y) refl))
+        (shared ++ own, (part_of_own shared owns own there, λ y k on. by y k on (is_shared s y) refl))
       where
         by : (y : FieldSelection) → Contains list y → IsOnOne s (parent_of x) y → (b : Bool) → is_shared s y ≡ b → Contains (shared ++ filter (has parent_of (parent_of x)) objects) y
         by y k on true i = Contains-append_left shared (filter (has parent_of (parent_of x)) objects) y (in_shared y k i)
@@ -112,7 +98,7 @@ module _ (s : Judged) where
 
     has_part : (x : FieldSelection) → Contains list x → (b : Bool) → is_shared s x ≡ b
         → (part : List FieldSelection) × (Contains (with_own shared owns) part × ((y : FieldSelection) → Contains list y → IsOnOne s (parent_of x) y → Contains part y))
-    has_part x c true e = let p = own_first shared owns x (in_shared x c e) in (p.0, (p.1.0, λ y k on. p.1.1 y (all_shared_there x e y k on)))
+    has_part x c true e = let p = part_of_shared shared owns in (p.0, (p.1.0, λ y k on. p.1.1 y (all_shared_there x e y k on)))
     has_part x c false e = its_part x c e
 
     on_any : (n : List ℕ) (y : FieldSelection) → Contains shared y → Contains list y × IsOnOne s n y
@@ -135,7 +121,7 @@ module _ (s : Judged) where
     pub parent_groups : AreParentGroups s list (with_own shared owns)
     parent_groups = record {
       has_all = λ x c. has_part x c (is_shared s x) refl;
-      only = λ part c. of_part part (of_own shared owns part c);
+      only = λ part c. of_part part (of_parts shared owns part c);
     }
 
     -- each list in the order of the list
@@ -277,11 +263,11 @@ module _ {X : Type 0} where
 pub count_push : {X Y : Type 0} (f : X → ℕ) (g : Y → ℕ) (xs : List X) (x : X) (ys : List Y) (y : Y) → sum (map f xs) ≤ sum (map g ys) → f x ≤ g y → sum (map f (xs ++ x ∷ [])) ≤ sum (map g (ys ++ y ∷ []))
 count_push f g xs x ys y so_far here = omega (arith, so_far, here, sum_push f xs x, sum_push g ys y)
 
-pub shapes_in : (group : KeyGroup) (list : List FieldSelection) → group.shared.items ≡ list → lists_of group.own ≡ [] → compared_in Shapes group ≤ length list
+pub shapes_in : (group : KeyGroup) (list : List FieldSelection) → group.shared.items ≡ list → own_lists group ≡ [] → compared_in Shapes group ≤ length list
 shapes_in group list is none = omega (arith, ap length is, ap (λ l. sum (map (compared {X = FieldSelection} Shapes) l)) none)
 
 pub selections_in : (group : KeyGroup) → compared_in Selections group ≤ 0
-selections_in group = omega (arith, none_compared (lists_of group.own))
+selections_in group = omega (arith, none_compared (own_lists group))
 
 pub keyed_count : (pass : Pass) (list : List FieldSelection) (keyed : List (List FieldSelection)) → sum (map length keyed) ≡ length list → sum (map (compared pass) keyed) ≤ compared pass list
 keyed_count Shapes list keyed e = omega (arith, e)

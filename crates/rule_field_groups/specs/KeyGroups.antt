@@ -10,7 +10,7 @@ use Rattle.rule_field_groups.specs.declared.pass.Pass.{Pass}
 use Rattle.rule_field_groups.specs.declared.pass.Pass.TheVariants.{Shapes, Selections}
 use Rattle.rule_field_groups.specs.Compared.{compared}
 use Rattle.rule_field_groups.specs.Kinds.{is_abstract}
-use Rattle.rule_field_groups.specs.Grouped.{key_of, parent_of, lists_of, AreFiled, AreParentGroups}
+use Rattle.rule_field_groups.specs.Grouped.{key_of, parent_of, AreFiled, AreParentGroups}
 
 abbrev pub filed_name : Filing → FieldSelection → List ℕ
 filed_name Key = key_of
@@ -25,25 +25,29 @@ abbrev pub with_own : {X : Type 0} → List X → List (List X) → List (List X
 with_own shared [] = shared ∷ []
 with_own shared (own ∷ others) = map (λ l. shared ++ l) (own ∷ others)
 
+-- the lists of those on object types
+abbrev pub own_lists : KeyGroup → List (List FieldSelection)
+own_lists g = map (λ o. o.fields.items) g.own.items
+
 -- the parts of a group in which any two fields go together
 abbrev pub parts_of : KeyGroup → List (List FieldSelection)
-parts_of g = with_own g.shared.items (lists_of g.own)
+parts_of g = with_own g.shared.items (own_lists g)
 
 abbrev pub parts_in : List KeyGroup → List (List FieldSelection)
 parts_in groups = flat_map parts_of groups
 
 -- its lists as they stand
 abbrev pub lists_in_group : KeyGroup → List (List FieldSelection)
-lists_in_group g = g.shared.items ∷ lists_of g.own
+lists_in_group g = g.shared.items ∷ own_lists g
 
 -- how often shapes are compared for a group, at most
 abbrev pub compared_in : Pass → KeyGroup → ℕ
-compared_in pass g = compared pass g.shared.items + sum (map (compared pass) (lists_of g.own))
+compared_in pass g = compared pass g.shared.items + sum (map (compared pass) (own_lists g))
 
 -- what is on abstract types, and for each object type what is on it
 pub record IsByParents (s : Judged) (list : List FieldSelection) (group : KeyGroup) : Type 0 where
   pub shared : group.shared.items ≡ filter (is_shared s) list
-  pub own : AreFiled parent_of (filter (λ x. not (is_shared s x)) list) (lists_of group.own)
+  pub own : AreFiled parent_of (filter (λ x. not (is_shared s x)) list) (own_lists group)
 
 -- all are one part where shapes are compared; else parts are by parents
 abbrev pub ArePartsFor : Pass → Judged → List FieldSelection → List (List FieldSelection) → Type 0

@@ -5,5 +5,6 @@ pub mod KeyGroups
 pub mod Passes
 pub mod Compared
 pub mod Below
+pub mod Under
 -- For the layer above.
 pub use Rattle.rule_document_ground.specs as in_ground

@@ -12,7 +12,7 @@ ghost use Rattle.rule_document_ground.specs.Fields.{fields_of};
 ghost use Rattle.rule_field_groups.specs.Compared.{compared};
 ghost use Rattle.rule_field_groups.specs.Passes.{Together};
 ghost use Rattle.rule_field_groups.specs.Grouped.{items_under, count_in, has, lists_in, lists_of, AreFiled, ArePartsOf};
-ghost use Rattle.rule_field_groups.specs.KeyGroups.{filed_name, is_shared, parts_of, parts_in, lists_in_group, compared_in, IsByParents, ArePartsFor};
+ghost use Rattle.rule_field_groups.specs.KeyGroups.{filed_name, is_shared, own_lists, parts_of, parts_in, lists_in_group, compared_in, IsByParents, ArePartsFor};
 
 use crate::kinds::is_abstract;
 use crate::pass::Pass;
@@ -125,20 +125,25 @@ fn filed<'doc>(
 #[derive(Drop)]
 pub struct KeyGroup<'doc> {
     pub(crate) shared: Vec<FieldSelection<'doc>>,
-    pub(crate) own: Vec<Vec<FieldSelection<'doc>>>,
-    /// How many of each of these stand before the first that is shared; of those behind none does.
-    pub(crate) early: Vec<usize>,
+    pub(crate) own: Vec<OwnFields<'doc>>,
+}
+
+/// The fields on one object type.
+#[derive(Drop)]
+pub(crate) struct OwnFields<'doc> {
+    pub(crate) fields: Vec<FieldSelection<'doc>>,
+    /// How many of them stand before the first that is shared.
+    pub(crate) early: usize,
 }
 
 /// All of them shared: the shapes of all fields of one key are compared.
 fn all_shared<'doc>(alloc: Global, shared: Vec<FieldSelection<'doc>>) -> KeyGroup<'doc>
     ensures shared { result.shared.items ≡ shared.entry.items }
-    ensures own { lists_of result.own ≡ [] }
+    ensures own { own_lists result ≡ [] }
 {
     KeyGroup {
         shared,
         own: Vec::new(alloc),
-        early: Vec::new(alloc),
     }
 }
 
@@ -196,6 +201,25 @@ fn early_counts(
     Ok(counts)
 }
 
+/// The lists with how many of each stand before the first field that is shared: as counted, or none.
+fn own_fields<'doc>(
+    alloc: Global,
+    lists: Vec<Vec<FieldSelection<'doc>>>,
+    early: &[usize],
+) -> Result<Vec<OwnFields<'doc>>, AllocError>
+    ensures { IfOk result (λ own. map (λ o. o.fields.items) own.items ≡ lists_of lists.entry) }
+{
+    let mut own = Vec::with_capacity(alloc, lists.len())?;
+    for fields in lists {
+        let early = match early.get(own.len()) {
+            Some(count) => *count,
+            None => 0,
+        };
+        own.push(OwnFields { fields, early })?;
+    }
+    Ok(own)
+}
+
 /// The fields of one key by their parents ("the parent types are equal or either is not an Object Type").
 fn by_parents<'doc>(
     alloc: Global,
@@ -206,9 +230,10 @@ fn by_parents<'doc>(
 {
     let shared = abstract_fields(alloc, schema, list)?;
     let objects = object_fields(alloc, schema, list)?;
-    let own = filed(alloc, Filing::Parent, &objects)?;
+    let filed = filed(alloc, Filing::Parent, &objects)?;
     let early = early_counts(alloc, schema, list)?;
-    Ok(KeyGroup { shared, own, early })
+    let own = own_fields(alloc, filed, &early)?;
+    Ok(KeyGroup { shared, own })
 }
 
 /// The fields of one key as they are compared in a pass.

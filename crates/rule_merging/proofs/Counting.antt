@@ -47,8 +47,8 @@ drop_first : {X : Type 0} (xs : List X) (i : ℕ) (x : X) → i < length xs → 
 drop_first xs i x h e = drop-cons xs i x h ∙ (rw add-one (ap (λ y. y ∷ drop (suc i) xs) (sym e)))
 
 -- what is left of a list, its first one taken
-pub left_of : {X Y : Type 0} (f : Y → ℕ) (u : X → Y) (xs : List X) (i : ℕ) (x : X) → i < length xs → x ≡ get_or xs i x → sum (map f (map u (drop i xs))) ≡ f (u x) + sum (map f (map u (drop (i + 1) xs)))
-left_of f u xs i x h e = omega (arith, ap (λ l. sum (map f (map u l))) (drop_first xs i x h e), sums f (u x ∷ []) (map u (drop (i + 1) xs)))
+pub left_of : {X : Type 0} (f : X → ℕ) (xs : List X) (i : ℕ) (x : X) → i < length xs → x ≡ get_or xs i x → sum (map f (drop i xs)) ≡ f x + sum (map f (drop (i + 1) xs))
+left_of f xs i x h e = omega (arith, ap (λ l. sum (map f l)) (drop_first xs i x h e), sums f (x ∷ []) (drop (i + 1) xs))
 
 -- where nothing is compared
 no_sum : {X : Type 0} (lists : List (List X)) → sum (map (compared Selections) lists) ≡ 0

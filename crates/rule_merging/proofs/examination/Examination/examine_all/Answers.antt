@@ -11,7 +11,8 @@ use Rattle.rule_field_groups.specs.in_ground.Broken.{brokens_of}
 use Rattle.rule_field_groups.specs.Below.{meant_at}
 use Rattle.rule_merging.specs.Remembered.{remembered, kept_of}
 use Rattle.rule_merging.specs.Counted.{AreListed}
-use Rattle.rule_merging.specs.Examined.{Sets, all_sets, sets_in, ExaminesSets, HaveFields, schema_of, document_of}
+use Rattle.rule_merging.specs.Examined.{ExaminesSets, HaveFields, schema_of, document_of}
+use Rattle.rule_field_groups.specs.Under.{Sets, all_sets, sets_in}
 use Rattle.rule_merging.proofs.Examining.{items_in, sets_at, emptied, SoFar, first_level, level_step, no_more_levels}
 use Rattle.rule_merging.proofs.Counting.{grows_not, grows_with, listed_next}
 use Rattle.rule_merging.proofs.examination.Examination.examine_all.Goals as goal

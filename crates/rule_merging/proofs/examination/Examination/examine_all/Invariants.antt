@@ -6,7 +6,8 @@ use Rattle.rule_field_groups.specs.in_ground.Broken.{brokens_of}
 use Rattle.rule_merging.specs.Counted.{AreListed}
 use Rattle.rule_field_groups.specs.Below.{meant_at}
 use Rattle.rule_merging.specs.Remembered.{kept_of}
-use Rattle.rule_merging.specs.Examined.{sets_in, schema_of, document_of, GrowsOver}
+use Rattle.rule_merging.specs.Examined.{schema_of, document_of, GrowsOver}
+use Rattle.rule_field_groups.specs.Under.{sets_in}
 use Rattle.rule_merging.proofs.Examining.{SoFar}
 use Rattle.rule_merging.proofs.examination.Examination.examine_all.Given as goal
 

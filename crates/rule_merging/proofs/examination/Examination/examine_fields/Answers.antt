@@ -5,7 +5,8 @@ use Rattle.rule_field_groups.specs.in_ground.Broken.{brokens_of}
 use Rattle.rule_field_groups.specs.Below.{contents_of}
 use Rattle.rule_merging.specs.Counted.{AreLast}
 use Rattle.rule_merging.specs.Remembered.{Kept, remembered, kept_of, Remembers}
-use Rattle.rule_merging.specs.Examined.{sets_in, with_sets, schema_of, document_of}
+use Rattle.rule_merging.specs.Examined.{with_sets, schema_of, document_of}
+use Rattle.rule_field_groups.specs.Under.{sets_in}
 use Rattle.rule_merging.proofs.Examining.{new_fields, known_fields}
 use Rattle.rule_merging.proofs.Counting.{grows_same, grows_one}
 use Rattle.rule_merging.proofs.examination.Examination.examine_fields.Goals as goal

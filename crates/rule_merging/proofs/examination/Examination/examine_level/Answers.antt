@@ -5,7 +5,8 @@ use Rattle.rule_field_groups.specs.in_ground.Broken.{brokens_of}
 use Rattle.rule_merging.specs.Counted.{AreListed}
 use Rattle.rule_field_groups.specs.Below.{meant_sets}
 use Rattle.rule_merging.specs.Remembered.{remembered, kept_of}
-use Rattle.rule_merging.specs.Examined.{sets_in, all_sets, ExaminesSets, schema_of, document_of}
+use Rattle.rule_merging.specs.Examined.{ExaminesSets, schema_of, document_of}
+use Rattle.rule_field_groups.specs.Under.{sets_in, all_sets}
 use Rattle.rule_merging.proofs.Examining.{items_in, sets_at, front_more, none_told, lists_step}
 use Rattle.rule_merging.proofs.Counting.{grows_not, grows_with, one_listed}
 use Rattle.rule_merging.proofs.examination.Examination.examine_level.Goals as goal

@@ -1,7 +1,8 @@
 use Rattle.std.proofs.Common.{[], map, take}
 use Rattle.rule_field_groups.specs.Below.{meant_sets}
 use Rattle.rule_merging.specs.Remembered.{kept_of}
-use Rattle.rule_merging.specs.Examined.{sets_in, ExaminesSets, GrowsOver}
+use Rattle.rule_merging.specs.Examined.{ExaminesSets, GrowsOver}
+use Rattle.rule_field_groups.specs.Under.{sets_in}
 use Rattle.rule_merging.proofs.examination.Examination.examine_level.Given as goal
 
 abbrev pub invariant-loop-sets : goal.invariant-loop-sets

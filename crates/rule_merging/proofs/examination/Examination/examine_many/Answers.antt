@@ -3,7 +3,8 @@ use Rattle.rule_field_groups.specs.in_ground.Broken.{brokens_of}
 use Rattle.rule_field_groups.specs.Below.{meant_sets}
 use Rattle.rule_merging.specs.Counted.{AreListed}
 use Rattle.rule_merging.specs.Remembered.{Kept, remembered, kept_of}
-use Rattle.rule_merging.specs.Examined.{sets_in, schema_of, document_of, ExaminesSets}
+use Rattle.rule_merging.specs.Examined.{schema_of, document_of, ExaminesSets}
+use Rattle.rule_field_groups.specs.Under.{sets_in}
 use Rattle.rule_merging.proofs.Examining.{known_sets, looked_then}
 use Rattle.rule_merging.proofs.Counting.{Premise, grows_same, grows_on}
 use Rattle.rule_merging.proofs.examination.Examination.examine_many.Goals as goal

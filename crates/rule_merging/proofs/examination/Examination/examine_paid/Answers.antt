@@ -4,7 +4,8 @@ use Rattle.rule_field_groups.specs.in_ground.Broken.{brokens_of}
 use Rattle.rule_field_groups.specs.Below.{contents_of, meant_sets, IsMergedIn}
 use Rattle.rule_merging.specs.Counted.{AreLast, AreListed}
 use Rattle.rule_merging.specs.Remembered.{Kept, remembered, kept_of}
-use Rattle.rule_merging.specs.Examined.{sets_in, schema_of, document_of}
+use Rattle.rule_merging.specs.Examined.{schema_of, document_of}
+use Rattle.rule_field_groups.specs.Under.{sets_in}
 use Rattle.rule_merging.proofs.Examining.{fields_told, twos_told}
 use Rattle.rule_merging.proofs.Counting.{grows_not, grows_same, grows_on, grows_with, fields_listed}
 use Rattle.rule_merging.proofs.examination.Examination.examine_paid.Goals as goal

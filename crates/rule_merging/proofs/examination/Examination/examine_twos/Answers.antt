@@ -4,7 +4,8 @@ use Rattle.rule_field_groups.specs.in_ground.Broken.{brokens_of}
 use Rattle.rule_field_groups.specs.Below.{meant_at, meant_sets}
 use Rattle.rule_field_groups.proofs.Lists.{taken_more}
 use Rattle.rule_merging.specs.Remembered.{remembered, kept_of}
-use Rattle.rule_merging.specs.Examined.{sets_in, with_each, schema_of, document_of, ExaminesSets, ExaminesTwos}
+use Rattle.rule_merging.specs.Examined.{with_each, schema_of, document_of, ExaminesSets, ExaminesTwos}
+use Rattle.rule_field_groups.specs.Under.{sets_in}
 use Rattle.rule_merging.proofs.Examining.{front_more, none_told, no_twos, twos_more, lists_step}
 use Rattle.rule_merging.specs.Counted.{AreListed}
 use Rattle.rule_merging.proofs.Counting.{grows_not, grows_with, each_listed}

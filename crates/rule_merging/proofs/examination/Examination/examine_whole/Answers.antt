@@ -4,7 +4,8 @@ use Rattle.rule_field_groups.specs.in_ground.Broken.{brokens_of}
 use Rattle.rule_field_groups.specs.Below.{contents_of, meant_sets, plain_sets, IsMergedIn}
 use Rattle.rule_merging.specs.Counted.{AreLast, AreListed}
 use Rattle.rule_merging.specs.Remembered.{remembered, kept_of, Expands}
-use Rattle.rule_merging.specs.Examined.{sets_in, schema_of, document_of}
+use Rattle.rule_merging.specs.Examined.{schema_of, document_of}
+use Rattle.rule_field_groups.specs.Under.{sets_in}
 use Rattle.rule_merging.proofs.Examining.{known_sets, whole_told}
 use Rattle.rule_merging.proofs.Counting.{grows_same, grows_with, fields_listed}
 use Rattle.rule_merging.proofs.examination.Examination.examine_whole.Goals as goal

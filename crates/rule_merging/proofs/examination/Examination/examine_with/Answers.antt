@@ -7,7 +7,8 @@ use Rattle.rule_field_groups.specs.in_ground.Broken.{brokens_of}
 use Rattle.rule_field_groups.specs.Below.{meant_at, meant_sets}
 use Rattle.rule_merging.specs.Counted.{AreListed}
 use Rattle.rule_merging.specs.Remembered.{remembered, kept_of}
-use Rattle.rule_merging.specs.Examined.{sets_in, with_each, schema_of, document_of, ExaminesSets}
+use Rattle.rule_merging.specs.Examined.{with_each, schema_of, document_of, ExaminesSets}
+use Rattle.rule_field_groups.specs.Under.{sets_in}
 use Rattle.rule_merging.proofs.Examining.{front_more, none_told, lists_step}
 use Rattle.rule_merging.proofs.Counting.{grows_not, grows_with, one_listed}
 use Rattle.rule_merging.proofs.examination.Examination.examine_with.Goals as goal

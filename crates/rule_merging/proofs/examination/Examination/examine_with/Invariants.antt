@@ -1,7 +1,8 @@
 use Rattle.std.proofs.Common.{take}
 use Rattle.rule_field_groups.specs.Below.{meant_at, meant_sets}
 use Rattle.rule_merging.specs.Remembered.{kept_of}
-use Rattle.rule_merging.specs.Examined.{sets_in, with_each, ExaminesSets, GrowsOver}
+use Rattle.rule_merging.specs.Examined.{with_each, ExaminesSets, GrowsOver}
+use Rattle.rule_field_groups.specs.Under.{sets_in}
 use Rattle.rule_merging.proofs.examination.Examination.examine_with.Given as goal
 
 abbrev pub invariant-loop-other : goal.invariant-loop-other
