@@ -1,6 +1,7 @@
 -- What readers hold, and what has become of devices.
 use Rattle.std.specs.Prelude.{◌≡◌, ℕ, zero, suc, true, false, List, Option, Some, IfSome, IsUtf8, slice_get, IsSomeAnd, All}
 use Rattle.std.specs.List.{AllZip}
+use Rattle.std.specs.Io.KnownBytes.{IsAtEnd}
 use Rattle.graphql_names.specs.declared.device.Device.{Device}
 use Rattle.graphql_names.specs.Device.{device_inner, device_failed}
 
@@ -11,6 +12,14 @@ IsTextOf remaining device text = IfSome (remaining (device_inner device)) (λ by
 -- the reader tells its bytes, and they are this text
 abbrev pub TellsText : {R : Type 0} → (R → Option (List ℕ)) → Device R → List ℕ → Type 0
 TellsText remaining device text = (remaining (device_inner device) ≡ Some text) × IsUtf8 text
+
+-- if the reader tells its bytes, none is left
+abbrev pub IsReadToEnd : {R : Type 0} → (R → Option (List ℕ)) → Device R → Type 0
+IsReadToEnd remaining device = IsAtEnd (remaining (device_inner device))
+
+-- the same of each reader
+abbrev pub AreReadToEnd : {R : Type 0} → (R → Option (List ℕ)) → List (Device R) → Type 0
+AreReadToEnd remaining devices = All (IsReadToEnd remaining) devices
 
 -- if each reader tells its bytes, these are they, in order
 abbrev pub AreTextsOf : {R : Type 0} → (R → Option (List ℕ)) → List (Device R) → List (List ℕ) → Type 0

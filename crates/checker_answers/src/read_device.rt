@@ -3,7 +3,7 @@
 ghost use Rattle.std.specs.Prelude.{◌≡◌, ◌≢◌, true, Err, OnOk, IfOk, IfErr, map, string_bytes};
 ghost use Rattle.std.specs.Io.KnownBytes.{Consumes, IsAtEnd};
 ghost use Rattle.graphql_names.specs.Device.{device_inner, device_failed};
-ghost use Rattle.checker_answers.specs.Devices.{IsTextOf, AreTextsOf};
+ghost use Rattle.checker_answers.specs.Devices.{IsTextOf, AreTextsOf, IsReadToEnd, AreReadToEnd};
 ghost use Rattle.checker_answers.specs.ReadFaults.{IsTextFault, numbered_fault, IsReadFault};
 
 use crate::run_fault::RunFault;
@@ -39,6 +39,7 @@ pub fn read_texts<R: Read>(
     devices: &mut [Device<R>],
 ) -> Result<Vec<String>, RunFault>
     ensures texts { IfOk result (λ texts. AreTextsOf R.remaining devices.old (map string_bytes texts.items)) }
+    ensures end { OnOk result (AreReadToEnd R.remaining devices.new) }
     ensures fault { IfErr result (IsReadFault R.remaining devices.old devices.new) }
     ensures running { OnOk result (map device_failed devices.new ≡ map device_failed devices.old) }
 {
@@ -66,6 +67,7 @@ pub fn numbered(fault: TextFault, number: usize) -> RunFault
 /// The text of the reader.
 pub fn read_text<R: Read>(alloc: Global, device: &mut Device<R>) -> Result<String, TextFault>
     ensures text { IfOk result (λ text. IsTextOf R.remaining device.old (string_bytes text)) }
+    ensures end { OnOk result (IsReadToEnd R.remaining device.new) }
     ensures fault { IfErr result (IsTextFault R.remaining device.old device.new) }
     ensures running { OnOk result (device_failed device.new ≡ device_failed device.old) }
 {

@@ -14,7 +14,7 @@ use Rattle.rule_document_definitions.specs.Told.{IsValidDocument}
 use Rattle.rule_document_definitions.specs.Verdict.{WithinBounds}
 use Rattle.graphql_faults.specs.DetailsTree.{of_typing}
 use Rattle.graphql_faults.specs.DetailsView.{diagnostics_of}
-use Rattle.graphql_validation.specs.TellsDocument.{SomeFails}
+use Rattle.graphql_validation.specs.TellsDocument.{FailsBesides, SomeFails}
 use Rattle.verdict_definitions.specs.Texts.{SourceText, Tree}
 use Rattle.verdict_definitions.specs.Meaning.{document_over}
 use Rattle.verdict_definitions.specs.Judge.{IsDocumentCertain}
@@ -23,7 +23,7 @@ use Rattle.verdict_definitions.specs.Out.{Layout, layout_text}
 use Rattle.verdict_definitions.specs.Answer.{UnreadAlone, RefusesDocument, WritesDocument}
 use Rattle.checker_schemas.specs.CheckedSchemaValue.{CheckedSchemaValue}
 use Rattle.checker_documents.specs.CheckerValue.{IsCheckedDocumentOf}
-use Rattle.checker_documents.specs.DocumentRefusals.{RefusalOfDocument}
+use Rattle.checker_documents.specs.DocumentRefusals.{RefusalOfDocument, TellsRules}
 use Rattle.checker_texts.specs.TellsOnly.{TellsOnly}
 use Rattle.checker_documents.specs.Checking.{IsReadDocument, IsUnreadDocument, TypesDocument, RefusalOfTyping, RefusalOfRules}
 use Rattle.checker_texts.specs.declared.refusal.Refusal.{Refusal}
@@ -63,6 +63,12 @@ module _ (schema : CheckedSchemaValue) (text : SourceText) where
   unread_certain Memory unread certain = refl
   unread_certain Failed unread certain = absurd unread
 
+  pub unread_rules : (refusal : Refusal) → IsUnreadDocument schema text refusal → TellsRules schema text refusal
+  unread_rules (Faults list) (here, (is, unread)) = λ within tree read typed fault fails.
+      absurd (unread_not_read schema.nesting schema.number text here unread (is_read schema.nesting schema.number text tree read within))
+  unread_rules Memory unread = tt
+  unread_rules Failed unread = tt
+
   -- ---- a document that is read
 
   module _ (tree : Tree) (read : IsReadDocument schema text tree) where
@@ -87,6 +93,13 @@ module _ (schema : CheckedSchemaValue) (text : SourceText) where
     typing_certain Memory h certain = refl
     typing_certain Failed h certain = absurd h
 
+    pub typing_rules : (refusal : Refusal) → RefusalOfTyping schema.schema tree refusal → TellsRules schema text refusal
+    typing_rules (Faults list) h = λ within other reads typed fault fails.
+        absurd (none_told (λ told. (f : typing.TypingFault Place) × ((told ≡ of_typing f) × TypingFailsOver schema.schema tree f)) (diagnostics_of list) h.some h.right (λ told (f, (is, broken)).
+        typed f (subst (λ t. TypingFailsOver schema.schema t f) (sym (same other (reads, within))) broken)))
+    typing_rules Memory h = tt
+    typing_rules Failed h = tt
+
     -- ---- a document that is typed
 
     module _ (document : MeantDocument Place) (typed : TypesDocument schema.schema tree document []) where
@@ -107,6 +120,13 @@ module _ (schema : CheckedSchemaValue) (text : SourceText) where
           absurd (h.bounds (subst (IsValidDocument schema.schema) e certain.0.judged.holds) (subst (λ d. WithinBounds (unplaced_document d)) e certain.1))
       rules_certain Memory h certain = refl
       rules_certain Failed h certain = absurd h
+
+      pub rules_told : (refusal : Refusal) → RefusalOfRules schema.schema document refusal → TellsRules schema text refusal
+      rules_told (Faults list) h = λ within other reads holds fault fails.
+          let e : document_over schema.schema other ≡ document = ap (document_over schema.schema) (same other (reads, within)) ∙ sym typed.is in
+          h.full fault (subst (λ d. FailsBesides schema.schema d fault) e fails)
+      rules_told Memory h = tt
+      rules_told Failed h = tt
 
       -- every rule holds
       pub accepted_document : IsValidDocument schema.schema document → IsCheckedDocumentOf schema text document

@@ -71,6 +71,9 @@ pub refuses_rules : (schema : SchemaTree Place) (document : MeantDocument Place)
     → (IsValidDocument schema document → WithinBounds (unplaced_document document) → faults ≡ old) → faults ≢ [] → RefusesRules schema document faults
 refuses_rules schema document old faults none (added, (is, tells)) accepts some = record {
   some = some;
+  full = λ f fails.
+      let e : faults ≡ map of_document added = is ∙ ap (λ l. l ++ map of_document added) none in
+      subst (λ l. Contains l (of_document f)) (sym e) (contains_map of_document added f (tells.full f fails));
   right = λ fault c.
       let e : faults ≡ map of_document added = is ∙ ap (λ l. l ++ map of_document added) none in
       let p = contains_unmap of_document added fault (subst (λ l. Contains l fault) e c) in

@@ -2,6 +2,7 @@
 use Rattle.std.specs.Prelude.{ℕ}
 use Rattle.tree_definitions.specs.DefinitionTree.{document_tree}
 use Rattle.tree_definitions.specs.declared.document.Document.{Document}
+use Rattle.schema_building.specs.SourcesView.{sources_view}
 use Rattle.graphql_schema.specs.SchemaOf.{schema_tree}
 use Rattle.graphql_schema.specs.declared.schema.Schema.{Schema}
 use Rattle.document_typed_operations.specs.TypedDocument.{typed_document_tree}
@@ -24,7 +25,7 @@ pub record CheckedDocumentParts : Type 0 where
   pub document : ExecutableDocument
 
 abbrev pub schema_value : CheckedSchemaParts → CheckedSchemaValue
-schema_value s = record { nesting = s.nesting; number = s.number; schema = schema_tree s.schema; written = document_tree s.written }
+schema_value s = record { nesting = s.nesting; number = s.number; schema = schema_tree s.schema; sources = sources_view s.schema.sources; written = document_tree s.written }
 
 abbrev pub document_value : CheckedDocumentParts → CheckedDocumentValue
 document_value d = record { schema = schema_value d.schema; text = d.text; document = meant_document (typed_document_tree d.document) }

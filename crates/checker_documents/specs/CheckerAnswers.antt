@@ -5,9 +5,9 @@ use Rattle.checker_schemas.specs.Refusals.{RefusalOfSchemas}
 use Rattle.checker_texts.specs.declared.refusal.Refusal.{Refusal}
 use Rattle.checker_texts.specs.declared.refusal.Refusal.TheVariants.{Faults, Memory, Failed}
 
--- Want of memory as a text is added: the texts stay, and the checker has failed from then on.
+-- Want of memory as a text is added: terms and texts stay, and the checker has failed from then on.
 abbrev pub IsCheckerAddRefusal : CheckerValue → CheckerValue → Refusal → Type 0
-IsCheckerAddRefusal old new Memory = (old.failed ≡ false) × ((new.failed ≡ true) × (new.texts ≡ old.texts))
+IsCheckerAddRefusal old new Memory = (old.failed ≡ false) × (new ≡ record old { failed = true })
 IsCheckerAddRefusal old new Failed = (old.failed ≡ true) × (new ≡ old)
 IsCheckerAddRefusal old new (Faults list) = ⊥
 

@@ -1,8 +1,12 @@
 //! Documents of which every rule holds over a schema.
 
-ghost use Rattle.std.specs.Prelude.{◌≡◌, IfOk, string_bytes};
+ghost use Rattle.std.specs.Prelude.{◌≡◌, ◌∷◌, [], Some, IfOk, string_bytes};
+ghost use Rattle.schema_building.specs.SourcesView.{sources_view};
 ghost use Rattle.document_typed_operations.specs.TypedDocument.{typed_document_tree};
 ghost use Rattle.document_typing.specs.DocumentView.{meant_document};
+ghost use Rattle.document_typing.specs.DefinedByPlace.{IsDefinedDocument};
+ghost use Rattle.graphql_validation.specs.TellsDocument.{IsTypedUnder};
+ghost use Rattle.checker_texts.specs.TextSources.{text_sources};
 ghost use Rattle.checker_layouts.specs.Layouts.{prefix_of};
 ghost use Rattle.checker_documents.specs.CheckedView.{schema_value, document_value};
 ghost use Rattle.checker_documents.specs.CheckerValue.{IsCheckedDocumentOf, WritesCheckedDocument};
@@ -27,10 +31,8 @@ impl<'s> Model for CheckedDocument<'s> {
     ghost use Rattle.graphql_schema.specs.contracts.schema.Schema as of_schema;
     ghost use Rattle.tree_definitions.specs.contracts.document.Document as of_written;
     ghost use Rattle.document_typed_operations.specs.contracts.document.ExecutableDocument as of_document;
-    ghost use Rattle.document_typed_operations.specs.TypedDocument.{typed_document_tree};
-    ghost use Rattle.document_typing.specs.DocumentView.{meant_document};
     ghost use Rattle.checker_documents.specs.CheckedView.{CheckedDocumentParts, schema_value};
-    ghost use Rattle.checker_documents.specs.CheckerValue.{IsCheckedDocumentOf};
+    ghost use Rattle.checker_documents.specs.Checking.{IsKeptDocument};
 
     ghost Value = { CheckedDocumentParts };
 
@@ -38,7 +40,7 @@ impl<'s> Model for CheckedDocument<'s> {
 
     ghost view = { λ d. record { schema = d.schema.now; text = string_bytes d.text; document = d.document } };
 
-    ghost invariant = { λ d. IsCheckedDocumentOf (schema_value d.schema.now) (string_bytes d.text) (meant_document (typed_document_tree d.document)) };
+    ghost invariant = { λ d. IsKeptDocument (schema_value d.schema.now) (string_bytes d.text) d.document };
 }
 
 impl<'s> CheckedDocument<'s> {
@@ -49,10 +51,14 @@ impl<'s> CheckedDocument<'s> {
         self.schema
     }
 
-    /// The document with its meaning over the schema. Every rule of section 5 holds of it.
+    /// The document with its meaning over the schema: it is typed, and each field has the schema's definition. Every rule of
+    /// section 5 holds of it. Its one source is its text, under its number.
     pub fn document(&self) -> &ExecutableDocument
         ensures document { meant_document (typed_document_tree result.now) ≡ (document_value self.now).document }
         ensures accepted { IsCheckedDocumentOf (document_value self.now).schema (document_value self.now).text (document_value self.now).document }
+        ensures sources { sources_view result.now.sources ≡ text_sources (document_value self.now).schema.number ((document_value self.now).text ∷ []) }
+        ensures typed { IsTypedUnder (document_value self.now).schema.schema (document_value self.now).document }
+        ensures defined { IsDefinedDocument (Some (document_value self.now).schema.schema) (typed_document_tree result.now) }
     {
         &self.document
     }

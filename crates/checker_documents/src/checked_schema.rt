@@ -1,20 +1,24 @@
 //! Schemas of which every rule holds.
 
-ghost use Rattle.std.specs.Prelude.{◌≡◌, [], OnOk, IfOk, IfErr, string_bytes};
+ghost use Rattle.std.specs.Prelude.{◌≡◌, ◌∷◌, [], Some, OnOk, IfOk, IfErr, string_bytes};
 ghost use Rattle.tree_definitions.specs.DefinitionTree.{document_tree};
+ghost use Rattle.tree_definitions.specs.Sources.{sources_of};
+ghost use Rattle.schema_building.specs.SourcesView.{sources_view, with_sources};
 ghost use Rattle.graphql_faults.specs.DetailsView.{diagnostics_of};
 ghost use Rattle.graphql_schema.specs.SchemaOf.{schema_tree};
 ghost use Rattle.checker_layouts.specs.Layouts.{prefix_of};
 ghost use Rattle.document_typing.specs.DocumentView.{meant_document};
+ghost use Rattle.document_typing.specs.DefinedByPlace.{IsDefinedDocument};
 ghost use Rattle.document_typed_operations.specs.TypedDocument.{typed_document_tree};
 ghost use Rattle.verdict_definitions.specs.Judge.{IsDocumentCertain};
 ghost use Rattle.verdict_definitions.specs.Out.{layout_text};
+ghost use Rattle.checker_texts.specs.TextSources.{text_sources};
 ghost use Rattle.checker_documents.specs.CheckedView.{schema_value, document_value};
 ghost use Rattle.checker_schemas.specs.CheckedSchemaValue.{IsOfAcceptedTexts};
 ghost use Rattle.checker_documents.specs.CheckerValue.{IsCheckedDocumentOf};
 ghost use Rattle.rule_document_definitions.specs.Told.{IsValidDocument};
 ghost use Rattle.graphql_validation.specs.TellsDocument.{IsTypedUnder};
-ghost use Rattle.checker_documents.specs.DocumentRefusals.{RefusalOfDocument};
+ghost use Rattle.checker_documents.specs.DocumentRefusals.{RefusalOfDocument, TellsRules};
 ghost use Rattle.checker_documents.specs.Checking.{IsReadDocument, IsUnreadDocument, TypesDocument, RefusalOfTyping, RefusalOfRules};
 ghost use Rattle.checker_texts.specs.declared.refusal.Refusal.TheVariants.{Memory};
 
@@ -64,9 +68,10 @@ impl Model for CheckedSchema {
 
 impl CheckedSchema {
     /// The schema over which documents are judged: without each built-in scalar to which no field, argument or input field
-    /// refers. Every rule of section 3 holds of it.
+    /// refers. Every rule of section 3 holds of it. Its sources are the schema texts, each under its number, in order.
     pub fn schema(&self) -> &Schema
         ensures schema { schema_tree result.now ≡ (schema_value self.now).schema }
+        ensures sources { sources_view result.now.sources ≡ (schema_value self.now).sources }
         ensures accepted { IsOfAcceptedTexts (schema_value self.now) }
     {
         &self.schema
@@ -83,6 +88,7 @@ impl CheckedSchema {
         ensures text { IfOk result (λ d. d.text ≡ text.now) }
         ensures accepted { IfOk result (λ d. IsCheckedDocumentOf (schema_value self.now) text.now (document_value d).document) }
         ensures refused { IfErr result (RefusalOfDocument (schema_value self.now) text.now) }
+        ensures rules { IfErr result (TellsRules (schema_value self.now) text.now) }
         ensures complete { IfErr result (λ refusal.
             IsDocumentCertain (schema_value self.now).schema self.now.nesting self.now.number text.now → refusal ≡ Memory) }
     {
@@ -108,6 +114,7 @@ impl CheckedSchema {
 /// Reads a document with its number, if one is left for it.
 fn read_document(schema: &CheckedSchema, text: &str) -> Result<Document, Refusal>
     ensures read { IfOk result (λ d. IsReadDocument (schema_value schema.now) text.now (document_tree d)) }
+    ensures sources { IfOk result (λ d. sources_of d ≡ text_sources schema.now.number (text.now ∷ [])) }
     ensures unread { IfErr result (IsUnreadDocument (schema_value schema.now) text.now) }
 {
     if schema.number == u64::MAX {
@@ -125,22 +132,28 @@ fn build(
     schema: &CheckedSchema,
     tree: &Document,
 ) -> Result<(ExecutableDocument, DiagnosticList), AllocError>
-    ensures { IfOk result (λ r. TypesDocument (schema_value schema.now).schema (document_tree tree.now) (meant_document (typed_document_tree r.0)) (diagnostics_of r.1)) }
+    ensures types { IfOk result (λ r. TypesDocument (schema_value schema.now).schema (document_tree tree.now) (meant_document (typed_document_tree r.0)) (diagnostics_of r.1)) }
+    ensures sources { IfOk result (λ r. sources_view r.0.sources ≡ with_sources [] (sources_of tree.now)) }
+    ensures defined { IfOk result (λ r. IsDefinedDocument (Some (schema_value schema.now).schema) (typed_document_tree r.0)) }
 {
     let mut builder = ExecutableDocumentBuilder::new(schema.alloc, Some(&schema.schema));
     match builder.add_ast_document(tree) {
         Ok(()) => {}
-        Err(BuilderRefusal::Memory | BuilderRefusal::Failed) => return Err(AllocError),
+        Err(BuilderRefusal::Memory) => return Err(AllocError),
+        Err(BuilderRefusal::Failed) => unreachable!(),
     }
     match builder.build() {
         Ok((document, errors)) => Ok((document, document_errors(schema.alloc, errors)?)),
-        Err(BuilderRefusal::Memory | BuilderRefusal::Failed) => Err(AllocError),
+        Err(BuilderRefusal::Memory) => Err(AllocError),
+        Err(BuilderRefusal::Failed) => unreachable!(),
     }
 }
 
 /// What is kept of the definitions over the schema, where no rule of typing is broken.
 fn typed(schema: &CheckedSchema, tree: &Document) -> Result<ExecutableDocument, Refusal>
     ensures typed { IfOk result (λ d. TypesDocument (schema_value schema.now).schema (document_tree tree.now) (meant_document (typed_document_tree d)) []) }
+    ensures sources { IfOk result (λ d. sources_view d.sources ≡ with_sources [] (sources_of tree.now)) }
+    ensures defined { IfOk result (λ d. IsDefinedDocument (Some (schema_value schema.now).schema) (typed_document_tree d)) }
     ensures refused { IfErr result (RefusalOfTyping (schema_value schema.now).schema (document_tree tree.now)) }
 {
     let (document, faults) = build(schema, tree)?;

@@ -13,12 +13,15 @@ use Rattle.schema_types.specs.Out.{written}
 use Rattle.rule_definitions.specs.Judged as rules
 use Rattle.rule_definitions.specs.Kept.{validated}
 use Rattle.rule_definitions.specs.Rules.{SchemaRules, RulesFail, BoundFails}
-use Rattle.rule_definitions.specs.Told.{PlacedFault}
+use Rattle.rule_definitions.specs.Told.{PlacedFault, Told}
+use Rattle.graphql_rules.specs.SchemaTold.{BreaksBesideCycles}
 use Rattle.graphql_faults.specs.DetailsTree.{of_rule, of_folding}
-use Rattle.verdict_definitions.specs.Texts.{SourceText, Tree, Terms, ReadsAll, document_number, AreRead}
+use Rattle.verdict_definitions.specs.Texts.{SourceText, Tree, Terms, ReadsAll, document_number, AreWithin, AreRead}
 use Rattle.verdict_definitions.specs.Meaning.{all_definitions, schema_of}
-use Rattle.verdict_definitions.specs.Says.{AnyFault, spent, FoldingFails, SchemaFails}
+use Rattle.verdict_definitions.specs.Says.{AnyFault, spent, FoldingFails, SchemaFails, SchemaRuleFailsBesideCycles}
 use Rattle.verdict_definitions.specs.Answer.{UnreadFaults, RefusesSchemas}
+use Rattle.schema_building.specs.SourcesView.{with_sources}
+use Rattle.checker_texts.specs.TextSources.{Sources, text_sources}
 use Rattle.checker_texts.specs.Added.{IsNextNumber, AreAdded}
 use Rattle.checker_schemas.specs.CheckedSchemaValue.{IsCheckedSchemaOf}
 use Rattle.checker_schemas.specs.Finishing.{IsFilled, RefusesFolding, RefusesSchemaRules, IsJudgedSchema, RefusesBuilder, RefusalOfNumbers, RefusalOfBuilder}
@@ -27,14 +30,15 @@ use Rattle.checker_texts.specs.declared.refusal.Refusal.{Refusal}
 use Rattle.checker_texts.specs.declared.refusal.Refusal.TheVariants.{Faults, Memory, Failed}
 use Rattle.graphql_faults.specs.DetailsView.{diagnostics_of}
 use Rattle.schema_components.proofs.Places.{not_in_nil, Contains-cons}
-use Rattle.checker_texts.proofs.Deciding.{no_member, one_list, are_read, are_within, no_unread, read_unread, says_unread}
+use Rattle.checker_schemas.proofs.Sourcing.{all_sources_stay}
+use Rattle.checker_texts.proofs.Deciding.{no_member, none_told, one_list, are_read, are_within, no_unread, read_unread, says_unread}
 
 -- ---- a builder that has the definitions of the texts
 
 counted_of : (b : BuilderValue) (ds : Tree) → b.settings ≡ plain_settings → b.texts ≡ ds → counted b ≡ ds
 counted_of b ds plain are = ap (λ s. counted (record b { settings = s })) plain ∙ are
 
-module _ (terms : Terms) (trees : List Tree) (b : BuilderValue) (filled : IsFilled terms.first_extension trees b) where
+module _ (terms : Terms) (trees : List Tree) (origins : Sources) (b : BuilderValue) (filled : IsFilled terms.first_extension trees origins b) where
   counts : counted b ≡ all_definitions trees
   counts = counted_of b (all_definitions trees) filled.plain filled.are
 
@@ -55,22 +59,41 @@ unread_refused terms texts faults some unread = record {
   some = some;
   says = λ fault h. inl (says_unread terms.nesting terms.first_text texts faults unread fault h);
   alone = inl unread;
-  full = λ within trees reads. absurd (some (no_unread terms.nesting terms.first_text texts faults (are_read terms.nesting terms.first_text texts trees reads within) unread));
+  full = λ within trees reads. absurd (never within trees reads);
+  rules = λ within trees reads numbers folds f fails. absurd (never within trees reads);
+  spent = λ within trees reads none. absurd (never within trees reads);
 }
+  where
+    never : AreWithin terms.nesting terms.first_text texts → (trees : List Tree) → ReadsAll terms.first_text texts trees → ⊥
+    never within trees reads = some (no_unread terms.nesting terms.first_text texts faults (are_read terms.nesting terms.first_text texts trees reads within) unread)
 
 none_alone : spent ∷ [] ≢ []
 none_alone e = absurd cc
 
+-- what is told of the schema of the trees: each breach of a folding rule, or that numbers are spent; of a rule on schemas, those on
+-- cycles aside, each; and that numbers are spent stands alone
+module _ (terms : Terms) (faults : List AnyFault) (trees : List Tree) where
+  abbrev FoldingTold : Type 0
+  FoldingTold = (faults ≡ spent ∷ []) ⊎ ((f : folding.BuildFault) → FoldingFails terms trees f → Contains faults (of_folding f))
+
+  abbrev RulesTold : Type 0
+  RulesTold = HaveNumbers terms.first_extension (all_definitions trees) → ((f : folding.BuildFault) → FoldingFails terms trees f → ⊥)
+      → (f : PlacedFault) → SchemaRuleFailsBesideCycles terms trees f → Contains faults (of_rule f)
+
+  abbrev SpentTold : Type 0
+  SpentTold = (HaveNumbers terms.first_extension (all_definitions trees) → ⊥) → faults ≡ spent ∷ []
+
 module _ (terms : Terms) (texts : List SourceText) (trees : List Tree) (read : AreRead terms.nesting terms.first_text texts) (reads : ReadsAll terms.first_text texts trees) where
   -- what is said of the schema is said of the texts
   says_schema : (faults : List AnyFault) → faults ≢ [] → ((fault : AnyFault) → Contains faults fault → SchemaFails terms trees fault)
-      → (faults ≡ spent ∷ []) ⊎ ((f : folding.BuildFault) → FoldingFails terms trees f → Contains faults (of_folding f)) → RefusesSchemas terms texts faults
-  says_schema faults some right full = record {
+      → FoldingTold terms faults trees → RulesTold terms faults trees → SpentTold terms faults trees → RefusesSchemas terms texts faults
+  says_schema faults some right full rules none = record {
     some = some;
     says = λ fault h. inr (trees, (reads, right fault h));
     alone = inr read;
-    full = λ within others reads'. subst (λ ts. (faults ≡ spent ∷ []) ⊎ ((f : folding.BuildFault) → FoldingFails terms ts f → Contains faults (of_folding f)))
-        (one_list terms.first_text texts trees others reads reads') full;
+    full = λ within others reads'. subst (FoldingTold terms faults) (one_list terms.first_text texts trees others reads reads') full;
+    rules = λ within others reads'. subst (RulesTold terms faults) (one_list terms.first_text texts trees others reads reads') rules;
+    spent = λ within others reads'. subst (SpentTold terms faults) (one_list terms.first_text texts trees others reads reads') none;
   }
 
   -- no number is left for an extension
@@ -78,6 +101,7 @@ module _ (terms : Terms) (texts : List SourceText) (trees : List Tree) (read : A
   spent_refused faults is none =
       says_schema faults (subst (λ fs. fs ≢ []) (sym is) none_alone)
       (λ fault h. inl (only_spent fault (subst (λ fs. Contains fs fault) is h), none)) (inl is)
+      (λ numbers folds f fails. absurd (none numbers)) (λ gone. is)
     where
       only_spent : (fault : AnyFault) → Contains (spent ∷ []) fault → fault ≡ spent
       only_spent fault h = elim (Contains-cons spent [] fault h) [ inl same ↦ sym same | inr other ↦ absurd (not_in_nil fault other) ]
@@ -87,21 +111,26 @@ module _ (terms : Terms) (texts : List SourceText) (trees : List Tree) (read : A
   numbers_refusal Memory h = tt
   numbers_refusal Failed h = h
 
-  module _ (b : BuilderValue) (filled : IsFilled terms.first_extension trees b) where
+  module _ (origins : Sources) (b : BuilderValue) (filled : IsFilled terms.first_extension trees origins b) where
     -- folding rules are broken
     folding_refused : (faults : List AnyFault) → RefusesFolding b faults → RefusesSchemas terms texts faults
     folding_refused faults refused = says_schema faults refused.some
-        (λ fault h. let told = refused.right fault h in inr (inl (told.0, (told.1.0, fails_so terms trees b filled told.0 told.1.1))))
-        (inr (λ f fails. refused.full f (fails_here terms trees b filled f fails)))
+        (λ fault h. let told = refused.right fault h in inr (inl (told.0, (told.1.0, fails_so terms trees origins b filled told.0 told.1.1))))
+        (inr (λ f fails. refused.full f (fails_here terms trees origins b filled f fails)))
+        (λ numbers folds f fails. absurd (none_told (λ fault. (g : folding.BuildFault) × ((fault ≡ of_folding g) × FailsIn b g)) faults refused.some refused.right
+        (λ fault told. folds told.0 (fails_so terms trees origins b filled told.0 told.1.1))))
+        (λ none. absurd (none filled.numbered))
 
     -- rules on schemas are broken
     rule_fails : (fault : AnyFault) → (f : PlacedFault) × ((fault ≡ of_rule f) × (RulesFail (folded b) f ⊎ BoundFails (folded b) f)) → SchemaFails terms trees fault
-    rule_fails fault (f, (is, fails)) = inr (inr (f, (is, subst (λ s. RulesFail s f ⊎ BoundFails s f) (folds_to terms trees b filled) fails)))
+    rule_fails fault (f, (is, fails)) = inr (inr (f, (is, subst (λ s. RulesFail s f ⊎ BoundFails s f) (folds_to terms trees origins b filled) fails)))
 
     rules_refused : (faults : List AnyFault) → FoldingRules built_in_definitions b.first (counted b) → RefusesSchemaRules (folded b) faults → RefusesSchemas terms texts faults
     rules_refused faults folds refused = says_schema faults refused.some
         (λ fault h. rule_fails fault (refused.right fault h))
-        (inr (λ f fails. absurd (folds f (fails_here terms trees b filled f fails))))
+        (inr (λ f fails. absurd (folds f (fails_here terms trees origins b filled f fails))))
+        (λ numbers keeps f fails. refused.full f (subst (λ s. Told s BreaksBesideCycles f) (sym (folds_to terms trees origins b filled)) fails))
+        (λ none. absurd (none filled.numbered))
 
     builder_refused : (faults : List AnyFault) → RefusesBuilder b faults → RefusesSchemas terms texts faults
     builder_refused faults (inl folding) = folding_refused faults folding
@@ -113,28 +142,30 @@ module _ (terms : Terms) (texts : List SourceText) (trees : List Tree) (read : A
     builder_refusal Failed h = h
 
     -- every rule holds
-    pub accepted : (number : ℕ) (schema : SchemaTree Place) (out : Tree) → number ≡ document_number terms texts → IsJudgedSchema b schema out
-        → IsCheckedSchemaOf terms texts (record { nesting = terms.nesting; number = number; schema = schema; written = out })
-    accepted number schema out next judged = record {
+    pub accepted : (number : ℕ) (schema : SchemaTree Place) (sources : Sources) (out : Tree) → number ≡ document_number terms texts → IsJudgedSchema b schema out
+        → origins ≡ text_sources terms.first_text texts → sources ≡ b.sources
+        → IsCheckedSchemaOf terms texts (record { nesting = terms.nesting; number = number; schema = schema; sources = sources; written = out })
+    accepted number schema sources out next judged of_texts kept = record {
       accepted = record {
         judged = record {
           trees = trees;
           read = reads;
-          folds = λ f fails. judged.folds f (fails_here terms trees b filled f fails);
-          holds = subst (λ s. SchemaRules (rules.judged s)) (folds_to terms trees b filled) judged.holds;
+          folds = λ f fails. judged.folds f (fails_here terms trees origins b filled f fails);
+          holds = subst (λ s. SchemaRules (rules.judged s)) (folds_to terms trees origins b filled) judged.holds;
         };
         within = are_within terms.nesting terms.first_text texts read;
         numbered = filled.numbered;
       };
       nesting = refl;
       number = next;
-      at_hand = judged.at_hand ∙ ap validated (folds_to terms trees b filled);
-      written = judged.written ∙ ap written (folds_to terms trees b filled);
+      sources = kept ∙ filled.sources ∙ ap (with_sources []) of_texts ∙ all_sources_stay terms.first_text texts;
+      at_hand = judged.at_hand ∙ ap validated (folds_to terms trees origins b filled);
+      written = judged.written ∙ ap written (folds_to terms trees origins b filled);
     }
 
 -- ---- what a checker has read
 
-module _ (terms : Terms) (texts : List SourceText) (number : ℕ) (trees : List Tree) (faults : List AnyFault) (added : AreAdded terms texts number trees faults) where
+module _ (terms : Terms) (texts : List SourceText) (number : ℕ) (trees : List Tree) (origins : Sources) (faults : List AnyFault) (added : AreAdded terms texts number trees origins faults) where
   pub unread_refusal : faults ≢ [] → RefusesSchemas terms texts faults
   unread_refusal some = unread_refused terms texts faults some added.unread
 

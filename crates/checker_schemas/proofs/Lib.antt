@@ -1,4 +1,5 @@
 pub mod Refusing
+pub mod Sourcing
 pub mod Filling
 pub mod Building
 pub mod Validating

@@ -8,7 +8,7 @@ use Rattle.graphql_faults.specs.DetailsTree.{of_rule}
 use Rattle.graphql_rules.specs.SchemaTold.{RulesOrBoundFail, SchemaTold}
 use Rattle.verdict_definitions.specs.Says.{AnyFault}
 use Rattle.checker_schemas.specs.Finishing.{RefusesSchemaRules}
-use Rattle.rule_document_definitions.proofs.Unplaced.{contains_unmap}
+use Rattle.rule_document_definitions.proofs.Unplaced.{contains_map, contains_unmap}
 
 -- a rule fails so, or the bound is passed
 fails_so : (s : SchemaTree Place) (f : PlacedFault) → Told s RulesOrBoundFail f → RulesFail s f ⊎ BoundFails s f
@@ -21,5 +21,6 @@ rules_told s old new none told some =
     let is : new ≡ map of_rule told.0 = told.1.0 ∙ ap (λ l. l ++ map of_rule told.0) none in
     record {
       some = some;
+      full = λ f fails. subst (λ l. Contains l (of_rule f)) (sym is) (contains_map of_rule told.0 f (told.1.1.full f fails));
       right = λ fault h. let p = contains_unmap of_rule told.0 fault (subst (λ l. Contains l fault) is h) in (p.0, (sym p.1.1, fails_so s p.0 (told.1.1.right p.0 p.1.0)));
     }

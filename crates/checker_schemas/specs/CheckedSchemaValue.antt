@@ -6,13 +6,15 @@ use Rattle.verdict_definitions.specs.Texts.{SourceText, Tree, Terms, document_nu
 use Rattle.verdict_definitions.specs.Meaning.{schema_at_hand}
 use Rattle.verdict_definitions.specs.Judge.{AreSchemasAccepted}
 use Rattle.verdict_definitions.specs.Out.{Out}
+use Rattle.checker_texts.specs.TextSources.{Sources, text_sources}
 
 -- a checked schema: how many brackets may be open at once, the number of a document, the schema over which documents are
--- judged, and what is written of the schema as it was built
+-- judged, its sources, and what is written of the schema as it was built
 pub record CheckedSchemaValue : Type 0 where
   pub nesting : ℕ
   pub number : ℕ
   pub schema : SchemaTree Place
+  pub sources : Sources
   pub written : Tree
 
 -- The checked schema is that of these texts, which are accepted.
@@ -21,6 +23,7 @@ pub record IsCheckedSchemaOf (terms : Terms) (schemas : List SourceText) (schema
   pub nesting : schema.nesting ≡ terms.nesting
   pub number : schema.number ≡ document_number terms schemas
   pub at_hand : schema.schema ≡ schema_at_hand terms accepted.judged.trees
+  pub sources : schema.sources ≡ text_sources terms.first_text schemas
   pub written : schema.written ≡ Out terms accepted.judged.trees
 
 -- The schema is that of some accepted texts.

@@ -9,12 +9,14 @@ use Rattle.schema_fold.specs.BuildErrors.{FoldingRules}
 use Rattle.schema_building.specs.BuilderValue.{BuilderValue}
 use Rattle.schema_building.specs.Building.{plain_settings, counted, folded, FailsIn}
 use Rattle.schema_building.specs.Numbers.{HaveNumbers}
+use Rattle.schema_building.specs.SourcesView.{Sources, with_sources}
 use Rattle.schema_building.specs.declared.refusal.BuilderRefusal.{BuilderRefusal}
 use Rattle.schema_building.specs.declared.refusal.BuilderRefusal.TheVariants as builder
 use Rattle.rule_definitions.specs.Judged.{judged}
 use Rattle.rule_definitions.specs.Kept.{validated}
 use Rattle.rule_definitions.specs.Rules.{SchemaRules, RulesFail, BoundFails}
-use Rattle.rule_definitions.specs.Told.{PlacedFault}
+use Rattle.rule_definitions.specs.Told.{PlacedFault, Told}
+use Rattle.graphql_rules.specs.SchemaTold.{BreaksBesideCycles}
 use Rattle.graphql_faults.specs.DetailsTree.{of_rule, of_folding}
 use Rattle.graphql_faults.specs.DetailsView.{diagnostics_of}
 use Rattle.verdict_definitions.specs.Texts.{Tree}
@@ -26,10 +28,12 @@ use Rattle.checker_texts.specs.declared.refusal.Refusal.TheVariants.{Faults, Mem
 
 -- ---- the definitions of all texts
 
--- The builder runs, and has the definitions of these trees, in order, each extension with a number from this one on.
-pub record IsFilled (number : ℕ) (trees : List Tree) (b : BuilderValue) : Type 0 where
+-- The builder runs, and has the definitions of these trees, in order, each extension with a number from this one on, and these
+-- sources.
+pub record IsFilled (number : ℕ) (trees : List Tree) (origins : Sources) (b : BuilderValue) : Type 0 where
   pub first : b.first ≡ number
   pub are : b.texts ≡ all_definitions trees
+  pub sources : b.sources ≡ with_sources [] origins
   pub plain : b.settings ≡ plain_settings
   pub running : b.failed ≡ false
   pub numbered : HaveNumbers number (all_definitions trees)
@@ -40,11 +44,11 @@ RefusalOfNumbers number trees (Faults list) = (diagnostics_of list ≡ spent ∷
 RefusalOfNumbers number trees Memory = Unit {0}
 RefusalOfNumbers number trees Failed = ⊥
 
--- what is said of a builder's refusal
+-- what is said of the refusal of a builder that has not failed
 abbrev pub IsOfBuilder : BuilderRefusal → Refusal → Type 0
 IsOfBuilder builder.Spent refusal = TellsOnly spent refusal
 IsOfBuilder builder.Memory refusal = refusal ≡ Memory
-IsOfBuilder builder.Failed refusal = refusal ≡ Memory
+IsOfBuilder builder.Failed refusal = ⊥
 
 -- ---- folding
 
@@ -69,10 +73,11 @@ RefusalOfFolding b Failed = ⊥
 
 -- ---- rules on schemas
 
--- they are broken so, or the bound on references is passed
+-- they are broken so, or the bound on references is passed, and all that breaks them is told, of those on cycles some
 pub record RefusesSchemaRules (schema : SchemaTree Place) (faults : List AnyFault) : Type 0 where
   pub some : faults ≢ []
   pub right : (fault : AnyFault) → Contains faults fault → (f : PlacedFault) × ((fault ≡ of_rule f) × (RulesFail schema f ⊎ BoundFails schema f))
+  pub full : (f : PlacedFault) → Told schema BreaksBesideCycles f → Contains faults (of_rule f)
 
 abbrev pub RefusalOfSchemaRules : SchemaTree Place → Refusal → Type 0
 RefusalOfSchemaRules schema (Faults list) = RefusesSchemaRules schema (diagnostics_of list)

@@ -1,14 +1,16 @@
 //! The schema of texts: built and judged, where each is read.
 
-ghost use Rattle.std.specs.Prelude.{◌≡◌, [], map, OnOk, IfOk, IfErr};
+ghost use Rattle.std.specs.Prelude.{◌≡◌, ◌≢◌, [], false, map, OnOk, IfOk, IfErr};
 ghost use Rattle.tree_definitions.specs.DefinitionTree.{document_tree};
 ghost use Rattle.graphql_faults.specs.DetailsView.{diagnostics_of};
 ghost use Rattle.graphql_schema.specs.BuilderOf.{builder_value};
 ghost use Rattle.graphql_schema.specs.SchemaOf.{schema_tree};
+ghost use Rattle.schema_building.specs.SourcesView.{sources_view};
+ghost use Rattle.schema_building.specs.declared.refusal.BuilderRefusal.TheVariants.{Failed};
 ghost use Rattle.rule_definitions.specs.Judged.{judged};
 ghost use Rattle.rule_definitions.specs.Kept.{validated};
 ghost use Rattle.rule_definitions.specs.Rules.{SchemaRules};
-ghost use Rattle.checker_texts.specs.TextsView.{terms_of, texts_of, IsReadingOf};
+ghost use Rattle.checker_texts.specs.TextsView.{terms_of, texts_of, all_sources, IsReadingOf};
 ghost use Rattle.checker_schemas.specs.CheckedSchemaValue.{IsCheckedSchemaOf};
 ghost use Rattle.checker_schemas.specs.JudgedView.{judged_value};
 ghost use Rattle.checker_schemas.specs.Refusals.{RefusalOfSchemas};
@@ -65,7 +67,7 @@ fn filled(
     extensions: Extensions,
     documents: &[Document],
 ) -> Result<SchemaBuilder, Refusal>
-    ensures filled { IfOk result (λ b. IsFilled extensions (map document_tree documents.now) (builder_value b)) }
+    ensures filled { IfOk result (λ b. IsFilled extensions (map document_tree documents.now) (all_sources documents.now) (builder_value b)) }
     ensures refused { IfErr result (RefusalOfNumbers extensions (map document_tree documents.now)) }
 {
     let mut builder = SchemaBuilder::with_extensions(alloc, extensions);
@@ -78,29 +80,36 @@ fn filled(
     Ok(builder)
 }
 
-/// What is said where a builder adds nothing.
+/// What is said where a builder that has not failed adds nothing.
 fn unfilled(alloc: Global, refusal: BuilderRefusal) -> Refusal
+    requires { refusal ≢ Failed }
     ensures { IsOfBuilder refusal result }
 {
     match refusal {
         BuilderRefusal::Spent => only(alloc, None, Details::Spent),
-        BuilderRefusal::Memory | BuilderRefusal::Failed => Refusal::Memory,
+        BuilderRefusal::Memory => Refusal::Memory,
+        BuilderRefusal::Failed => unreachable!(),
     }
 }
 
 /// The schema that the definitions fold to, with each way in which a folding rule is broken.
 fn build(alloc: Global, builder: SchemaBuilder) -> Result<(Schema, DiagnosticList), AllocError>
-    ensures { IfOk result (λ r. BuildsSchema (builder_value builder) (schema_tree r.0) (diagnostics_of r.1)) }
+    requires { (builder_value builder).failed ≡ false }
+    ensures builds { IfOk result (λ r. BuildsSchema (builder_value builder) (schema_tree r.0) (diagnostics_of r.1)) }
+    ensures sources { IfOk result (λ r. sources_view r.0.sources ≡ (builder_value builder).sources) }
 {
     match builder.build() {
         Ok((schema, errors)) => Ok((schema, schema_errors(alloc, errors)?)),
-        Err(_) => Err(AllocError),
+        Err(BuilderRefusal::Memory) => Err(AllocError),
+        Err(BuilderRefusal::Spent | BuilderRefusal::Failed) => unreachable!(),
     }
 }
 
 /// The schema that the definitions fold to, where no folding rule is broken.
 fn built(alloc: Global, builder: SchemaBuilder) -> Result<Schema, Refusal>
+    requires { (builder_value builder).failed ≡ false }
     ensures built { IfOk result (λ s. BuildsSchema (builder_value builder) (schema_tree s) []) }
+    ensures sources { IfOk result (λ s. sources_view s.sources ≡ (builder_value builder).sources) }
     ensures refused { IfErr result (RefusalOfFolding (builder_value builder)) }
 {
     let (schema, faults) = build(alloc, builder)?;
@@ -113,6 +122,7 @@ fn built(alloc: Global, builder: SchemaBuilder) -> Result<Schema, Refusal>
 /// Leaves the schema over which documents are judged, if every rule on schemas holds.
 fn validate(alloc: Global, schema: &mut Schema) -> Result<(), Refusal>
     ensures kept { OnOk result (schema_tree schema.new ≡ validated (schema_tree schema.old)) }
+    ensures sources { OnOk result (schema.new.sources ≡ schema.old.sources) }
     ensures valid { OnOk result (SchemaRules (judged (schema_tree schema.old))) }
     ensures refused { IfErr result (RefusalOfSchemaRules (schema_tree schema.old)) }
 {
@@ -126,7 +136,9 @@ fn validate(alloc: Global, schema: &mut Schema) -> Result<(), Refusal>
 
 /// The schema over which documents are judged, and what is written of it as it was built, if no rule is broken.
 fn judge(alloc: Global, builder: SchemaBuilder) -> Result<(Schema, Document), Refusal>
+    requires { (builder_value builder).failed ≡ false }
     ensures judged { IfOk result (λ r. IsJudgedSchema (builder_value builder) (schema_tree r.0) (document_tree r.1)) }
+    ensures sources { IfOk result (λ r. sources_view r.0.sources ≡ (builder_value builder).sources) }
     ensures refused { IfErr result (RefusalOfBuilder (builder_value builder)) }
 {
     let mut schema = built(alloc, builder)?;

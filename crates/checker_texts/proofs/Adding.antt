@@ -1,10 +1,12 @@
 -- A text is added to texts that have been read.
-use Rattle.std.proofs.Common.{inl, inr, ◌≡◌, ◌≢◌, ℕ, ◌+◌, ◌<◌, ◌≤◌, ◌^◌, List, [], ◌∷◌, ◌++◌, length, length-append, refl, ap, ◌∙◌, subst, arith}
+use Rattle.std.proofs.Common.{inl, inr, ◌≡◌, ◌≢◌, ℕ, ◌+◌, ◌<◌, ◌≤◌, ◌^◌, List, [], ◌∷◌, ◌++◌, length, length-append, refl, sym, ap, ◌∙◌, subst, arith}
 use Rattle.std.proofs.Math.Nat.{lt_irrefl}
 use Rattle.graphql_read.specs.Reads.{NestingBound}
 use Rattle.verdict_definitions.specs.Texts.{SourceText, Tree, Terms, ReadsText, ReadsAll, document_number, PassesNumbers, IsRead}
 use Rattle.verdict_definitions.specs.Says.{AnyFault, IsFaultOfText, UnreadFault, spent}
 use Rattle.verdict_definitions.specs.Answer.{UnreadFaults}
+use Rattle.graphql_read.specs.ReadFaults.{unnamed_source}
+use Rattle.checker_texts.specs.TextSources.{Sources, text_sources}
 use Rattle.checker_texts.specs.Added.{IsNextNumber, AreAdded}
 
 -- ---- a text at the end of the texts, where the first has any number
@@ -30,6 +32,10 @@ module _ (text : SourceText) (number : ℕ) where
   reads_more first [] (u ∷ us) tree e h reads = absurd h
   reads_more first (t ∷ ts) [] tree e h reads = absurd h
   reads_more first (t ∷ ts) (u ∷ us) tree e h reads = (h.0, reads_more (first + 1) ts us tree (omega (arith, e)) h.1 reads)
+
+  sources_more : (first : ℕ) (texts : List SourceText) → number ≡ length texts + first → text_sources first (texts ++ text ∷ []) ≡ text_sources first texts ++ (number, unnamed_source text) ∷ []
+  sources_more first [] e = let same : first ≡ number = omega (arith, e) in ap (λ n. (n, unnamed_source text) ∷ []) same
+  sources_more first (t ∷ ts) e = ap (λ l. (first, unnamed_source t) ∷ l) (sources_more (first + 1) ts (omega (arith, e)))
 
 -- ---- the texts of a checker
 
@@ -58,14 +64,15 @@ module _ (terms : Terms) (texts : List SourceText) (number : ℕ) (text : Source
       within (inl e) = omega (arith, e)
       within (inr h) = let le = h.1.0 in omega (arith, le)
 
-module _ (terms : Terms) (texts : List SourceText) (number : ℕ) (text : SourceText) (trees : List Tree) (faults : List AnyFault) (added : AreAdded terms texts number trees faults) where
+module _ (terms : Terms) (texts : List SourceText) (number : ℕ) (text : SourceText) (trees : List Tree) (sources : Sources) (faults : List AnyFault) (added : AreAdded terms texts number trees sources faults) where
   -- a text without a number
-  pub spent_added : number + 1 ≡ 2 ^ 64 → AreAdded terms (texts ++ text ∷ []) number trees (faults ++ spent ∷ [])
+  pub spent_added : number + 1 ≡ 2 ^ 64 → AreAdded terms (texts ++ text ∷ []) number trees sources (faults ++ spent ∷ [])
   spent_added none =
       let none = none_left terms texts number text faults added.next none in
       record {
         unread = fault_more text (length texts + terms.first_text) terms.nesting terms.first_text texts faults spent refl added.unread (inr (refl, none.0));
         kept = λ silent. absurd (some_fault faults spent silent);
+        sources = λ silent. absurd (some_fault faults spent silent);
         next = none.1;
       }
 
@@ -74,30 +81,35 @@ module _ (terms : Terms) (texts : List SourceText) (number : ℕ) (text : Source
     here = number_left terms texts number text faults added.next left
 
     -- a text that is not read
-    pub fault_added : (fault : AnyFault) → IsFaultOfText terms.nesting number text fault → AreAdded terms (texts ++ text ∷ []) (number + 1) trees (faults ++ fault ∷ [])
+    pub fault_added : (fault : AnyFault) → IsFaultOfText terms.nesting number text fault → AreAdded terms (texts ++ text ∷ []) (number + 1) trees sources (faults ++ fault ∷ [])
     fault_added fault is = record {
       unread = fault_more text number terms.nesting terms.first_text texts faults fault here added.unread (inl is);
       kept = λ silent. absurd (some_fault faults fault silent);
+      sources = λ silent. absurd (some_fault faults fault silent);
       next = next_number terms texts number text faults (faults ++ fault ∷ []) here;
     }
 
     module _ (tree : Tree) (reads : ReadsText number text tree) (nests : NestingBound terms.nesting text → ⊥) where
       -- a text that is read, whatever is kept of it
-      read_added : (trees' : List Tree) → (faults ≡ [] → ReadsAll terms.first_text (texts ++ text ∷ []) trees') → AreAdded terms (texts ++ text ∷ []) (number + 1) trees' faults
-      read_added trees' keeps = record {
+      read_added : (trees' : List Tree) (sources' : Sources) → (faults ≡ [] → ReadsAll terms.first_text (texts ++ text ∷ []) trees') → (faults ≡ [] → sources' ≡ text_sources terms.first_text (texts ++ text ∷ []))
+          → AreAdded terms (texts ++ text ∷ []) (number + 1) trees' sources' faults
+      read_added trees' sources' keeps keeps_sources = record {
         unread = read_more text number terms.nesting terms.first_text texts faults here added.unread (record {
           tree = tree;
           reads = reads;
           within = record { nests = nests; numbered = λ passes. lt_irrefl (2 ^ 64) (omega (arith, left, passes)) };
         });
         kept = keeps;
+        sources = keeps_sources;
         next = next_number terms texts number text faults faults here;
       }
 
       -- behind one that is not read: any
-      pub behind_added : faults ≢ [] → AreAdded terms (texts ++ text ∷ []) (number + 1) trees faults
-      behind_added some = read_added trees (λ silent. absurd (some silent))
+      pub behind_added : faults ≢ [] → AreAdded terms (texts ++ text ∷ []) (number + 1) trees sources faults
+      behind_added some = read_added trees sources (λ silent. absurd (some silent)) (λ silent. absurd (some silent))
 
       -- behind texts that are read: one of which the tree is kept
-      pub tree_added : AreAdded terms (texts ++ text ∷ []) (number + 1) (trees ++ tree ∷ []) faults
-      tree_added = read_added (trees ++ tree ∷ []) (λ silent. reads_more text number terms.first_text texts trees tree here (added.kept silent) reads)
+      pub tree_added : AreAdded terms (texts ++ text ∷ []) (number + 1) (trees ++ tree ∷ []) (sources ++ (number, unnamed_source text) ∷ []) faults
+      tree_added = read_added (trees ++ tree ∷ []) (sources ++ (number, unnamed_source text) ∷ [])
+          (λ silent. reads_more text number terms.first_text texts trees tree here (added.kept silent) reads)
+          (λ silent. ap (λ l. l ++ (number, unnamed_source text) ∷ []) (added.sources silent) ∙ sym (sources_more text number terms.first_text texts here))

@@ -4,6 +4,7 @@ use Rattle.graphql_faults.specs.DetailsView.{details_at}
 use Rattle.verdict_definitions.specs.Texts.{SourceText, Tree, Terms, ReadsAll, document_number}
 use Rattle.verdict_definitions.specs.Says.{AnyFault}
 use Rattle.verdict_definitions.specs.Answer.{UnreadFaults}
+use Rattle.checker_texts.specs.TextSources.{Sources, text_sources}
 use Rattle.checker_texts.specs.declared.read_text.Unread.{Unread}
 use Rattle.checker_texts.specs.declared.read_text.Unread.TheVariants as unread
 
@@ -13,10 +14,11 @@ IsNextNumber terms texts faults number =
     (number ≡ document_number terms texts)
     ⊎ ((number + 1 ≡ 2 ^ 64) × ((number < document_number terms texts) × (faults ≢ [])))
 
--- What reading the texts gave: these faults of those that are not read, and without any these trees.
-pub record AreAdded (terms : Terms) (texts : List SourceText) (number : ℕ) (trees : List Tree) (faults : List AnyFault) : Type 0 where
+-- What reading the texts gave: these faults of those that are not read, and without any these trees and sources.
+pub record AreAdded (terms : Terms) (texts : List SourceText) (number : ℕ) (trees : List Tree) (origins : Sources) (faults : List AnyFault) : Type 0 where
   pub unread : UnreadFaults terms.nesting terms.first_text texts faults
   pub kept : faults ≡ [] → ReadsAll terms.first_text texts trees
+  pub sources : faults ≡ [] → origins ≡ text_sources terms.first_text texts
   pub next : IsNextNumber terms texts faults number
 
 -- the fault of an unread text stands behind these

@@ -1,3 +1,4 @@
+pub mod TextSources
 pub mod Unread
 pub mod Added
 pub mod TextsView

@@ -1,9 +1,12 @@
 -- Private: leads to what `Checker::finish` answers. What contracts see of the schema texts that a checker was given.
-use Rattle.std.specs.Prelude.{◌≡◌, ℕ, ◌+◌, ◌<◌, ◌^◌, List, map, string_bytes}
+use Rattle.std.specs.Prelude.{◌≡◌, ℕ, ◌+◌, ◌<◌, ◌^◌, List, map, flat_map, string_bytes}
 use Rattle.graphql_names.specs.declared.span.FileId.{FileId}
 use Rattle.tree_definitions.specs.DefinitionTree.{document_tree}
+use Rattle.tree_definitions.specs.Sources.{sources_of}
+use Rattle.tree_definitions.specs.declared.document.Document.{Document}
 use Rattle.graphql_faults.specs.DetailsView.{diagnostics_of}
 use Rattle.verdict_definitions.specs.Texts.{SourceText, Tree, Terms}
+use Rattle.checker_texts.specs.TextSources.{Sources}
 use Rattle.checker_texts.specs.Added.{AreAdded}
 use Rattle.checker_texts.specs.declared.schema_texts.SchemaTexts.{SchemaTexts}
 
@@ -19,9 +22,13 @@ texts_of s = map string_bytes s.texts.items
 abbrev pub trees_of : SchemaTexts → List Tree
 trees_of s = map document_tree s.documents.items
 
+-- the sources of documents, in order
+abbrev pub all_sources : List Document → Sources
+all_sources documents = flat_map (λ sources. sources) (map sources_of documents)
+
 -- What is kept of reading is of these texts, where the next one gets this number.
 abbrev pub IsReadingAt : List SourceText → ℕ → SchemaTexts → Type 0
-IsReadingAt texts number s = AreAdded (terms_of s) texts number (trees_of s) (diagnostics_of s.unread)
+IsReadingAt texts number s = AreAdded (terms_of s) texts number (trees_of s) (all_sources s.documents.items) (diagnostics_of s.unread)
 
 -- What is kept of reading is of these texts.
 abbrev pub IsReadingOf : List SourceText → SchemaTexts → Type 0

@@ -1,10 +1,11 @@
 //! One text, read: its document, or why it has none.
 
-ghost use Rattle.std.specs.Prelude.{◌≡◌, ◌<◌, ℕ, length, IfOk, IfErr, OnOk};
+ghost use Rattle.std.specs.Prelude.{◌≡◌, ◌<◌, ◌∷◌, [], ℕ, length, IfOk, IfErr, OnOk};
 ghost use Rattle.tree_definitions.specs.DefinitionTree.{document_tree};
+ghost use Rattle.tree_definitions.specs.Sources.{sources_of};
 ghost use Rattle.graphql_read.specs.in_grammar.Faults as faults;
 ghost use Rattle.graphql_read.specs.Reads.{NestingBound};
-ghost use Rattle.graphql_read.specs.ReadFaults.{fault_at, fault_view};
+ghost use Rattle.graphql_read.specs.ReadFaults.{fault_at, fault_view, unnamed_source};
 ghost use Rattle.graphql_read.specs.declared.fault.ReadFault.TheVariants.{Nesting};
 ghost use Rattle.verdict_definitions.specs.Texts.{ReadsText};
 ghost use Rattle.checker_texts.specs.Unread.{IsUnread, TellsUnread};
@@ -28,6 +29,7 @@ pub enum Unread {
 pub fn read(alloc: Global, text: &str, file: FileId, nesting: usize) -> Result<Document, Unread>
     ensures tree { IfOk result (λ d. ReadsText file.0 text.now (document_tree d)) }
     ensures within { OnOk result (NestingBound nesting text.now → ⊥) }
+    ensures sources { IfOk result (λ d. sources_of d ≡ (file.0, unnamed_source text.now) ∷ []) }
     ensures unread { IfErr result (IsUnread nesting file.0 text.now) }
 {
     match parse_document(alloc, text, file, nesting) {

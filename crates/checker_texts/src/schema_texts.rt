@@ -2,7 +2,9 @@
 
 ghost use Rattle.std.specs.Prelude.{◌≡◌, ◌≢◌, ◌++◌, ◌∷◌, [], ℕ, List, OnOk, OnErr};
 ghost use Rattle.tree_definitions.specs.DefinitionTree.{document_tree};
+ghost use Rattle.tree_definitions.specs.Sources.{sources_of};
 ghost use Rattle.graphql_read.specs.Reads.{NestingBound};
+ghost use Rattle.graphql_read.specs.ReadFaults.{unnamed_source};
 ghost use Rattle.graphql_faults.specs.DetailsView.{diagnostics_of};
 ghost use Rattle.verdict_definitions.specs.Texts.{ReadsText};
 ghost use Rattle.checker_texts.specs.Added.{IsToldBehind};
@@ -55,10 +57,10 @@ impl SchemaTexts {
         }
     }
 
-    /// Adds a text behind the others. After a refusal the texts are as they were, but what was read may not be.
+    /// Adds a text behind the others. After a refusal terms and texts are as they were, but what was read may not be.
     pub fn add(&mut self, text: &str) -> Result<(), AllocError>
         requires { IsReadingOf (texts_of self.old) self.old }
-        ensures terms { OnOk result (terms_of self.new ≡ terms_of self.old) }
+        ensures terms { terms_of self.new ≡ terms_of self.old }
         ensures texts { OnOk result (texts_of self.new ≡ texts_of self.old ++ text.now ∷ []) }
         ensures kept { OnErr result (texts_of self.new ≡ texts_of self.old) }
         ensures reading { OnOk result (IsReadingOf (texts_of self.new) self.new) }
@@ -72,7 +74,7 @@ impl SchemaTexts {
     /// Reads the text that comes next, if a number is left for it.
     fn read_next(&mut self, text: &str) -> Result<(), AllocError>
         requires { IsReadingOf (texts_of self.old) self.old }
-        ensures terms { OnOk result (terms_of self.new ≡ terms_of self.old) }
+        ensures terms { terms_of self.new ≡ terms_of self.old }
         ensures texts { self.new.texts ≡ self.old.texts }
         ensures reading { OnOk result (IsReadingOf (texts_of self.old ++ text.now ∷ []) self.new) }
     {
@@ -85,7 +87,7 @@ impl SchemaTexts {
     /// Reads the text with this number.
     fn read_numbered(&mut self, text: &str, file: FileId) -> Result<(), AllocError>
         requires { IsBefore (texts_of self.old) file self.old }
-        ensures terms { OnOk result (terms_of self.new ≡ terms_of self.old) }
+        ensures terms { terms_of self.new ≡ terms_of self.old }
         ensures texts { self.new.texts ≡ self.old.texts }
         ensures reading { OnOk result (IsReadingOf (texts_of self.old ++ text.now ∷ []) self.new) }
     {
@@ -98,10 +100,10 @@ impl SchemaTexts {
     /// Keeps what the text with this number is, as long as each text is read.
     fn keep(&mut self, document: Document, file: FileId) -> Result<(), AllocError>
         requires { IsBefore (texts_of self.old) file self.old }
-        ensures terms { OnOk result (terms_of self.new ≡ terms_of self.old) }
+        ensures terms { terms_of self.new ≡ terms_of self.old }
         ensures texts { self.new.texts ≡ self.old.texts }
         ensures reading { OnOk result ((text : List ℕ) → ReadsText file.0 text (document_tree document) → (NestingBound self.old.nesting text → ⊥)
-            → IsReadingOf (texts_of self.old ++ text ∷ []) self.new) }
+            → sources_of document ≡ (file.0, unnamed_source text) ∷ [] → IsReadingOf (texts_of self.old ++ text ∷ []) self.new) }
     {
         if !self.unread.is_empty() {
             return Ok(());

@@ -1,8 +1,9 @@
 -- A certain pair is answered so, where memory suffices and no device fails; and what is out where the writer fails.
 use Rattle.std.proofs.Common.{inl, inr, ◌≡◌, ℕ, zero, suc, List, [], ◌∷◌, length, map, get_or, Option, ap, sym, subst, refl, ◌∙◌, arith}
 use Rattle.std.proofs.lemmas.List.{length-map}
-use Rattle.std.specs.Prelude.{Err, Ok, IfSome, IsUtf8, Vec}
-use Rattle.std.specs.List.{AllZip}
+use Rattle.std.proofs.lemmas.Str.{IsUtf8-string_bytes}
+use Rattle.std.specs.Prelude.{Err, Ok, IfSome, IsUtf8, String, string_bytes, Vec}
+use Rattle.std.specs.List.{All, AllZip}
 use Rattle.graphql_names.specs.declared.device.Device.{Device}
 use Rattle.graphql_names.specs.Device.{device_failed}
 use Rattle.verdict_definitions.specs.Texts.{SourceText, Terms}
@@ -17,7 +18,7 @@ use Rattle.checker_answers.specs.declared.run_fault.Outcome.{Outcome}
 use Rattle.checker_answers.specs.declared.run_fault.Outcome.TheVariants.{Accepted, Refused}
 use Rattle.checker_answers.specs.declared.run_fault.RunFault.{RunFault}
 use Rattle.checker_answers.specs.declared.run_fault.RunFault.TheVariants.{Memory, Reader, NotUtf8, Writer}
-use Rattle.graphql_checked.specs.Run.{BytesOf, TellCertain, IsAnswerToCertain, RunFaultIsDue, AcceptsOrFails}
+use Rattle.graphql_checked.specs.Run.{BytesOf, TellCertain, IsAnswerToCertain, AreAllRead, RunFaultIsDue, AcceptsOrFails}
 
 -- ---- what readers tell
 
@@ -75,6 +76,12 @@ certain_here of_schema of_document terms schemas document texts text are is tell
     subst (λ t. IsCertain terms t text) (sym (texts_told of_schema schemas texts tell.texts are tell.schemas_tell))
     (subst (IsCertain terms tell.texts) (sym (text_told of_document document text tell.text is tell.document_tells)) tell.certain)
 
+-- the texts of strings are UTF-8
+pub all_utf8 : {Z : Type 0} (texts : List (String Z)) → All IsUtf8 (map string_bytes texts)
+all_utf8 [] k d h = absurd (omega (arith, h))
+all_utf8 (text ∷ texts) zero d h = IsUtf8-string_bytes text
+all_utf8 (text ∷ texts) (suc k) d h = all_utf8 texts k d (omega (arith, h))
+
 -- ---- a writer that fails
 
 answer_of : (layout : Layout) (terms : Terms) (texts : List SourceText) (text : SourceText) (outcome : Outcome) (bytes : List ℕ) → BytesOf terms layout outcome texts text bytes → Answer terms layout texts text bytes
@@ -83,13 +90,13 @@ answer_of layout terms texts text Refused bytes h = inr h
 
 pub put_due : {R D W : Type 0} (of_schema : R → Option (List ℕ)) (of_document : D → Option (List ℕ)) (contents : W → Option (List ℕ)) (layout : Layout) (terms : Terms)
     → (schemas schemas' : List (Device R)) (document document' : Device D) (out out' : Device W) (texts : List SourceText) (text : SourceText) (outcome : Outcome) (bytes : List ℕ) (fault : RunFault)
-    → AreTextsOf of_schema schemas texts → IsTextOf of_document document text → BytesOf terms layout outcome texts text bytes → IsPutFault contents out out' bytes fault
+    → AreTextsOf of_schema schemas texts → IsTextOf of_document document text → All IsUtf8 texts → IsUtf8 text → AreAllRead of_schema of_document schemas' document' → BytesOf terms layout outcome texts text bytes → IsPutFault contents out out' bytes fault
     → RunFaultIsDue of_schema of_document contents layout terms schemas schemas' document document' out out' fault
-put_due of_schema of_document contents layout terms schemas schemas' document document' out out' texts text outcome bytes (Writer count) are is answers (short, failed, taken) =
-    (failed, record { texts = texts; text = text; bytes = bytes; schemas_are = are; document_is = is; answers = (answer_of layout terms texts text outcome bytes answers, short); put = taken })
-put_due of_schema of_document contents layout terms schemas schemas' document document' out out' texts text outcome bytes Memory are is answers h = absurd h
-put_due of_schema of_document contents layout terms schemas schemas' document document' out out' texts text outcome bytes (Reader number) are is answers h = absurd h
-put_due of_schema of_document contents layout terms schemas schemas' document document' out out' texts text outcome bytes (NotUtf8 number) are is answers h = absurd h
+put_due of_schema of_document contents layout terms schemas schemas' document document' out out' texts text outcome bytes (Writer count) are is utf8 text_utf8 read answers (short, failed, taken) =
+    (failed, read, record { texts = texts; text = text; bytes = bytes; schemas_are = are; document_is = is; schemas_are_utf8 = utf8; document_is_utf8 = text_utf8; answers = (answer_of layout terms texts text outcome bytes answers, short); put = taken })
+put_due of_schema of_document contents layout terms schemas schemas' document document' out out' texts text outcome bytes Memory are is utf8 text_utf8 read answers h = absurd h
+put_due of_schema of_document contents layout terms schemas schemas' document document' out out' texts text outcome bytes (Reader number) are is utf8 text_utf8 read answers h = absurd h
+put_due of_schema of_document contents layout terms schemas schemas' document document' out out' texts text outcome bytes (NotUtf8 number) are is utf8 text_utf8 read answers h = absurd h
 
 -- ---- devices that have not failed
 

@@ -1,5 +1,5 @@
 -- A checker that is given texts, and what the checks of schema texts and of a document say of the pair.
-use Rattle.std.proofs.Common.{◌≡◌, ℕ, ◌+◌, ◌<◌, ◌≤◌, true, false, List, [], ◌∷◌, ◌++◌, length, map, take, get_or, ◌⊎◌, Result, Ok, Err, inl, inr, refl, sym, ap, subst, ◌∙◌}
+use Rattle.std.proofs.Common.{◌≡◌, ◌≢◌, ℕ, ◌+◌, ◌<◌, ◌≤◌, true, false, List, [], ◌∷◌, ◌++◌, length, map, take, get_or, ◌⊎◌, Result, Ok, Err, inl, inr, refl, sym, ap, subst, ◌∙◌}
 use Rattle.std.specs.Prelude.{IfOk}
 use Rattle.std.proofs.lemmas.List.{map_more, take_all}
 use Rattle.graphql_names.specs.Placed.{Place}
@@ -125,3 +125,14 @@ schemas_verdict terms texts text Failed h = tt
 -- want of memory is told as it is
 pub memory_verdict : (refusal : Refusal) (verdict : Result Verdict CheckError) → verdict ≡ refusal_verdict refusal → refusal ≡ Memory → (verdict ≡ Ok Accepted) ⊎ (verdict ≡ Err error.Memory)
 memory_verdict refusal verdict is memory = inr (is ∙ ap refusal_verdict memory)
+
+-- no refusal of texts says that a checker has failed
+pub schemas_not_failed : (terms : Terms) (texts : List SourceText) (refusal : Refusal) → RefusalOfSchemas terms texts refusal → refusal ≢ Failed
+schemas_not_failed terms texts (Faults list) h e = absurd cc
+schemas_not_failed terms texts Memory h e = absurd cc
+schemas_not_failed terms texts Failed h e = absurd h
+
+pub document_not_failed : (schema : CheckedSchemaValue) (text : SourceText) (refusal : Refusal) → RefusalOfDocument schema text refusal → refusal ≢ Failed
+document_not_failed schema text (Faults list) h e = absurd cc
+document_not_failed schema text Memory h e = absurd cc
+document_not_failed schema text Failed h e = absurd h

@@ -1,6 +1,6 @@
 -- What `run` reads and puts out.
-use Rattle.std.specs.Prelude.{◌≡◌, ℕ, ◌+◌, ◌<◌, ◌++◌, true, List, length, take, flat_map, codes, Option, ◌⊎◌, Result, Ok, Err, Vec}
-use Rattle.std.specs.List.{AllZip}
+use Rattle.std.specs.Prelude.{◌≡◌, ℕ, ◌+◌, ◌<◌, ◌++◌, true, List, length, take, flat_map, codes, Option, ◌⊎◌, Result, Ok, Err, Vec, IsUtf8}
+use Rattle.std.specs.List.{All, AllZip}
 use Rattle.std.specs.Io.KnownBytes.{Appends}
 use Rattle.graphql_names.specs.declared.device.Device.{Device}
 use Rattle.graphql_names.specs.Device.{device_inner, device_failed}
@@ -10,7 +10,7 @@ use Rattle.verdict_definitions.specs.Judge.{IsCertain}
 use Rattle.verdict_definitions.specs.Out.{Layout, layout_text, as_lines}
 use Rattle.verdict_definitions.specs.Answer.{WritesDocument, AcceptedBytes, RefusedBytes, Answer, fault_line}
 use Rattle.book_validity.specs.Yes.{IsYes}
-use Rattle.checker_answers.specs.Devices.{IsTextOf, TellsText, AreTextsOf, IsNotUtf8Of, IsNotUtf8At, HasFailedAt}
+use Rattle.checker_answers.specs.Devices.{IsTextOf, TellsText, AreTextsOf, IsReadToEnd, AreReadToEnd, IsNotUtf8Of, IsNotUtf8At, HasFailedAt}
 use Rattle.checker_answers.specs.declared.run_fault.Outcome.{Outcome}
 use Rattle.checker_answers.specs.declared.run_fault.Outcome.TheVariants.{Accepted, Refused}
 use Rattle.checker_answers.specs.declared.run_fault.RunFault.{RunFault}
@@ -42,15 +42,21 @@ IsAnswerToCertain (Err (Reader number)) = Unit {0}
 IsAnswerToCertain (Err (Writer count)) = Unit {0}
 IsAnswerToCertain (Err (NotUtf8 number)) = ⊥
 
+-- Each reader is at its end, that of the document too, also where the schema texts are refused.
+abbrev pub AreAllRead : {R D : Type 0} → (R → Option (List ℕ)) → (D → Option (List ℕ)) → List (Device R) → Device D → Type 0
+AreAllRead of_schema of_document schemas document = AreReadToEnd of_schema schemas × IsReadToEnd of_document document
+
 module _ {R D W : Type 0} (of_schema : R → Option (List ℕ)) (of_document : D → Option (List ℕ)) (contents : W → Option (List ℕ))
     (layout : Layout) (terms : Terms) where
-  -- What the writer took is `front` of bytes that are `of` the texts of the readers.
+  -- What the writer took is `front` of bytes that are `of` the texts of the readers, which are UTF-8.
   pub record WritesOfTexts (of : List SourceText → SourceText → List ℕ → Type 0) (schemas : List (Device R)) (document : Device D) (old new : Device W) (front : List ℕ → List ℕ) : Type 0 where
     pub texts : List SourceText
     pub text : SourceText
     pub bytes : List ℕ
     pub schemas_are : AreTextsOf of_schema schemas texts
     pub document_is : IsTextOf of_document document text
+    pub schemas_are_utf8 : All IsUtf8 texts
+    pub document_is_utf8 : IsUtf8 text
     pub answers : of texts text bytes
     pub put : Appends (contents (device_inner old)) (contents (device_inner new)) (front bytes)
 
@@ -66,7 +72,7 @@ module _ {R D W : Type 0} (of_schema : R → Option (List ℕ)) (of_document : D
   RunFaultIsDue schemas schemas' document document' out out' (NotUtf8 number) =
       ((IsNotUtf8At of_schema schemas number × (document' ≡ document)) ⊎ ((number ≡ length schemas + 1) × IsNotUtf8Of of_document document)) × (out' ≡ out)
   RunFaultIsDue schemas schemas' document document' out out' (Writer count) =
-      (device_failed out' ≡ true) × WritesOfTexts (λ texts text bytes. Answer terms layout texts text bytes × (count < length bytes)) schemas document out out' (take count)
+      (device_failed out' ≡ true) × AreAllRead of_schema of_document schemas' document' × WritesOfTexts (λ texts text bytes. Answer terms layout texts text bytes × (count < length bytes)) schemas document out out' (take count)
 
 -- ---- private: what the parts of a run answer
 
@@ -87,9 +93,9 @@ pub record IsWrittenAnswer (layout : Layout) (schema : CheckedSchemaValue) (text
   pub writes_document : WritesDocument layout schema.number text written_document
   pub is : bytes ≡ codes "accepted\n" ++ as_lines layout (layout_text layout schema.written) ++ as_lines layout written_document
 
--- the refusal of some texts, with the bytes that go with it
+-- the refusal of some texts, with the bytes that go with it; none says that a checker has failed
 abbrev pub IsAnswerOfRefusal : {Z : Type 0} → Refusal → Result (Outcome × Vec ℕ Z) RunFault → Type 0
 IsAnswerOfRefusal (refusal.Faults list) (Ok (outcome, bytes)) = (outcome ≡ Refused) × (bytes.items ≡ codes "refused\n" ++ flat_map fault_line (diagnostics_of list))
 IsAnswerOfRefusal (refusal.Faults list) (Err fault) = fault ≡ Memory
 IsAnswerOfRefusal refusal.Memory answer = answer ≡ Err Memory
-IsAnswerOfRefusal refusal.Failed answer = answer ≡ Err Memory
+IsAnswerOfRefusal refusal.Failed answer = ⊥

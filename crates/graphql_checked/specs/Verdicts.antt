@@ -20,7 +20,7 @@ abbrev pub IsVerdict : Terms → List SourceText → SourceText → Verdict → 
 IsVerdict terms schemas document Accepted = IsYes terms schemas document
 IsVerdict terms schemas document (Refused list) = Refuses terms schemas document (diagnostics_of list)
 
--- the verdict of a refusal, where a checker that has failed wants memory
+-- the verdict of a refusal; of texts none says that a checker has failed
 abbrev pub refusal_verdict : Refusal → Result Verdict CheckError
 refusal_verdict (refusal.Faults list) = Ok (Refused list)
 refusal_verdict refusal.Memory = Err Memory

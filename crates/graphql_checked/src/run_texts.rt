@@ -1,6 +1,6 @@
 //! Reads texts, judges them, and puts the answer out.
 
-ghost use Rattle.std.specs.Prelude.{◌≡◌, false, OnOk, IfOk, IfErr, map, string_bytes};
+ghost use Rattle.std.specs.Prelude.{◌≡◌, ◌≢◌, false, OnOk, IfOk, IfErr, map, string_bytes};
 ghost use Rattle.std.specs.Option.{option_copied};
 ghost use Rattle.graphql_names.specs.Device.{device_failed};
 ghost use Rattle.checker_answers.specs.Devices.{HaveNotFailed};
@@ -8,7 +8,8 @@ ghost use Rattle.checker_layouts.specs.Layouts.{prefix_of};
 ghost use Rattle.verdict_definitions.specs.Judge.{IsCertain};
 ghost use Rattle.checker_documents.specs.CheckedView.{schema_value, document_value};
 ghost use Rattle.checker_schemas.specs.CheckedSchemaValue.{IsCheckedSchemaOf};
-ghost use Rattle.graphql_checked.specs.Run.{TellCertain, IsAnswerToCertain, IsAnswerTo, AcceptsOrFails, IsWrittenAnswer, IsAnswerOfRefusal};
+ghost use Rattle.graphql_checked.specs.Run.{TellCertain, AreAllRead, IsAnswerToCertain, IsAnswerTo, AcceptsOrFails, IsWrittenAnswer, IsAnswerOfRefusal};
+ghost use Rattle.checker_texts.specs.declared.refusal.Refusal.TheVariants.{Failed};
 ghost use Rattle.graphql_checked.specs.Called.{IsAnswered, Arises};
 ghost use Rattle.graphql_checked.specs.Verdicts.{first_terms};
 
@@ -24,8 +25,8 @@ use std::io::{Read, Write};
 /// Reads the schema texts and then the document to their ends, judges them, makes the whole answer, and then
 /// writes it.
 ///
-/// A schema that is refused leaves the document unjudged, though it was read. After every fault but
-/// [`RunFault::Writer`] nothing is out.
+/// A schema that is refused leaves the document unjudged, though it was read. After every fault but [`RunFault::Writer`]
+/// nothing is out. Wherever something is put out each reader was read to its end.
 pub fn run<R: Read, D: Read, W: Write>(
     alloc: Global,
     schemas: &mut [Device<R>],
@@ -40,6 +41,7 @@ pub fn run<R: Read, D: Read, W: Write>(
     ensures answers { IfOk result (IsAnswered R.remaining D.remaining W.contents layout.entry limits schemas.old document.old out.old out.new) }
     ensures fault { IfErr result (Arises R.remaining D.remaining W.contents layout.entry limits schemas.old schemas.new document.old document.new out.old out.new) }
     ensures complete { TellCertain R.remaining D.remaining (first_terms limits.nesting) schemas.old document.old → IsAnswerToCertain result }
+    ensures read { OnOk result (AreAllRead R.remaining D.remaining schemas.new document.new) }
     ensures schemas_running { OnOk result (HaveNotFailed schemas.new) }
     ensures document_running { OnOk result (device_failed document.new ≡ false) }
     ensures out_running { OnOk result (device_failed out.new ≡ false) }
@@ -110,12 +112,14 @@ fn prefix(layout: Layout<'_>) -> Option<&str>
     }
 }
 
-/// The outcome of a refusal, and the bytes that go with it.
+/// The outcome of a refusal of texts, and the bytes that go with it.
 fn refusal_answer(alloc: Global, refusal: Refusal) -> Result<(Outcome, Vec<u8>), RunFault>
+    requires { refusal ≢ Failed }
     ensures { IsAnswerOfRefusal refusal result }
 {
     match refusal {
         Refusal::Faults(list) => Ok((Outcome::Refused, refused(alloc, &list)?)),
-        Refusal::Memory | Refusal::Failed => Err(RunFault::Memory),
+        Refusal::Memory => Err(RunFault::Memory),
+        Refusal::Failed => unreachable!(),
     }
 }

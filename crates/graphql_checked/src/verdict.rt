@@ -1,12 +1,13 @@
 //! The verdict on whole texts.
 
-ghost use Rattle.std.specs.Prelude.{◌≡◌, ◌⊎◌, Ok, Err, map, IfOk, IfErr};
+ghost use Rattle.std.specs.Prelude.{◌≡◌, ◌≢◌, ◌⊎◌, Ok, Err, map, IfOk, IfErr};
 ghost use Rattle.verdict_definitions.specs.Judge.{AreSchemasCertain, IsCertain};
 ghost use Rattle.checker_documents.specs.CheckedView.{schema_value};
 ghost use Rattle.checker_schemas.specs.CheckedSchemaValue.{IsCheckedSchemaOf};
 ghost use Rattle.checker_schemas.specs.Refusals.{RefusalOfSchemas};
 ghost use Rattle.graphql_checked.specs.Verdicts.{first_terms, IsVerdict, refusal_verdict};
 ghost use Rattle.checker_texts.specs.declared.refusal.Refusal.TheVariants as refusal;
+ghost use Rattle.checker_texts.specs.declared.refusal.Refusal.TheVariants.{Failed};
 ghost use Rattle.graphql_checked.specs.declared.verdict.Verdict.TheVariants.{Accepted};
 ghost use Rattle.graphql_checked.specs.declared.verdict.CheckError.TheVariants.{Memory};
 
@@ -72,12 +73,14 @@ pub(crate) fn schema_of<T: AsStr>(
     checker.finish()
 }
 
-/// The verdict of a refusal. A checker that has failed wants memory.
+/// The verdict of a refusal of texts.
 fn verdict_of(refusal: Refusal) -> Result<Verdict, CheckError>
+    requires { refusal ≢ Failed }
     ensures { result ≡ refusal_verdict refusal }
 {
     match refusal {
         Refusal::Faults(list) => Ok(Verdict::Refused(list)),
-        Refusal::Memory | Refusal::Failed => Err(CheckError::Memory),
+        Refusal::Memory => Err(CheckError::Memory),
+        Refusal::Failed => unreachable!(),
     }
 }

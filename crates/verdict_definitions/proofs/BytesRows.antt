@@ -13,6 +13,7 @@ use Rattle.graphql_read.proofs.Bounds.{memory_alone}
 use Rattle.rule_definitions.proofs.Lists.{Contains-cons, only}
 use Rattle.graphql_faults.specs.DetailsTree.{Syntax}
 use Rattle.verdict_definitions.specs.Texts.{SourceText, Tree, Terms, DerivesIn, ReadsText, ReadsAll, AreWithin, IsRead}
+use Rattle.verdict_definitions.specs.Meaning.{all_definitions}
 use Rattle.verdict_definitions.specs.Says.{AnyFault, spent, UnreadFault, SaysSchema}
 use Rattle.verdict_definitions.specs.Out.{Out, OutDoc, Layout, layout_text, as_lines}
 use Rattle.verdict_definitions.specs.Answer.{AcceptedBytes, RefusesSchemas, AllSay, Answer}
@@ -93,6 +94,8 @@ open_set_refuses = record {
   says = of_one (SaysSchema terms (open_set ∷ [])) open_set_fault (inl (inl open_set_unread));
   alone = inl (inr (open_set_fault, ([], (refl, open_set_unread, refl))));
   full = λ within trees reads. absurd (never within trees reads);
+  rules = λ within trees reads numbers folds fault fails. absurd (never within trees reads);
+  spent = λ within trees reads none. absurd (never within trees reads);
 }
   where
     never : AreWithin 500 1 (open_set ∷ []) → (trees : List Tree) → ReadsAll 1 (open_set ∷ []) trees → ⊥
@@ -126,6 +129,8 @@ both_refuse = record {
   says = of_two (SaysSchema terms (open_set ∷ empty_set ∷ [])) open_set_fault empty_set_fault (inl (inl open_set_unread)) (inl (inr (inl empty_set_unread)));
   alone = inl (inr (open_set_fault, (empty_set_fault ∷ [], (refl, open_set_unread, inr (empty_set_fault, ([], (refl, empty_set_unread, refl)))))));
   full = λ within trees reads. absurd (never within trees reads);
+  rules = λ within trees reads numbers folds fault fails. absurd (never within trees reads);
+  spent = λ within trees reads none. absurd (never within trees reads);
 }
   where
     never : AreWithin 500 1 (open_set ∷ empty_set ∷ []) → (trees : List Tree) → ReadsAll 1 (open_set ∷ empty_set ∷ []) trees → ⊥
@@ -159,6 +164,9 @@ spent_refuses = record {
   says = of_one (SaysSchema last_extension (orphan ∷ [])) spent (inr ((orphan_query ∷ orphan_extension ∷ []) ∷ [], ((orphan_reads, tt), inl (refl, none_left))));
   alone = inr (orphan_is_read, tt);
   full = λ within trees reads. inl refl;
+  rules = λ within trees reads numbers folds fault fails.
+      absurd (none_left (subst (λ ts. HaveNumbers (2 ^ 64 - 1) (all_definitions ts)) (one_list 1 orphan (orphan_query ∷ orphan_extension ∷ []) trees orphan_reads reads) numbers));
+  spent = λ within trees reads none. refl;
 }
 
 spent_bytes : (document : SourceText) → Answer last_extension None (orphan ∷ []) document (codes "refused\n-: numbers are spent\n")

@@ -5,13 +5,15 @@ use Rattle.graphql_names.specs.Places.{is_built_in}
 use Rattle.graphql_names.specs.Placed.{Place}
 use Rattle.schema_fold.specs.BuildErrors as folding
 use Rattle.schema_types.specs.SchemaTree.{SchemaTree}
+use Rattle.schema_building.specs.Numbers.{HaveNumbers}
+use Rattle.rule_definitions.specs.Told.{PlacedFault}
 use Rattle.document_typing.specs.TypingFaults as typing
 use Rattle.graphql_faults.specs.DetailsMessages.{details_message}
-use Rattle.graphql_faults.specs.DetailsTree.{of_folding, of_typing}
+use Rattle.graphql_faults.specs.DetailsTree.{of_rule, of_folding, of_typing}
 use Rattle.verdict_definitions.specs.Texts.{SourceText, Tree, Terms, ReadsText, ReadsAll, document_number, IsWithin, AreWithin, IsRead, AreRead}
-use Rattle.verdict_definitions.specs.Meaning.{schema_at_hand}
+use Rattle.verdict_definitions.specs.Meaning.{all_definitions, schema_at_hand}
 use Rattle.verdict_definitions.specs.Judge.{AreSchemasAccepted, IsAccepted}
-use Rattle.verdict_definitions.specs.Says.{AnyFault, spent, UnreadFault, FoldingFails, TypingFailsOver, SaysSchema, SaysDocument}
+use Rattle.verdict_definitions.specs.Says.{AnyFault, spent, UnreadFault, FoldingFails, SchemaRuleFailsBesideCycles, TypingFailsOver, SaysSchema, SaysDocument}
 use Rattle.verdict_definitions.specs.Out.{Out, OutDoc, Layout, layout_text, as_lines}
 
 -- ---- lists of faults
@@ -29,14 +31,19 @@ abbrev pub AllSay : (AnyFault → Type 0) → List AnyFault → Type 0
 AllSay says faults = (fault : AnyFault) → Contains faults fault → says fault
 
 -- The schema texts are refused with these faults: there are some, and each is so. Those of unread texts stand alone, one for
--- each; or each text is read, and then that no number is left for an extension stands alone, or each breach of a folding rule
--- is among them.
+-- each; or each text is read. Then that no number is left for an extension stands alone (`spent`); each breach of a folding rule
+-- is among them where there are numbers; and where folding rules hold, each of a rule on schemas, of those on cycles some (`rules`).
 pub record RefusesSchemas (terms : Terms) (schemas : List SourceText) (faults : List AnyFault) : Type 0 where
   pub some : faults ≢ []
   pub says : AllSay (SaysSchema terms schemas) faults
   pub alone : UnreadFaults terms.nesting terms.first_text schemas faults ⊎ AreRead terms.nesting terms.first_text schemas
   pub full : AreWithin terms.nesting terms.first_text schemas → (trees : List Tree) → ReadsAll terms.first_text schemas trees
       → (faults ≡ spent ∷ []) ⊎ ((fault : folding.BuildFault) → FoldingFails terms trees fault → Contains faults (of_folding fault))
+  pub rules : AreWithin terms.nesting terms.first_text schemas → (trees : List Tree) → ReadsAll terms.first_text schemas trees
+      → HaveNumbers terms.first_extension (all_definitions trees) → ((fault : folding.BuildFault) → FoldingFails terms trees fault → ⊥)
+      → (fault : PlacedFault) → SchemaRuleFailsBesideCycles terms trees fault → Contains faults (of_rule fault)
+  pub spent : AreWithin terms.nesting terms.first_text schemas → (trees : List Tree) → ReadsAll terms.first_text schemas trees
+      → (HaveNumbers terms.first_extension (all_definitions trees) → ⊥) → faults ≡ spent ∷ []
 
 -- this is all that is said of the document: that it is unread
 abbrev pub UnreadAlone : ℕ → ℕ → SourceText → List AnyFault → Type 0

@@ -11,7 +11,7 @@ use Rattle.schema_fold.specs.BuildErrors as folding
 use Rattle.schema_fold.specs.BuildErrors.{Fails}
 use Rattle.schema_building.specs.Numbers.{HaveNumbers}
 use Rattle.rule_definitions.specs.Rules as rules
-use Rattle.rule_definitions.specs.Told.{PlacedFault}
+use Rattle.rule_definitions.specs.Told.{PlacedFault, Told}
 use Rattle.document_typing.specs.TypingFaults as typing
 use Rattle.document_typing.specs.TypingFaults.{TypingFails}
 use Rattle.rule_document_definitions.specs.Told.{PlacedDocumentFault, DocumentFails, DocumentMergingFails, DocumentBoundFails}
@@ -70,6 +70,11 @@ module _ (terms : Terms) (trees : List Tree) where
   -- a rule on schemas is broken so, or the bound on references is passed
   abbrev pub SchemaRuleFails : PlacedFault → Type 0
   SchemaRuleFails fault = rules.RulesFail (schema_of terms trees) fault ⊎ rules.BoundFails (schema_of terms trees) fault
+
+  -- a rule on schemas is broken so, but those on definitions that lead back to themselves
+  abbrev pub SchemaRuleFailsBesideCycles : PlacedFault → Type 0
+  SchemaRuleFailsBesideCycles fault =
+      Told (schema_of terms trees) (λ s f. rules.ReferencesBreak s f ⊎ (rules.EmptyBreaks s f ⊎ (rules.InterfacesBreak s f ⊎ rules.SchemaUsesBreak s f))) fault
 
   -- a fault of the schema: no number is left for an extension, or a rule is broken so
   abbrev pub SchemaFails : AnyFault → Type 0

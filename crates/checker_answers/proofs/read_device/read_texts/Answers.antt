@@ -2,8 +2,9 @@ use Rattle.std.proofs.Common.{arith, ◌≡◌, ◌++◌, ◌∷◌, [], map, st
 use Rattle.std.specs.Prelude.{slice_get, slice_set}
 use Rattle.std.proofs.lemmas.Grind.{common_steps}
 use Rattle.std.proofs.Math.Seq.{map-set_same}
+use Rattle.std.proofs.lemmas.List.Elements.{AllWithin-more_set}
 use Rattle.graphql_names.specs.Device.{device_failed}
-use Rattle.checker_answers.specs.Devices.{IsTextOf}
+use Rattle.checker_answers.specs.Devices.{IsTextOf, IsReadToEnd}
 use Rattle.checker_answers.proofs.ReadDevices.{read_on, rest_on, at_old, at_set, numbered_due}
 use Rattle.checker_answers.proofs.read_device.read_texts.Goals as goal
 
@@ -16,6 +17,7 @@ loop-i-preserved g c =
       rest = rest_on c.args.devices.now c.loop-i.devices c.loop-i.i (get_or c.loop-i.devices c.loop-i.i c.index-devices-i.result) c.index-devices-i.result (omega arith) c.loop-i.invariant.rest refl c.read_text.new.device;
       same = grind (arith, common_steps);
       running = map-set_same device_failed c.loop-i.devices c.loop-i.i c.read_text.new.device c.index-devices-i.result c.in-Ok.ensures.running ∙ c.loop-i.invariant.running;
+      ended = AllWithin-more_set c.loop-i.devices c.loop-i.i c.read_text.new.device (omega arith) (IsReadToEnd g.R.Read.remaining) c.loop-i.invariant.ended c.in-Ok.ensures.end;
     }
 
 pub returns-in-Err-clause-fault : goal.returns-in-Err-clause-fault

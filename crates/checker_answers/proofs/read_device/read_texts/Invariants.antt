@@ -1,6 +1,7 @@
 use Rattle.std.proofs.Common.{◌≡◌, map, take, drop, length, string_bytes}
+use Rattle.std.specs.List.{AllWithin}
 use Rattle.graphql_names.specs.Device.{device_failed}
-use Rattle.checker_answers.specs.Devices.{AreTextsOf}
+use Rattle.checker_answers.specs.Devices.{AreTextsOf, IsReadToEnd}
 use Rattle.checker_answers.proofs.read_device.read_texts.Given as goal
 
 abbrev pub invariant-loop-i : goal.invariant-loop-i
@@ -9,4 +10,5 @@ invariant-loop-i g l = record {
   rest : drop l.i l.devices ≡ drop l.i l.fn.devices;
   same : length l.devices ≡ length l.fn.devices;
   running : map device_failed l.devices ≡ map device_failed l.fn.devices;
+  ended : AllWithin (IsReadToEnd g.R.Read.remaining) l.devices 0 l.i;
 }

@@ -6,4 +6,4 @@ use Rattle.checker_schemas.proofs.finish.built.Goals as goal
 
 pub returns-then-not-is_empty-clause-refused : goal.returns-then-not-is_empty-clause-refused
 returns-then-not-is_empty-clause-refused c =
-    folding_refused (builder_value c.args.builder) (schema_tree c.in_ok-schema.schema) (diagnostics_of c.in_ok-schema.faults) c.in_ok-schema.ensures (λ e. let h = c.if-not-is_empty.ensures.1 e in absurd cc)
+    folding_refused (builder_value c.args.builder) (schema_tree c.in_ok-schema.schema) (diagnostics_of c.in_ok-schema.faults) c.in_ok-schema.ensures.builds (λ e. let h = c.if-not-is_empty.ensures.1 e in absurd cc)

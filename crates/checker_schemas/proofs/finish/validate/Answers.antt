@@ -1,5 +1,6 @@
-use Rattle.std.proofs.Common.{refl, sym, ◌∙◌}
+use Rattle.std.proofs.Common.{refl, sym, ap, ◌∙◌}
 use Rattle.graphql_schema.specs.SchemaOf.{schema_tree}
+use Rattle.graphql_schema.specs.declared.schema.Schema.{Schema}
 use Rattle.graphql_faults.specs.DetailsView.{diagnostics_of}
 use Rattle.checker_schemas.proofs.Validating.{rules_told}
 use Rattle.checker_schemas.proofs.finish.validate.Goals as goal
@@ -11,3 +12,6 @@ returns-then-not-is_empty-clause-refused c =
 
 pub returns-clause-valid : goal.returns-clause-valid
 returns-clause-valid c = c.in_ok-validate_schema.ensures.silent (c.if-not-is_empty.ensures.0 refl ∙ sym c.new-faults.ensures)
+
+pub returns-clause-sources : goal.returns-clause-sources
+returns-clause-sources c = ap (λ (s : Schema). s.sources) c.in_ok-validate_schema.ensures.rest

@@ -1,7 +1,7 @@
 use Rattle.std.proofs.Common.{map, string_bytes}
 use Rattle.checker_layouts.specs.Layouts.{prefix_of}
 use Rattle.graphql_checked.specs.Verdicts.{first_terms}
-use Rattle.graphql_checked.proofs.Verdicts.{certain_schemas}
+use Rattle.graphql_checked.proofs.Verdicts.{certain_schemas, schemas_not_failed}
 use Rattle.graphql_checked.proofs.Answering.{schemas_answer, memory_answer}
 use Rattle.graphql_checked.proofs.run_texts.judge.Goals as goal
 
@@ -18,3 +18,6 @@ returns-in-Err-clause-answer c =
 pub returns-in-Err-clause-complete : goal.returns-in-Err-clause-complete
 returns-in-Err-clause-complete c certain =
     memory_answer c.in-Err.refusal _ (c.in-Err.ensures.complete (certain_schemas (first_terms c.args.limits.nesting) (map string_bytes c.args.schemas.now) c.args.document.now certain)) c.refusal_answer.ensures
+
+pub refusal_answer-requires : goal.refusal_answer-requires
+refusal_answer-requires c = schemas_not_failed (first_terms c.args.limits.nesting) (map string_bytes c.args.schemas.now) c.in-Err.refusal c.in-Err.ensures.refused

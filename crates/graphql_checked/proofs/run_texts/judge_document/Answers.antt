@@ -2,7 +2,7 @@ use Rattle.std.proofs.Common.{subst}
 use Rattle.checker_layouts.specs.Layouts.{prefix_of}
 use Rattle.checker_documents.specs.CheckedView.{CheckedSchemaParts, schema_value, document_value}
 use Rattle.graphql_checked.specs.Run.{IsWrittenAnswer}
-use Rattle.graphql_checked.proofs.Verdicts.{certain_document}
+use Rattle.graphql_checked.proofs.Verdicts.{certain_document, document_not_failed}
 use Rattle.graphql_checked.proofs.Answering.{accepted_bytes, document_answer, memory_answer}
 use Rattle.graphql_checked.proofs.run_texts.judge_document.Goals as goal
 
@@ -20,3 +20,6 @@ returns-in-Err-clause-answer c terms schemas is =
 pub returns-in-Err-clause-complete : goal.returns-in-Err-clause-complete
 returns-in-Err-clause-complete c terms schemas is certain =
     memory_answer c.in-Err.refusal _ (c.in-Err.ensures.complete (certain_document terms schemas c.args.document.now (schema_value c.args.schema.now) is certain)) c.refusal_answer.ensures
+
+pub refusal_answer-requires : goal.refusal_answer-requires
+refusal_answer-requires c = document_not_failed (schema_value c.args.schema.now) c.args.document.now c.in-Err.refusal c.in-Err.ensures.refused

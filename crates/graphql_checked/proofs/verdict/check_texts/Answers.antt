@@ -1,7 +1,7 @@
 use Rattle.std.proofs.Common.{map}
 use Rattle.checker_documents.specs.CheckedView.{schema_value}
 use Rattle.graphql_checked.specs.Verdicts.{first_terms}
-use Rattle.graphql_checked.proofs.Verdicts.{yes_pair, certain_document, certain_schemas, document_verdict, schemas_verdict, memory_verdict}
+use Rattle.graphql_checked.proofs.Verdicts.{yes_pair, certain_document, certain_schemas, document_verdict, schemas_verdict, memory_verdict, schemas_not_failed, document_not_failed}
 use Rattle.graphql_checked.proofs.verdict.check_texts.Goals as goal
 
 pub returns-in-Err-clause-verdict : goal.returns-in-Err-clause-verdict
@@ -25,3 +25,9 @@ pub returns-clause-complete : goal.returns-clause-complete
 returns-clause-complete c certain =
     memory_verdict c.in-Err-check.refusal _ c.verdict_of-in-Err-check.ensures
     (c.in-Err-check.ensures.complete (certain_document (first_terms c.args.limits.nesting) (map (λ t. t.now) c.args.schemas.now) c.args.document.now (schema_value c.in-Ok.schema) c.in-Ok.ensures.schema certain))
+
+pub verdict_of-requires : goal.verdict_of-requires
+verdict_of-requires c = schemas_not_failed (first_terms c.args.limits.nesting) (map (λ t. t.now) c.args.schemas.now) c.in-Err.refusal c.in-Err.ensures.refused
+
+pub verdict_of-in-Err-check-requires : goal.verdict_of-in-Err-check-requires
+verdict_of-in-Err-check-requires c = document_not_failed (schema_value c.in-Ok.schema) c.args.document.now c.in-Err-check.refusal c.in-Err-check.ensures.refused

@@ -10,4 +10,4 @@ use Rattle.checker_documents.proofs.checked_document.CheckedDocument.written.Goa
 pub returns : goal.returns
 returns c =
     IfOk-weaker _ _ _ (λ text h. subst (λ v. WritesDocument (prefix_of c.args.layout) (document_value v).schema.number (document_value v).text (string_bytes text)) c.self.view_is
-    (writes_document _ _ _ c.self.invariant (prefix_of c.args.layout) _ (string_bytes text) c.in_ok-document.ensures.definitions h)) c.written.ensures
+    (writes_document _ _ _ c.self.invariant.accepted (prefix_of c.args.layout) _ (string_bytes text) c.in_ok-document.ensures.definitions h)) c.written.ensures

@@ -1,7 +1,9 @@
-use Rattle.std.proofs.Common.{◌+◌, ◌++◌, ◌∷◌, ℕ, List, []}
+use Rattle.std.proofs.Common.{◌≡◌, ◌+◌, ◌++◌, ◌∷◌, ℕ, List, []}
 use Rattle.std.proofs.lemmas.Result.{on_ok_weaker}
 use Rattle.tree_definitions.specs.DefinitionTree.{document_tree}
+use Rattle.tree_definitions.specs.Sources.{sources_of}
 use Rattle.graphql_read.specs.Reads.{NestingBound}
+use Rattle.graphql_read.specs.ReadFaults.{unnamed_source}
 use Rattle.graphql_faults.specs.DetailsView.{diagnostics_of}
 use Rattle.verdict_definitions.specs.Texts.{ReadsText}
 use Rattle.checker_texts.specs.Added.{IsToldBehind}
@@ -11,9 +13,10 @@ use Rattle.checker_texts.proofs.schema_texts.SchemaTexts.read_numbered.Goals as 
 
 pub returns-in-Ok-clause-reading : goal.returns-in-Ok-clause-reading
 returns-in-Ok-clause-reading c =
-    let kept : ((text : List ℕ) → ReadsText c.args.file.0 text (document_tree c.in-Ok.document) → (NestingBound c.args.self.now.nesting text → ⊥) → IsReadingOf (texts_of c.args.self.now ++ text ∷ []) c.keep.new.self)
+    let kept : ((text : List ℕ) → ReadsText c.args.file.0 text (document_tree c.in-Ok.document) → (NestingBound c.args.self.now.nesting text → ⊥)
+    → sources_of c.in-Ok.document ≡ (c.args.file.0, unnamed_source text) ∷ [] → IsReadingOf (texts_of c.args.self.now ++ text ∷ []) c.keep.new.self)
     → IsReadingOf (texts_of c.args.self.now ++ c.args.text.now ∷ []) c.keep.new.self =
-    λ h. h c.args.text.now c.in-Ok.ensures.tree c.in-Ok.ensures.within in
+    λ h. h c.args.text.now c.in-Ok.ensures.tree c.in-Ok.ensures.within c.in-Ok.ensures.sources in
     on_ok_weaker c.keep.result kept c.keep.ensures.reading
 
 pub returns-in-Err-clause-reading : goal.returns-in-Err-clause-reading
