@@ -10,7 +10,9 @@ use Rattle.document_typing.specs.TypingFaults as typing
 use Rattle.document_typing.proofs.WrittenMeant.{document-written}
 use Rattle.rule_definitions.proofs.Lists.{not_in_nil, only}
 use Rattle.document_meaning.specs.Unplaced.{unplaced_document}
-use Rattle.rule_document_definitions.specs.Told.{IsValidDocument}
+use Rattle.rule_definitions.specs.Judged.{judged}
+use Rattle.rule_document_definitions.specs.DocumentFaults.{OfData, OfDocument, OfLimit}
+use Rattle.rule_document_definitions.specs.Told.{PlacedDocumentFault, places_in, IsValidDocument}
 use Rattle.rule_document_definitions.specs.Verdict.{WithinBounds}
 use Rattle.graphql_faults.specs.DetailsTree.{of_typing}
 use Rattle.graphql_faults.specs.DetailsView.{diagnostics_of}
@@ -18,17 +20,23 @@ use Rattle.graphql_validation.specs.TellsDocument.{FailsBesides, SomeFails}
 use Rattle.verdict_definitions.specs.Texts.{SourceText, Tree}
 use Rattle.verdict_definitions.specs.Meaning.{document_over}
 use Rattle.verdict_definitions.specs.Judge.{IsDocumentCertain}
-use Rattle.verdict_definitions.specs.Says.{AnyFault, UnreadFault, TypingFailsOver}
+use Rattle.verdict_definitions.specs.Says.{AnyFault, UnreadFault, TypingFailsOver, RuleFailsBeside}
 use Rattle.verdict_definitions.specs.Out.{Layout, layout_text}
 use Rattle.verdict_definitions.specs.Answer.{UnreadAlone, RefusesDocument, WritesDocument}
 use Rattle.checker_schemas.specs.CheckedSchemaValue.{CheckedSchemaValue}
 use Rattle.checker_documents.specs.CheckerValue.{IsCheckedDocumentOf}
-use Rattle.checker_documents.specs.DocumentRefusals.{RefusalOfDocument, TellsRules}
+use Rattle.checker_documents.specs.DocumentRefusals.{RefusalOfDocument}
 use Rattle.checker_texts.specs.TellsOnly.{TellsOnly}
 use Rattle.checker_documents.specs.Checking.{IsReadDocument, IsUnreadDocument, TypesDocument, RefusalOfTyping, RefusalOfRules}
 use Rattle.checker_texts.specs.declared.refusal.Refusal.{Refusal}
 use Rattle.checker_texts.specs.declared.refusal.Refusal.TheVariants.{Faults, Memory, Failed}
 use Rattle.checker_texts.proofs.Deciding.{one_tree, none_told, unread_not_read, is_read}
+
+-- what is told in full, in the words of the rules on documents
+besides : {schema : SchemaTree Place} {document : MeantDocument Place} → (fault : PlacedDocumentFault) → RuleFailsBeside (places_in schema) (judged schema) document fault → FailsBesides schema document fault
+besides (OfData fault) h = h
+besides (OfDocument fault) h = h
+besides (OfLimit place) h = h
 
 -- a list of one is not empty
 some_one : (fault : AnyFault) (faults : List AnyFault) → faults ≡ fault ∷ [] → faults ≢ []
@@ -41,6 +49,7 @@ unread_alone schema nesting number text faults (here, (is, unread)) = record {
   says = λ fault h. inl (subst (UnreadFault nesting number text) (sym (only here fault (subst (λ l. Contains l fault) is h))) unread);
   alone = inl (here, (is, unread));
   full = λ within tree read fault fails. absurd (unread_not_read nesting number text here unread (is_read nesting number text tree read within));
+  rules = λ within tree read typed fault fails. absurd (unread_not_read nesting number text here unread (is_read nesting number text tree read within));
 }
 
 module _ (schema : CheckedSchemaValue) (text : SourceText) where
@@ -63,12 +72,6 @@ module _ (schema : CheckedSchemaValue) (text : SourceText) where
   unread_certain Memory unread certain = refl
   unread_certain Failed unread certain = absurd unread
 
-  pub unread_rules : (refusal : Refusal) → IsUnreadDocument schema text refusal → TellsRules schema text refusal
-  unread_rules (Faults list) (here, (is, unread)) = λ within tree read typed fault fails.
-      absurd (unread_not_read schema.nesting schema.number text here unread (is_read schema.nesting schema.number text tree read within))
-  unread_rules Memory unread = tt
-  unread_rules Failed unread = tt
-
   -- ---- a document that is read
 
   module _ (tree : Tree) (read : IsReadDocument schema text tree) where
@@ -83,6 +86,9 @@ module _ (schema : CheckedSchemaValue) (text : SourceText) where
       says = λ fault c. inr (tree, (read.0, inl (h.right fault c)));
       alone = inr (is_read schema.nesting schema.number text tree read.0 read.1);
       full = λ within other reads fault fails. h.full fault (subst (λ t. TypingFailsOver schema.schema t fault) (same other (reads, within)) fails);
+      rules = λ within other reads typed fault fails.
+          absurd (none_told (λ told. (f : typing.TypingFault Place) × ((told ≡ of_typing f) × TypingFailsOver schema.schema tree f)) (diagnostics_of list) h.some h.right (λ told (f, (is, broken)).
+          typed f (subst (λ t. TypingFailsOver schema.schema t f) (sym (same other (reads, within))) broken)));
     }
     typing_refusal Memory h = tt
     typing_refusal Failed h = h
@@ -92,13 +98,6 @@ module _ (schema : CheckedSchemaValue) (text : SourceText) where
         certain.0.judged.typed f (subst (λ t. TypingFailsOver schema.schema t f) (sym (same certain.0.judged.tree (certain.0.judged.read, certain.0.within))) fails)))
     typing_certain Memory h certain = refl
     typing_certain Failed h certain = absurd h
-
-    pub typing_rules : (refusal : Refusal) → RefusalOfTyping schema.schema tree refusal → TellsRules schema text refusal
-    typing_rules (Faults list) h = λ within other reads typed fault fails.
-        absurd (none_told (λ told. (f : typing.TypingFault Place) × ((told ≡ of_typing f) × TypingFailsOver schema.schema tree f)) (diagnostics_of list) h.some h.right (λ told (f, (is, broken)).
-        typed f (subst (λ t. TypingFailsOver schema.schema t f) (sym (same other (reads, within))) broken)))
-    typing_rules Memory h = tt
-    typing_rules Failed h = tt
 
     -- ---- a document that is typed
 
@@ -110,6 +109,9 @@ module _ (schema : CheckedSchemaValue) (text : SourceText) where
         says = λ fault c. let p = h.right fault c in inr (tree, (read.0, inr (p.0, (p.1.0, subst (λ d. SomeFails schema.schema d p.0) typed.is p.1.1))));
         alone = inr (is_read schema.nesting schema.number text tree read.0 read.1);
         full = λ within other reads fault fails. not_in_nil (of_typing fault) (typed.full fault (subst (λ t. TypingFailsOver schema.schema t fault) (same other (reads, within)) fails));
+        rules = λ within other reads holds fault fails.
+            let e : document_over schema.schema other ≡ document = ap (document_over schema.schema) (same other (reads, within)) ∙ sym typed.is in
+            h.full fault (besides fault (subst (λ d. RuleFailsBeside (places_in schema.schema) (judged schema.schema) d fault) e fails));
       }
       rules_refusal Memory h = tt
       rules_refusal Failed h = h
@@ -120,13 +122,6 @@ module _ (schema : CheckedSchemaValue) (text : SourceText) where
           absurd (h.bounds (subst (IsValidDocument schema.schema) e certain.0.judged.holds) (subst (λ d. WithinBounds (unplaced_document d)) e certain.1))
       rules_certain Memory h certain = refl
       rules_certain Failed h certain = absurd h
-
-      pub rules_told : (refusal : Refusal) → RefusalOfRules schema.schema document refusal → TellsRules schema text refusal
-      rules_told (Faults list) h = λ within other reads holds fault fails.
-          let e : document_over schema.schema other ≡ document = ap (document_over schema.schema) (same other (reads, within)) ∙ sym typed.is in
-          h.full fault (subst (λ d. FailsBesides schema.schema d fault) e fails)
-      rules_told Memory h = tt
-      rules_told Failed h = tt
 
       -- every rule holds
       pub accepted_document : IsValidDocument schema.schema document → IsCheckedDocumentOf schema text document

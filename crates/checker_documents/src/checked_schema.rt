@@ -18,7 +18,7 @@ ghost use Rattle.checker_schemas.specs.CheckedSchemaValue.{IsOfAcceptedTexts};
 ghost use Rattle.checker_documents.specs.CheckerValue.{IsCheckedDocumentOf};
 ghost use Rattle.rule_document_definitions.specs.Told.{IsValidDocument};
 ghost use Rattle.graphql_validation.specs.TellsDocument.{IsTypedUnder};
-ghost use Rattle.checker_documents.specs.DocumentRefusals.{RefusalOfDocument, TellsRules};
+ghost use Rattle.checker_documents.specs.DocumentRefusals.{RefusalOfDocument};
 ghost use Rattle.checker_documents.specs.Checking.{IsReadDocument, IsUnreadDocument, TypesDocument, RefusalOfTyping, RefusalOfRules};
 ghost use Rattle.checker_texts.specs.declared.refusal.Refusal.TheVariants.{Memory};
 
@@ -88,7 +88,6 @@ impl CheckedSchema {
         ensures text { IfOk result (λ d. d.text ≡ text.now) }
         ensures accepted { IfOk result (λ d. IsCheckedDocumentOf (schema_value self.now) text.now (document_value d).document) }
         ensures refused { IfErr result (RefusalOfDocument (schema_value self.now) text.now) }
-        ensures rules { IfErr result (TellsRules (schema_value self.now) text.now) }
         ensures complete { IfErr result (λ refusal.
             IsDocumentCertain (schema_value self.now).schema self.now.nesting self.now.number text.now → refusal ≡ Memory) }
     {

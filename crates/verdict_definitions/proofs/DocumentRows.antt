@@ -42,7 +42,7 @@ int_field name = record { description = None; name = record { it = name; place =
 abbrev pub unused : SourceText
 unused = codes "query Q($v: Int) { field }"
 
-abbrev v_variable : Placed Place (VariableDefinitionTree Place)
+abbrev pub v_variable : Placed Place (VariableDefinitionTree Place)
 v_variable = node (record { name = named (codes "v") (place_in 2 9 10); ty = node (NamedTree (named (codes "Int") (place_in 2 12 15))) (place_in 2 12 15); default_value = None; directives = [] }) (place_in 2 8 15)
 
 abbrev unused_query : OperationTree Place
@@ -58,10 +58,10 @@ unused_reads = reads 500 2 unused unused_tree refl
 abbrev pub field_schema : SchemaTree Place
 field_schema = schema_at_hand terms (query_field_tree ∷ [])
 
-abbrev unused_document : MeantDocument Place
+abbrev pub unused_document : MeantDocument Place
 unused_document = kept_document (meanings_found field_schema) unused_tree
 
-abbrev unused_operation : MeantOperation Place
+abbrev pub unused_operation : MeantOperation Place
 unused_operation = meant_operation (meanings_found field_schema) (record { place = place_in 2 0 26; base = codes "Query"; it = unused_query })
 
 abbrev pub unused_fault : PlacedDocumentFault
@@ -71,7 +71,7 @@ unused_fault = OfData (wrong (place_in 2 8 10) (UnusedVariable (codes "v")))
 abbrev field_head : FieldHead Place
 field_head = record { alias = None; name = named (codes "field") (place_in 2 19 24); arguments = []; directives = [] }
 
-abbrev field_there : StandingField Place
+abbrev pub field_there : StandingField Place
 field_there = record { position = SelectionAt (InOperation (Some (codes "Q"))) 0; parent = codes "Query"; place = place_in 2 19 24; definition = int_field (codes "field"); head = field_head; set = meant_set (codes "Int") no_meant }
 
 abbrev field_standing : Standing Place
@@ -168,7 +168,7 @@ conflict_reads = reads 500 2 conflict conflict_tree refl
 abbrev pub a_and_b_schema : SchemaTree Place
 a_and_b_schema = schema_at_hand terms (a_and_b_tree ∷ [])
 
-abbrev conflict_operation : MeantOperation Place
+abbrev pub conflict_operation : MeantOperation Place
 conflict_operation = meant_operation (meanings_found a_and_b_schema) (record { place = place_in 2 0 13; base = codes "Query"; it = conflict_query })
 
 -- the field of that name, at that index of the operation, without what it selects
@@ -178,10 +178,10 @@ standing_at index name place head = record { position = SelectionAt (InOperation
 abbrev field_at : ℕ → List ℕ → Place → FieldHead Place → StandingField Place
 field_at index name place head = record { position = SelectionAt (InOperation None) index; parent = codes "Query"; place = place; definition = int_field name; head = head; set = meant_set (codes "Int") no_meant }
 
-abbrev first_x : StandingField Place
+abbrev pub first_x : StandingField Place
 first_x = field_at 0 (codes "a") (place_in 2 2 6) x_is_a
 
-abbrev second_x : StandingField Place
+abbrev pub second_x : StandingField Place
 second_x = field_at 1 (codes "b") (place_in 2 7 11) x_is_b
 
 abbrev pub conflict_fault : PlacedDocumentFault

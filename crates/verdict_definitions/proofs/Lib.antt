@@ -17,4 +17,5 @@ pub mod AcceptedRows
 pub mod FoldsRows
 pub mod SchemaRows
 pub mod PairRows
+pub mod FullRows
 pub mod RefusedDocumentRows

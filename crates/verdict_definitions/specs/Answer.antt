@@ -7,13 +7,14 @@ use Rattle.schema_fold.specs.BuildErrors as folding
 use Rattle.schema_types.specs.SchemaTree.{SchemaTree}
 use Rattle.schema_building.specs.Numbers.{HaveNumbers}
 use Rattle.rule_definitions.specs.Told.{PlacedFault}
+use Rattle.rule_document_definitions.specs.Told.{PlacedDocumentFault}
 use Rattle.document_typing.specs.TypingFaults as typing
 use Rattle.graphql_faults.specs.DetailsMessages.{details_message}
-use Rattle.graphql_faults.specs.DetailsTree.{of_rule, of_folding, of_typing}
+use Rattle.graphql_faults.specs.DetailsTree.{of_rule, of_folding, of_typing, of_document}
 use Rattle.verdict_definitions.specs.Texts.{SourceText, Tree, Terms, ReadsText, ReadsAll, document_number, IsWithin, AreWithin, IsRead, AreRead}
 use Rattle.verdict_definitions.specs.Meaning.{all_definitions, schema_at_hand}
 use Rattle.verdict_definitions.specs.Judge.{AreSchemasAccepted, IsAccepted}
-use Rattle.verdict_definitions.specs.Says.{AnyFault, spent, UnreadFault, FoldingFails, SchemaRuleFailsBesideCycles, TypingFailsOver, SaysSchema, SaysDocument}
+use Rattle.verdict_definitions.specs.Says.{AnyFault, spent, UnreadFault, FoldingFails, SchemaRuleFailsBesideCycles, TypingFailsOver, DocumentRuleFailsBeside, SaysSchema, SaysDocument}
 use Rattle.verdict_definitions.specs.Out.{Out, OutDoc, Layout, layout_text, as_lines}
 
 -- ---- lists of faults
@@ -50,13 +51,17 @@ abbrev pub UnreadAlone : ℕ → ℕ → SourceText → List AnyFault → Type 0
 UnreadAlone nesting number document faults = (fault : AnyFault) × ((faults ≡ fault ∷ []) × UnreadFault nesting number document fault)
 
 -- The document, which has this number, is refused over the schema with these faults: there are some, and each is so. That it
--- is unread stands alone; of a read one each breach of a rule of typing is among them.
+-- is unread stands alone; of a read one each breach of a rule of typing is among them; and where none is, each of a rule on
+-- documents, of those on fragments that reach themselves, on subscriptions and on merging some (`rules`).
 pub record RefusesDocument (schema : SchemaTree Place) (nesting number : ℕ) (document : SourceText) (faults : List AnyFault) : Type 0 where
   pub some : faults ≢ []
   pub says : AllSay (SaysDocument schema nesting number document) faults
   pub alone : UnreadAlone nesting number document faults ⊎ IsRead nesting number document
   pub full : IsWithin nesting number document → (tree : Tree) → ReadsText number document tree
       → (fault : typing.TypingFault Place) → TypingFailsOver schema tree fault → Contains faults (of_typing fault)
+  pub rules : IsWithin nesting number document → (tree : Tree) → ReadsText number document tree
+      → ((fault : typing.TypingFault Place) → TypingFailsOver schema tree fault → ⊥)
+      → (fault : PlacedDocumentFault) → DocumentRuleFailsBeside schema tree fault → Contains faults (of_document fault)
 
 -- The pair is refused with these faults: the schema texts are, or they are accepted and the document is.
 abbrev pub Refuses : Terms → List SourceText → SourceText → List AnyFault → Type 0

@@ -14,7 +14,16 @@ use Rattle.rule_definitions.specs.Rules as rules
 use Rattle.rule_definitions.specs.Told.{PlacedFault, Told}
 use Rattle.document_typing.specs.TypingFaults as typing
 use Rattle.document_typing.specs.TypingFaults.{TypingFails}
-use Rattle.rule_document_definitions.specs.Told.{PlacedDocumentFault, DocumentFails, DocumentMergingFails, DocumentBoundFails}
+use Rattle.document_meaning.specs.MeantTree.{MeantDocument}
+use Rattle.rule_definitions.specs.Judged.{Judged, judged}
+use Rattle.rule_document_definitions.specs.Places.{Places}
+use Rattle.rule_document_definitions.specs.DocumentFaults.{OfData, OfDocument, OfLimit}
+use Rattle.rule_document_definitions.specs.DocumentRules.{DeferredBreaks}
+use Rattle.rule_document_definitions.specs.Fragments.{UndefinedFragmentAt, UnusedFragmentAt, InvalidFragmentTargetAt, InvalidFragmentSpreadAt}
+use Rattle.rule_document_definitions.specs.Reached.{AtOperation}
+use Rattle.rule_document_definitions.specs.Selections.{SelectionsBreak}
+use Rattle.rule_document_definitions.specs.Variables.{VariablesBreak}
+use Rattle.rule_document_definitions.specs.Told.{PlacedDocumentFault, places_in, DocumentFails, DocumentMergingFails, DocumentBoundFails}
 use Rattle.graphql_faults.specs.DetailsTree.{DetailsAt, Syntax, Nesting, Spent, of_rule, of_folding, of_typing, of_document}
 use Rattle.verdict_definitions.specs.Texts.{SourceText, Tree, Terms, DerivesIn, ReadsText, ReadsAll, PassesNumbers}
 use Rattle.verdict_definitions.specs.Meaning.{all_definitions, schema_of, meanings_over, document_over}
@@ -85,6 +94,15 @@ module _ (terms : Terms) (trees : List Tree) where
 
 -- ---- a document of which a rule is broken
 
+-- a rule on documents is broken so, but those on fragments that reach themselves, on subscriptions and on merging
+abbrev pub RuleFailsBeside : Places Place → Judged → MeantDocument Place → PlacedDocumentFault → Type 0
+RuleFailsBeside places s d (OfData fault) =
+    AtOperation d (λ o. VariablesBreak places s d o fault ⊎ (SelectionsBreak places s d o fault
+    ⊎ (UndefinedFragmentAt d fault o ⊎ (InvalidFragmentTargetAt s d o fault ⊎ InvalidFragmentSpreadAt s d o fault places))))
+    ⊎ UnusedFragmentAt d fault
+RuleFailsBeside places s d (OfDocument fault) = DeferredBreaks d fault
+RuleFailsBeside places s d (OfLimit place) = ⊥
+
 module _ (schema : SchemaTree Place) (tree : Tree) where
   -- a rule of typing is broken so
   abbrev pub TypingFailsOver : typing.TypingFault Place → Type 0
@@ -95,6 +113,10 @@ module _ (schema : SchemaTree Place) (tree : Tree) where
   DocumentRuleFails fault =
       DocumentFails schema (document_over schema tree) fault
       ⊎ (DocumentMergingFails schema (document_over schema tree) fault ⊎ DocumentBoundFails (document_over schema tree) fault)
+
+  -- a rule on documents is broken so, but those of which faults are told in part
+  abbrev pub DocumentRuleFailsBeside : PlacedDocumentFault → Type 0
+  DocumentRuleFailsBeside fault = RuleFailsBeside (places_in schema) (judged schema) (document_over schema tree) fault
 
   -- a fault of the document
   abbrev pub DocumentFailsOver : AnyFault → Type 0

@@ -5,7 +5,7 @@ use Rattle.schema_building.specs.SourcesView.{with_sources}
 use Rattle.document_typing.specs.DocumentView.{meant_document}
 use Rattle.document_typed_operations.specs.TypedDocument.{typed_document_tree}
 use Rattle.checker_documents.specs.CheckedView.{schema_value}
-use Rattle.checker_documents.proofs.Checking.{unread_refusal, unread_certain, unread_rules, typing_refusal, typing_certain, typing_rules, rules_refusal, rules_certain, rules_told, accepted_document}
+use Rattle.checker_documents.proofs.Checking.{unread_refusal, unread_certain, typing_refusal, typing_certain, rules_refusal, rules_certain, accepted_document}
 use Rattle.checker_documents.proofs.checked_schema.CheckedSchema.check.Goals as goal
 
 pub returns-in_err-tree-clause-refused : goal.returns-in_err-tree-clause-refused
@@ -38,22 +38,6 @@ pub returns-in_err-validate-clause-complete : goal.returns-in_err-validate-claus
 returns-in_err-validate-clause-complete c =
     let p = err_from_is_err_and c.from_residual-in_err-validate.result c.from_residual-in_err-validate.ensures.1 in
     rw (p.1, p.2) (rules_certain (schema_value c.args.self.now) c.args.text.now (document_tree c.in_ok-tree.tree) c.in_ok-tree.ensures.read (meant_document (typed_document_tree c.in_ok-document.document))
-    c.in_ok-document.ensures.typed c.in_err-validate.field-0.0 (c.in_err-validate.ensures.refused c.in_ok-document.ensures.typed.typed))
-
-pub returns-in_err-tree-clause-rules : goal.returns-in_err-tree-clause-rules
-returns-in_err-tree-clause-rules c =
-    let p = err_from_is_err_and c.from_residual.result c.from_residual.ensures.1 in
-    rw (p.1, p.2) (unread_rules (schema_value c.args.self.now) c.args.text.now c.in_err-tree.field-0.0 c.in_err-tree.ensures.unread)
-
-pub returns-in_err-document-clause-rules : goal.returns-in_err-document-clause-rules
-returns-in_err-document-clause-rules c =
-    let p = err_from_is_err_and c.from_residual-in_err-document.result c.from_residual-in_err-document.ensures.1 in
-    rw (p.1, p.2) (typing_rules (schema_value c.args.self.now) c.args.text.now (document_tree c.in_ok-tree.tree) c.in_ok-tree.ensures.read c.in_err-document.field-0.0 c.in_err-document.ensures.refused)
-
-pub returns-in_err-validate-clause-rules : goal.returns-in_err-validate-clause-rules
-returns-in_err-validate-clause-rules c =
-    let p = err_from_is_err_and c.from_residual-in_err-validate.result c.from_residual-in_err-validate.ensures.1 in
-    rw (p.1, p.2) (rules_told (schema_value c.args.self.now) c.args.text.now (document_tree c.in_ok-tree.tree) c.in_ok-tree.ensures.read (meant_document (typed_document_tree c.in_ok-document.document))
     c.in_ok-document.ensures.typed c.in_err-validate.field-0.0 (c.in_err-validate.ensures.refused c.in_ok-document.ensures.typed.typed))
 
 pub invariant_of-result : goal.invariant_of-result
