@@ -1,5 +1,5 @@
 -- The bound on references is passed by some schema: of input objects each of which has a field of the next, marked `!`.
-use Rattle.std.proofs.Common.{◌≡◌, ◌+◌, ◌<◌, ℕ, zero, suc, false, List, [], ◌∷◌, length, codes, slice_get, Option, None, Some, is_some, refl, sym, ap, ◌∙◌, inl, true≢false, arith}
+use Rattle.std.proofs.Common.{◌≡◌, ◌+◌, ℕ, zero, suc, false, List, [], ◌∷◌, codes, slice_get, Option, None, Some, is_some, refl, sym, ap, ◌∙◌, inl, true≢false, arith}
 use Rattle.std.proofs.lemmas.Option.{same_Some}
 use Rattle.graphql_names.specs.Placed.{Text}
 use Rattle.graphql_read.specs.in_directives.in_literals.TypeTree.{NonNullNamedTree}
@@ -12,7 +12,7 @@ use Rattle.rule_definitions.specs.Diagnostics.{DeeplyNestedType}
 use Rattle.rule_definitions.specs.Faults.{wrong}
 use Rattle.rule_definitions.specs.Judged.{Judged}
 use Rattle.rule_definitions.specs.Spots.{At}
-use Rattle.rule_definitions.specs.Cycles.{reference_bound, RefersToInput, PassesReferenceBound}
+use Rattle.rule_definitions.specs.Cycles.{RefersToInput, PassesReferenceBound}
 
 -- ---- the input object k has fields of the type k + 1
 

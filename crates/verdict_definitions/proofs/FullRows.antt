@@ -1,8 +1,11 @@
 -- Documents of which one rule on documents, or on merging, is broken: no other fault is so, those aside that are told in part.
-use Rattle.std.proofs.Common.{◌≡◌, ◌⊎◌, ◌+◌, ℕ, [], ◌∷◌, codes, bytes_eq, None, Some, Contains, refl, sym, ap, subst, ◌∙◌, inl, inr, true≢false, arith}
+use Rattle.std.proofs.Common.{◌≡◌, ◌⊎◌, ◌+◌, ◌^◌, ◌<◌, [], ◌∷◌, codes, bytes_eq, None, Some, Contains, refl, sym, ap, subst, ◌∙◌, inl, inr, true≢false, arith}
+use Rattle.std.proofs.Props.{props}
 use Rattle.std.specs.Prelude.{is_some}
+use mathlib.Core.HLevel.{is_prop→PathP}
 use Rattle.graphql_names.specs.Placed.{Place}
 use Rattle.graphql_names.specs.Places.{Recomposes}
+use Rattle.graphql_names.specs.declared.span.SourceSpan.{SourceSpan}
 use Rattle.schema_built_in.specs.Table.{built_in_definitions}
 use Rattle.schema_types.specs.BuiltIn.{built_in}
 use Rattle.schema_types.specs.SchemaTree.{SchemaType}
@@ -19,13 +22,11 @@ use Rattle.rule_definitions.specs.Told.{PlacedFault}
 use Rattle.rule_definitions.proofs.Lists.{not_in_nil, only}
 use Rattle.rule_document_definitions.specs.DocumentFaults.{Broken, OfData, OfDocument, OfLimit}
 use Rattle.rule_document_definitions.specs.Defer.{DeferBreaks}
-use Rattle.rule_document_definitions.specs.DocumentRules.{DeferredBreaks}
 use Rattle.rule_document_definitions.specs.Fragments.{UndefinedFragmentAt, InvalidFragmentTargetAt, InvalidFragmentSpreadAt}
-use Rattle.rule_document_definitions.specs.Selections.{SelectionsBreak, DirectivesBreak}
+use Rattle.rule_document_definitions.specs.Selections.{SelectionsBreak}
 use Rattle.rule_document_definitions.specs.Variables.{VariablesBreak}
 use Rattle.rule_document_definitions.specs.Told.{PlacedDocumentFault, places_in}
 use Rattle.rule_document_definitions.proofs.RowWords.{of_present, not_present, not_at_index, at_only, none_repeats, one_repeats, none_reached, no_fragment}
-use Rattle.verdict_definitions.specs.Meaning.{document_over}
 use Rattle.verdict_definitions.specs.Says.{RuleFailsBeside, DocumentRuleFailsBeside}
 use Rattle.verdict_definitions.proofs.RowMeanings.{meanings_found, same_meanings, type_found, judged_found, same_judged}
 use Rattle.verdict_definitions.proofs.DocumentRows.{field_schema, unused_tree, unused_document, unused_operation, v_variable, field_there, unused_fault, a_and_b_schema, conflict_tree, conflict_operation, first_x, second_x}
@@ -38,6 +39,14 @@ int_scalar = record { kind = kind.Scalar; place = built_in; description = None; 
 abbrev J : Judged
 J = judged_found field_schema
 
+same_span : (a b : SourceSpan) → a.file_id ≡ b.file_id → a.offset ≡ b.offset → a.length ≡ b.length → a ≡ b
+same_span a b file offset length = λ i. record {
+  file_id = file i;
+  offset = offset i;
+  length = length i;
+  fits = is_prop→PathP (λ j. offset j + length j < 2 ^ 64) (λ j. hlevel props) a.fits b.fits i;
+}
+
 -- the place of the variable's head
 head_is : (head : Place) → Recomposes (place_in 2 8 15) (place_in 2 9 10) head → head ≡ place_in 2 8 10
 unfolding place_in
@@ -47,7 +56,7 @@ head_is (Some w) h =
     let begins = r.begins in
     let ends = r.ends in
     let long : w.length ≡ 2 = omega (arith, begins, ends) in
-    ap Some (λ i. record { file_id = r.file i; offset = begins i; length = long i })
+    ap Some (same_span w _ r.file begins long)
 
 unused_variables : (fault : PlacedFault) → VariablesBreak (places_in field_schema) J unused_document unused_operation fault → fault ≡ wrong (place_in 2 8 10) (UnusedVariable (codes "v"))
 unfolding built_in_definitions place_in

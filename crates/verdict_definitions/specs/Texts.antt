@@ -1,5 +1,5 @@
 -- Texts and their trees: which have one, and within which bounds (GraphQL, October 2021, section 2 and appendix B).
-use Rattle.std.specs.Prelude.{◌≡◌, ℕ, ◌+◌, ◌≤◌, ◌^◌, List, [], ◌∷◌, length}
+use Rattle.std.specs.Prelude.{ℕ, ◌+◌, ◌≤◌, ◌^◌, List, [], ◌∷◌, length}
 use Rattle.graphql_names.specs.Placed.{Place}
 use Rattle.tree_definitions.specs.DefinitionTree.{DefinitionTree}
 use Rattle.graphql_read.specs.in_tokens.Input.{Token}
