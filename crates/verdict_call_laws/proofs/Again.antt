@@ -157,12 +157,14 @@ module _ (nesting : ℕ) (layout : Layout) (first again : RunValue) (w : ReadsWh
 
   -- the same bytes go with the texts that were put out
   put_again : AcceptedBytes terms layout again.texts again.text again.put → again.put ≡ first.put
+  unfolding bytes
   put_again told =
       one_answer terms layout (as_lines layout bytes.written_schema ∷ []) (as_lines layout bytes.written_document) again.put first.put
       (subst (λ (p : List SourceText × SourceText). AcceptedBytes terms layout p.0 p.1 again.put) (λ i. (w.schema i, w.document i)) told) ((back_put.answered layout first.put).0 bytes)
 
   -- and they are accepted for sure where the first are
   certain_put : IsCertain terms first.texts first.text → IsCertain terms again.texts again.text
+  unfolding bytes
   certain_put certain = subst (λ (p : List SourceText × SourceText). IsCertain terms p.0 p.1) (λ i. (sym w.schema i, sym w.document i)) (back_put.certain.0 certain)
 
   accepted_again : (answer : Result Outcome RunFault) → AnswersRun terms layout again answer → answer ≡ Ok outcome.Accepted → again.put ≡ first.put

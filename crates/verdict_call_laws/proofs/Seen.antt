@@ -50,6 +50,7 @@ put_behind old new held put bytes before after appends =
 
 -- where it holds what it held, it took nothing
 put_none : (old new : Option (List ℕ)) (held put : List ℕ) → old ≡ Some held → new ≡ Some (held ++ put) → new ≡ old → put ≡ []
+unfolding in_some
 put_none old new held put before after same = append_cancel_left held put [] (ap (in_some []) (sym after ∙ same ∙ before) ∙ sym (append-nil held))
 
 module _ {R D W : Type 0} (of_schema : R → Option (List ℕ)) (of_document : D → Option (List ℕ)) (contents : W → Option (List ℕ)) (layout : Layout) (terms : Terms)
