@@ -69,6 +69,13 @@ class Entry:
         """Each rule that is told so: its sentence and its section."""
         return [(found.group(1), found.group(2)) for found in self.rules]
 
+    def said(self):
+        """The sentences as comments have them, each with its section, where the specification has one."""
+        for sentence, section in self.sentences():
+            number = re.sub(r"^past ", "", section)
+            words = f"{'past ' if number != section else ''}section{'s' if not re.fullmatch(r'[0-9.]+', number) else ''} {number}"
+            yield sentence + (f" ({words})" if number[:1].isdigit() else "")
+
     def gaps(self):
         return self.parts[1::2]
 

@@ -410,7 +410,8 @@ def repeating(entries):
 
 
 def repeat_lines(entries):
-    return [f"    {entry.one('repeat')}," for entry in repeating(entries)]
+    """The classes of components, each with its rule."""
+    return [line for entry in repeating(entries) for line in [f"    /// {' '.join(entry.said())}.", f"    {entry.one('repeat')},"]]
 
 
 def repeat_error_lines(entries):

@@ -20,25 +20,30 @@ typing_fault_at p breach = record { place = p; breach = breach }
 
 -- ---- rules on a selection that stands under the type t
 
--- a field that is not defined on the type (section 5.3.1)
+-- UndefinedField: a field is valid only if the type that it is selected on defines it (section 5.3.1)
+-- broken by a field that is not defined on the type
 abbrev pub UndefinedFieldAt : {P : Type 0} → Meanings → List ℕ → SelectionTree P → TypingFault P → Type 0
 UndefinedFieldAt m t (FieldTree p h ts) fault = (m.field t h.name.it ≡ None) × (fault ≡ typing_fault_at p (UndefinedField t h.name.it))
 UndefinedFieldAt m t _ fault = ⊥
 
--- a field that selects from values of a scalar, of an enum (section 5.3.3)
+-- SubselectionOnScalarType: a field whose values are scalars is valid only if it selects nothing (section 5.3.3)
+-- broken by a field that selects from values of a scalar
 abbrev pub SubselectionOnScalarTypeAt : {P : Type 0} → Meanings → List ℕ → SelectionTree P → TypingFault P → Type 0
 SubselectionOnScalarTypeAt m t (FieldTree p h ts) fault = (d : Definition) × (
     (m.field t h.name.it ≡ Some d) × (m.is_scalar (inner_type d) ≡ true) × (has_selection ts ≡ true)
     × (fault ≡ typing_fault_at p (SubselectionOnScalarType (inner_type d))))
 SubselectionOnScalarTypeAt m t _ fault = ⊥
 
+-- SubselectionOnEnumType: a field whose values are of an enum is valid only if it selects nothing (section 5.3.3)
+-- broken by a field that selects from values of an enum
 abbrev pub SubselectionOnEnumTypeAt : {P : Type 0} → Meanings → List ℕ → SelectionTree P → TypingFault P → Type 0
 SubselectionOnEnumTypeAt m t (FieldTree p h ts) fault = (d : Definition) × (
     (m.field t h.name.it ≡ Some d) × (m.is_enum (inner_type d) ≡ true) × (has_selection ts ≡ true)
     × (fault ≡ typing_fault_at p (SubselectionOnEnumType (inner_type d))))
 SubselectionOnEnumTypeAt m t _ fault = ⊥
 
--- an inline fragment on a type that is not there (section 5.5.1.2)
+-- UndefinedTypeInInlineFragmentTypeCondition: an inline fragment is valid only if its type is defined (section 5.5.1.2)
+-- broken by an inline fragment on a type that is not there
 abbrev pub UndefinedTypeInInlineFragmentTypeConditionAt : {P : Type 0} → Meanings → List ℕ → SelectionTree P → TypingFault P → Type 0
 UndefinedTypeInInlineFragmentTypeConditionAt m t (InlineTree p (Some c) ds ts) fault =
     (m.has_type c.it ≡ false) × (fault ≡ typing_fault_at p (UndefinedTypeInInlineFragmentTypeCondition c.it))
@@ -74,35 +79,41 @@ AreSetFaults {P} m t ts faults = (f : TypingFault P) → Contains faults f ↔ S
 
 -- ---- rules on a definition of the document, behind these
 
--- a document of operations and fragments alone (section 5.1.1)
+-- TypeSystemDefinition: a document is valid only if it holds operations and fragments alone (section 5.1.1)
+-- broken by any other definition
 abbrev pub TypeSystemDefinitionAt : {P : Type 0} → DefinitionTree P → TypingFault P → Type 0
 TypeSystemDefinitionAt d fault = (is_executable d ≡ false) × (fault ≡ typing_fault_at (definition_place d) TypeSystemDefinition)
 
--- an operation without a name beside any other operation of the document (section 5.2.2.1)
+-- AmbiguousAnonymousOperation: an operation without a name is valid only if it is the only operation (section 5.2.2.1)
+-- broken by an operation without a name beside any other operation of the document
 abbrev pub AmbiguousAnonymousOperationAt : {P : Type 0} → List (DefinitionTree P) → DefinitionTree P → TypingFault P → Type 0
 AmbiguousAnonymousOperationAt ds (Operation p o) fault =
     (o.name ≡ None) × (1 < length (filter is_operation ds)) × (fault ≡ typing_fault_at p AmbiguousAnonymousOperation)
 AmbiguousAnonymousOperationAt ds _ fault = ⊥
 
--- an operation whose name a kept one before it has (section 5.2.1.1)
+-- OperationNameCollision: an operation is valid only if no earlier one has its name (section 5.2.1.1)
+-- broken by an operation whose name a kept one before it has
 abbrev pub OperationNameCollisionAt : {P : Type 0} → Meanings → List (DefinitionTree P) → DefinitionTree P → TypingFault P → Type 0
 OperationNameCollisionAt {P} m before (Operation p o) fault = (n : Text P) × (
     (o.name ≡ Some n) × (has_name operation_name n.it (kept_named m before) ≡ true) × (fault ≡ typing_fault_at p (OperationNameCollision n.it)))
 OperationNameCollisionAt m before _ fault = ⊥
 
--- a fragment whose name a kept one before it has (section 5.5.1.1)
+-- FragmentNameCollision: a fragment definition is valid only if no earlier one has its name (section 5.5.1.1)
+-- broken by a fragment whose name a kept one before it has
 abbrev pub FragmentNameCollisionAt : {P : Type 0} → Meanings → List (DefinitionTree P) → DefinitionTree P → TypingFault P → Type 0
 FragmentNameCollisionAt m before (Fragment p f) fault =
     (has_name fragment_name f.name.it (kept_fragments m before) ≡ true) × (fault ≡ typing_fault_at p (FragmentNameCollision f.name.it))
 FragmentNameCollisionAt m before _ fault = ⊥
 
--- an operation whose root the schema does not have (section 3.3.1)
+-- UndefinedRootOperation: an operation is valid only if the schema has a root for it (section 3.3.1)
+-- broken by an operation whose root the schema does not have
 abbrev pub UndefinedRootOperationAt : {P : Type 0} → Meanings → DefinitionTree P → TypingFault P → Type 0
 UndefinedRootOperationAt m (Operation p o) fault =
     (m.root o.operation_type ≡ None) × (fault ≡ typing_fault_at p (UndefinedRootOperation o.operation_type))
 UndefinedRootOperationAt m _ fault = ⊥
 
--- a fragment on a type that is not there (section 5.5.1.2)
+-- UndefinedTypeInNamedFragmentTypeCondition: a fragment definition is valid only if its type is defined (section 5.5.1.2)
+-- broken by a fragment on a type that is not there
 abbrev pub UndefinedTypeInNamedFragmentTypeConditionAt : {P : Type 0} → Meanings → DefinitionTree P → TypingFault P → Type 0
 UndefinedTypeInNamedFragmentTypeConditionAt m (Fragment p f) fault =
     (m.has_type f.type_condition.it ≡ false) × (fault ≡ typing_fault_at p (UndefinedTypeInNamedFragmentTypeCondition f.type_condition.it))

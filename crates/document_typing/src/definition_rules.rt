@@ -11,7 +11,8 @@ use graphql_names::{Name, SourceSpan};
 use std::alloc::AllocError;
 use tree_operations::OperationType;
 
-/// A document holds operations and fragments alone (section 5.1.1): this definition is of the type system.
+/// TypeSystemDefinition: a document is valid only if it holds operations and fragments alone (section 5.1.1). This
+/// definition is of the type system.
 pub(crate) fn type_system_definition(
     location: Option<SourceSpan>,
     faults: &mut Vec<(Option<SourceSpan>, BuildError)>,
@@ -21,7 +22,8 @@ pub(crate) fn type_system_definition(
     tell(location, BuildError::TypeSystemDefinition, faults)
 }
 
-/// An operation without a name stands alone (section 5.2.2.1): this one stands beside others.
+/// AmbiguousAnonymousOperation: an operation without a name is valid only if it is the only operation (section 5.2.2.1).
+/// This one stands beside others.
 pub(crate) fn ambiguous_anonymous_operation(
     location: Option<SourceSpan>,
     faults: &mut Vec<(Option<SourceSpan>, BuildError)>,
@@ -31,7 +33,8 @@ pub(crate) fn ambiguous_anonymous_operation(
     tell(location, BuildError::AmbiguousAnonymousOperation, faults)
 }
 
-/// The schema has the root of an operation (section 3.3.1): it does not have this one.
+/// UndefinedRootOperation: an operation is valid only if the schema has a root for it (section 3.3.1). It does not have
+/// this one.
 pub(crate) fn undefined_root_operation(
     location: Option<SourceSpan>,
     operation_type: OperationType,
@@ -46,7 +49,8 @@ pub(crate) fn undefined_root_operation(
     )
 }
 
-/// No two operations have one name (section 5.2.1.1): whether an earlier one has this name is known.
+/// OperationNameCollision: an operation is valid only if no earlier one has its name (section 5.2.1.1). Whether an earlier
+/// one has this name is known.
 pub(crate) fn operation_name_collision(
     is_known: bool,
     location: Option<SourceSpan>,
@@ -66,7 +70,8 @@ pub(crate) fn operation_name_collision(
     )
 }
 
-/// No two fragments have one name (section 5.5.1.1): whether an earlier one has this name is known.
+/// FragmentNameCollision: a fragment definition is valid only if no earlier one has its name (section 5.5.1.1). Whether an
+/// earlier one has this name is known.
 pub(crate) fn fragment_name_collision(
     is_known: bool,
     location: Option<SourceSpan>,
@@ -82,7 +87,8 @@ pub(crate) fn fragment_name_collision(
     tell(location, BuildError::FragmentNameCollision { name }, faults)
 }
 
-/// A fragment is on a type that is there (section 5.5.1.2): this one is not.
+/// UndefinedTypeInNamedFragmentTypeCondition: a fragment definition is valid only if its type is defined (section 5.5.1.2).
+/// This one is not.
 pub(crate) fn undefined_type_in_named_fragment_type_condition(
     location: Option<SourceSpan>,
     type_name: &Name,

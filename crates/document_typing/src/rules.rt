@@ -28,7 +28,7 @@ pub(crate) fn tell(
     Ok(())
 }
 
-/// A field is defined on the type that it is selected on (section 5.3.1): this one is not.
+/// UndefinedField: a field is valid only if the type that it is selected on defines it (section 5.3.1). This one is not.
 #[inline(never)]
 pub(crate) fn undefined_field(
     location: Option<SourceSpan>,
@@ -61,7 +61,9 @@ pub(crate) fn may_select(
     selections.is_empty() || !is_leaf(schema, type_name)
 }
 
-/// Tells of a set on a leaf, which is a scalar or an enum.
+/// SubselectionOnScalarType: a field whose values are scalars is valid only if it selects nothing (section 5.3.3).
+/// SubselectionOnEnumType: a field whose values are of an enum is valid only if it selects nothing (section 5.3.3). Tells
+/// of a set on a leaf, which is one of the two.
 #[inline(never)]
 pub(crate) fn subselection_on_leaf(
     schema: Option<&Schema>,
@@ -81,7 +83,8 @@ pub(crate) fn subselection_on_leaf(
     tell(location, error, faults)
 }
 
-/// An inline fragment is on a type that is there (section 5.5.1.2): this one is not.
+/// UndefinedTypeInInlineFragmentTypeCondition: an inline fragment is valid only if its type is defined (section 5.5.1.2).
+/// This one is not.
 #[inline(never)]
 pub(crate) fn undefined_type_in_inline_fragment_type_condition(
     location: Option<SourceSpan>,

@@ -61,7 +61,8 @@ fn use_trace(
     Ok(trace)
 }
 
-/// The directive of that number reaches itself (RecursiveDirectiveDefinition).
+/// RecursiveDirectiveDefinition: a directive definition is valid only if it does not lead back to itself (section 3.13).
+/// That of the number does.
 pub(crate) fn recursive_directive_definition(
     alloc: Global,
     schema: &Schema,
@@ -85,8 +86,8 @@ pub(crate) fn recursive_directive_definition(
     }
 }
 
-/// A way without repetition from the directive of that number holds more than 32 directives, or more than 32 types
-/// (DeeplyNestedType).
+/// DeeplyNestedType: a directive definition is valid only if no path from it holds more than 32 directives or more than 32
+/// types. A path from that of the number does.
 pub(crate) fn deeply_nested_directive(
     schema: &Schema,
     root: usize,

@@ -53,7 +53,8 @@ fn input_trace(
     Ok(trace)
 }
 
-/// Fields of type `Name!` lead from the input object of that number back to it (RecursiveInputObjectDefinition).
+/// RecursiveInputObjectDefinition: an input object type is valid only if no fields of type `Name!` lead from it back to it
+/// (section 3.10). Such fields lead from that of the number back to it.
 pub(crate) fn recursive_input_object_definition(
     alloc: Global,
     schema: &Schema,
@@ -77,7 +78,8 @@ pub(crate) fn recursive_input_object_definition(
     }
 }
 
-/// A way without repetition from the input object of that number holds more than 32 of them (DeeplyNestedType).
+/// DeeplyNestedType: an input object type is valid only if no path from it through fields of type `Name!` holds more than
+/// 32 input objects. A path from that of the number does.
 pub(crate) fn deeply_nested_input_object(
     schema: &Schema,
     root: usize,

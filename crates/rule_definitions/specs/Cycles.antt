@@ -66,13 +66,14 @@ abbrev pub trace_of_way : List (Option (Referring (DirectiveTree (Unit {0})))) �
 trace_of_way bys = reverse (filter_map (λ by. by) bys)
 
 module _ (s : Judged) (fault : SchemaFault) where
-  -- RecursiveInputObjectDefinition: no fields of type `Name!` lead from an input object back to it (section 3.10)
+  -- RecursiveInputObjectDefinition: an input object type is valid only if no fields of type `Name!` lead from it back to it
+  -- (section 3.10)
   abbrev pub RecursiveInputObjectDefinitionAt : Type 0
   RecursiveInputObjectDefinitionAt = (n : List ℕ) × ((by : Referring (InputValueTree (Unit {0}))) × ((rest : List (Referring (InputValueTree (Unit {0})))) × (
       Leads (RefersToInput s) n (by ∷ rest) n
       × (fault ≡ wrong (At (TypeAt n)) (RecursiveInputObjectDefinition n (reverse (by ∷ rest)))))))
 
-  -- RecursiveDirectiveDefinition: a directive does not reach itself (section 3.13)
+  -- RecursiveDirectiveDefinition: a directive definition is valid only if it does not lead back to itself (section 3.13)
   abbrev pub RecursiveDirectiveDefinitionAt : Type 0
   RecursiveDirectiveDefinitionAt = (n : List ℕ) × ((by : Option (Referring (DirectiveTree (Unit {0})))) × ((rest : List (Option (Referring (DirectiveTree (Unit {0}))))) × (
       Leads (Refers s) (ADirective n) (by ∷ rest) (ADirective n)
@@ -80,13 +81,15 @@ module _ (s : Judged) (fault : SchemaFault) where
 
   -- ---- the bound: not a rule, but what may be answered where it is passed
 
-  -- DeeplyNestedType: a way without repetition from an input object holds more of them than the bound
+  -- DeeplyNestedType: an input object type is valid only if no path from it through fields of type `Name!` holds more than
+  -- 32 input objects
   abbrev pub DeeplyNestedInputObjectAt : Type 0
   DeeplyNestedInputObjectAt = (n : List ℕ) × ((rest : List (List ℕ)) × (
       IsWay (RefersToInput s) (n ∷ rest) × (HasNoRepeat (n ∷ rest) × ((reference_bound < length (n ∷ rest))
       × (fault ≡ wrong (At (TypeAt n)) (DeeplyNestedType n (codes "input object")))))))
 
-  -- DeeplyNestedType: a way without repetition from a directive holds more directives, or more types, than the bound
+  -- DeeplyNestedType: a directive definition is valid only if no path from it holds more than 32 directives or more than 32
+  -- types
   abbrev pub DeeplyNestedDirectiveAt : Type 0
   DeeplyNestedDirectiveAt = (n : List ℕ) × ((rest : List Thing) × (
       IsWay (Refers s) (ADirective n ∷ rest) × (HasNoRepeat (ADirective n ∷ rest)

@@ -23,45 +23,51 @@ module _ (s : Judged) where
   AtImplementation P = AtImplemented (λ n t i over. Somewhere over.field (λ m wanted. Present (t.field m) (λ field. P n i m wanted field)))
 
 module _ (s : Judged) (fault : SchemaFault) where
-  -- UndefinedDefinition: what a type implements is an interface
+  -- UndefinedDefinition: a type is valid only if each name that it implements is that of an interface (sections 3.6 and
+  -- 3.7)
   abbrev pub UndefinedInterfaceAt : Type 0
   UndefinedInterfaceAt = AtType s (λ n t. Among t.implements (λ i.
       (Present (s.type_named i) (λ over. over.kind ≡ kind.Interface) → ⊥) × (fault ≡ told (ImplementsAt n i) (UndefinedDefinition i))))
 
-  -- RecursiveInterfaceDefinition: an interface does not implement itself (section 3.7)
+  -- RecursiveInterfaceDefinition: an interface type is valid only if it does not implement itself (section 3.7)
   abbrev pub RecursiveInterfaceDefinitionAt : Type 0
   RecursiveInterfaceDefinitionAt = AtType s (λ n t. (t.kind ≡ kind.Interface)
       × ((t.implements n ≡ true) × (fault ≡ told (ImplementsAt n n) (RecursiveInterfaceDefinition n))))
 
-  -- TransitiveImplementedInterfaces: a type also implements what its interfaces implement (sections 3.6 and 3.7)
+  -- TransitiveImplementedInterfaces: a type is valid only if it also implements what its interfaces implement (sections 3.6
+  -- and 3.7)
   abbrev pub TransitiveImplementedInterfacesAt : Type 0
   TransitiveImplementedInterfacesAt = AtImplemented s (λ n t i over. Among over.implements (λ missing. (t.implements missing ≡ false)
       × (fault ≡ told (TypeAt n) (TransitiveImplementedInterfaces n i (ImplementsAt i missing) missing))))
 
-  -- MissingInterfaceField: a type has each field of its interfaces
+  -- MissingInterfaceField: a type is valid only if it has each field of its interfaces (sections 3.6 and 3.7)
   abbrev pub MissingInterfaceFieldAt : Type 0
   MissingInterfaceFieldAt = AtImplemented s (λ n t i over. Somewhere over.field (λ m wanted. (t.field m ≡ None)
       × (fault ≡ told (TypeAt n) (MissingInterfaceField n (ImplementsAt n i) i m (FieldAt i m)))))
 
-  -- InvalidImplementationFieldType: the field's type serves for the interface's
+  -- InvalidImplementationFieldType: a field that an interface asks for is valid only if its type is that of the interface's
+  -- field or a subtype of it (sections 3.6 and 3.7)
   abbrev pub InvalidImplementationFieldTypeAt : Type 0
   InvalidImplementationFieldTypeAt = AtImplementation s (λ n i m wanted field. (is_valid_type s wanted.ty field.ty ≡ false)
       × (fault ≡ told (FieldAt n m) (InvalidImplementationFieldType n i m wanted.ty field.ty (FieldAt n m) (FieldAt i m))))
 
-  -- MissingInterfaceFieldArgument: the field has each argument of the interface's field
+  -- MissingInterfaceFieldArgument: a field that an interface asks for is valid only if it has each argument of the
+  -- interface's field (sections 3.6 and 3.7)
   abbrev pub MissingInterfaceFieldArgumentAt : Type 0
   MissingInterfaceFieldArgumentAt = AtImplementation s (λ n i m wanted field. AtSomeIndex wanted.arguments (λ k w.
       Lacks (λ v. v.it.name.it) field.arguments w.it.name.it
       × (fault ≡ told (FieldAt n m) (MissingInterfaceFieldArgument n i m w.it.name.it (FieldAt n m) (ArgumentAt (FieldAt i m) k)))))
 
-  -- InvalidImplementationFieldArgumentType: it has the same type there
+  -- InvalidImplementationFieldArgumentType: an argument that an interface asks for is valid only if its type is that of the
+  -- interface's argument (sections 3.6 and 3.7)
   abbrev pub InvalidImplementationFieldArgumentTypeAt : Type 0
   InvalidImplementationFieldArgumentTypeAt = AtImplementation s (λ n i m wanted field. AtSomeIndex wanted.arguments (λ k w.
       FirstNamed (λ v. v.it.name.it) field.arguments w.it.name.it (λ j v. (w.it.ty.it ≢ v.it.ty.it)
       × (fault ≡ told (ArgumentAt (FieldAt n m) j) (InvalidImplementationFieldArgumentType n i m w.it.name.it w.it.ty.it v.it.ty.it
       (ArgumentAt (FieldAt n m) j) (ArgumentAt (FieldAt i m) k))))))
 
-  -- ExtraRequiredImplementationFieldArgument: no further argument of the field is required
+  -- ExtraRequiredImplementationFieldArgument: an argument that the interface's field lacks is valid only if it is not
+  -- required (sections 3.6 and 3.7)
   abbrev pub ExtraRequiredImplementationFieldArgumentAt : Type 0
   ExtraRequiredImplementationFieldArgumentAt = AtImplementation s (λ n i m wanted field. AtSomeIndex field.arguments (λ j v.
       Lacks (λ w. w.it.name.it) wanted.arguments v.it.name.it × ((is_required_input v.it ≡ true)

@@ -13,7 +13,8 @@ module _ (s : Judged) (fault : SchemaFault) where
   IsReservedAt at name describe =
       (s.built_in at ≡ false) × ((is_reserved name ≡ true) × (fault ≡ told (NameAt at) (ReservedName name describe)))
 
-  -- ReservedName: of a type, a directive, a field, an argument, an input field or an enum value
+  -- ReservedName: a name that is not built in is valid only if it does not begin with `__` (section 2.1.9); of a type, a
+  -- directive, a field, an argument, an input field or an enum value
   abbrev pub ReservedNameAt : Type 0
   ReservedNameAt =
       AtType s (λ n t. IsReservedAt (TypeAt n) n (kind_words t.kind))

@@ -16,35 +16,37 @@ module _ (s : Judged) (fault : SchemaFault) where
   IsUndefinedAt at ty = (s.type_named (named_in ty) ≡ None)
       × ((Contains scalar_names (named_in ty) → ⊥) × (fault ≡ told (TypeNameAt at) (UndefinedDefinition (named_in ty))))
 
-  -- UndefinedDefinition: the type of a field is there
+  -- UndefinedDefinition: a field, argument or input field is valid only if its type is defined (section 3.4.2); of a field
   abbrev pub UndefinedFieldTypeAt : Type 0
   UndefinedFieldTypeAt = AtField s (λ n m f. IsUndefinedAt (FieldAt n m) f.ty)
 
-  -- UndefinedDefinition: the type of an argument or input field is there
+  -- UndefinedDefinition: a field, argument or input field is valid only if its type is defined (section 3.4.2); of an
+  -- argument or input field
   abbrev pub UndefinedInputTypeAt : Type 0
   UndefinedInputTypeAt = AtInputValue s (λ at v. IsUndefinedAt at v.ty.it)
 
-  -- UndefinedDefinition: the members of a union are there (section 3.8)
+  -- UndefinedDefinition: a root or a member of a union is valid only if its type is defined (sections 3.3.1 and 3.8); of a
+  -- member of a union
   abbrev pub UndefinedMemberAt : Type 0
   UndefinedMemberAt = AtType s (λ n t. Among t.has_member (λ m.
       (s.type_named m ≡ None) × (fault ≡ told (MemberAt n m) (UndefinedDefinition m))))
 
-  -- OutputType: a field's type is an output type (sections 3.6 and 3.7)
+  -- OutputType: a field is valid only if its type is an output type (sections 3.6 and 3.7)
   abbrev pub OutputTypeAt : Type 0
   OutputTypeAt = AtField s (λ n m f. Present (s.type_named (named_in f.ty)) (λ t.
       (is_output_kind t.kind ≡ false) × (fault ≡ told (FieldAt n m) (OutputType m (kind_words t.kind) (TypeNameAt (FieldAt n m))))))
 
-  -- InputType: the type of an argument or input field is an input type (sections 3.6.1, 3.10 and 3.13)
+  -- InputType: an argument or input field is valid only if its type is an input type (sections 3.6.1, 3.10 and 3.13)
   abbrev pub InputTypeAt : Type 0
   InputTypeAt = AtInputValue s (λ at v. Present (s.type_named (named_in v.ty.it)) (λ t.
       (is_input_kind t.kind ≡ false) × (fault ≡ told at (InputType v.name.it (kind_words t.kind) (TypeReferenceAt at)))))
 
-  -- UnionMemberObjectType: the members of a union are object types (section 3.8)
+  -- UnionMemberObjectType: a member of a union is valid only if it is an object type (section 3.8)
   abbrev pub UnionMemberObjectTypeAt : Type 0
   UnionMemberObjectTypeAt = AtType s (λ n t. Among t.has_member (λ m. Present (s.type_named m) (λ member.
       (member.kind ≢ kind.Object) × (fault ≡ told (MemberAt n m) (UnionMemberObjectType m (kind_words member.kind))))))
 
-  -- UniqueInputValue: the arguments of a field or directive have different names (sections 3.6 and 3.13)
+  -- UniqueInputValue: a field or directive definition is valid only if its arguments differ in name (sections 3.6 and 3.13)
   abbrev pub UniqueArgumentDefinitionAt : Type 0
   UniqueArgumentDefinitionAt = AtArguments s (λ holder vs. Repeats (λ v. v.it.name.it) vs (λ i first j later.
       fault ≡ told (ArgumentAt holder i) (UniqueInputValue first.it.name.it (ArgumentAt holder i) (ArgumentAt holder j))))

@@ -45,7 +45,7 @@ module _ {P : Type 0} where
 module _ {P E : Type 0} (at : Address → P) (s : Judged) (variables : Variables P) where
   -- ---- arguments
 
-  -- UniqueArgument: the arguments that are given differ in name (section 5.4.2)
+  -- UniqueArgument: a list of arguments is valid only if none is given twice (section 5.4.2)
   abbrev pub UniqueArgumentAt : Arguments P → FaultAt P E → Type 0
   UniqueArgumentAt given fault = Repeats argument_name given (λ i first j later.
       fault ≡ wrong later.place (UniqueArgument (argument_name later) first.place later.place))
@@ -61,18 +61,20 @@ module _ {P E : Type 0} (at : Address → P) (s : Judged) (variables : Variables
     AtArgumentGiven Q = AtSomeIndex taker.given (λ j a. IsFirst argument_name taker.given (argument_name a) j
         × FirstNamed input_name taker.definitions (argument_name a) (λ i v. Q (ArgumentAt taker.holder i) v.it a))
 
-    -- UndefinedArgument: each argument that is given is defined (section 5.4.1)
+    -- UndefinedArgument: an argument is valid only if the field or directive defines it (section 5.4.1)
     abbrev pub UndefinedArgumentAt : Type 0
     UndefinedArgumentAt = AtSomeIndex taker.given (λ j a. Lacks input_name taker.definitions (argument_name a)
         × (fault ≡ wrong a.place (UndefinedArgument (argument_name a) taker.coordinate taker.definition_location)))
 
-    -- RequiredArgument: each required argument is given, and not as null (section 5.4.2.1)
+    -- RequiredArgument: a field or use of a directive is valid only if each required argument is given, and not as null
+    -- (section 5.4.2.1)
     abbrev pub RequiredArgumentAt : Type 0
     RequiredArgumentAt = AtSomeIndex taker.definitions (λ i v. (is_required_input v.it ≡ true)
         × ((is_absent_or_null (given_value (input_name v) taker.given) ≡ true)
         × (fault ≡ wrong taker.place (RequiredArgument (input_name v) (taker.argument_coordinate (input_name v)) v.it.ty.it (at (ArgumentAt taker.holder i))))))
 
-    -- DisallowedVariableUsage: a variable that is given may stand there (section 5.8.5)
+    -- DisallowedVariableUsage: a use of a variable is valid only if a value of the variable's type may stand there
+    -- (section 5.8.5)
     abbrev pub DisallowedVariableUsageAt : Type 0
     DisallowedVariableUsageAt = AtArgumentGiven (λ where' v a. Present (variable_name a.it.value.it) (λ n. FirstNamed defined_name variables n.it (λ k x.
         (IsVariableUsageAllowed x.it v → ⊥)
@@ -89,16 +91,17 @@ module _ {P E : Type 0} (at : Address → P) (s : Judged) (variables : Variables
 
   -- ---- directives
 
-  -- UndefinedDirective: a directive that is used is defined (section 5.7.1)
+  -- UndefinedDirective: a use of a directive is valid only if the directive is defined (section 5.7.1)
   abbrev pub UndefinedDirectiveAt : Placed P (DirectiveTree P) → FaultAt P E → Type 0
   UndefinedDirectiveAt d fault = (s.directive (directive_name d) ≡ None) × (fault ≡ wrong d.place (UndefinedDirective (directive_name d)))
 
-  -- UnsupportedLocation: it may stand at such a place (section 5.7.2)
+  -- UnsupportedLocation: a use of a directive is valid only if the directive may stand at such a place (section 5.7.2)
   abbrev pub UnsupportedLocationAt : DirectiveLocation → Placed P (DirectiveTree P) → FaultAt P E → Type 0
   UnsupportedLocationAt location d fault = Present (s.directive (directive_name d)) (λ defined. (Contains defined.locations location → ⊥)
       × (fault ≡ wrong d.place (UnsupportedLocation (directive_name d) location defined.locations (at (DirectiveDefinitionAt (directive_name d))))))
 
-  -- UniqueDirective: one that is not repeatable is used once at a place (section 5.7.3)
+  -- UniqueDirective: a use of a directive that is not repeatable is valid only if the directive has no other use at that
+  -- place (section 5.7.3)
   abbrev pub UniqueDirectiveAt : Directives P → FaultAt P E → Type 0
   UniqueDirectiveAt ds fault = Repeats directive_name ds (λ i first j later. Present (s.directive (directive_name later)) (λ defined.
       (defined.repeatable ≡ false) × (fault ≡ wrong later.place (UniqueDirective (directive_name later) first.place))))

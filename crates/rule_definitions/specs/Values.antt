@@ -25,7 +25,7 @@ abbrev pub wanted_item : {P : Type 0} → Wanted P → Wanted P
 wanted_item ty = record { it = item_type_of ty.it; place = ty.place }
 
 module _ {P E : Type 0} where
-  -- UniqueInputValue: the keys of an object differ, at any depth of a value (section 5.6.3)
+  -- UniqueInputValue: an object value is valid only if its keys differ (section 5.6.3); at any depth of a value
   abbrev mutual
     pub UniqueInputValueIn : ValueTree P → FaultAt P E → Type 0
     UniqueInputValueIn (ListTree ts) fault = UniqueInputValueInItems ts fault
@@ -42,7 +42,8 @@ module _ {P E : Type 0} where
     UniqueInputValueInEntries (entry_then n p v es) fault = UniqueInputValueIn v fault ⊎ UniqueInputValueInEntries es fault
 
 module _ {P E : Type 0} (variables : Variables P) where
-  -- UndefinedVariable: each variable in a value, at any depth, is defined (section 5.8.3)
+  -- UndefinedVariable: a use of a variable is valid only if the operation defines the variable (section 5.8.3); at any
+  -- depth of a value
   abbrev mutual
     pub UndefinedVariableIn : P → ValueTree P → FaultAt P E → Type 0
     UndefinedVariableIn p (VariableTree n) fault = Lacks defined_name variables n.it × (fault ≡ wrong p (UndefinedVariable n.it))
@@ -76,28 +77,30 @@ module _ {P : Type 0} (s : Judged) (variables : Variables P) (ty : Wanted P) (t 
 
 module _ {P E : Type 0} (at : Address → P) (s : Judged) (variables : Variables P) where
   module _ (ty : Wanted P) (place : P) (v : ValueTree P) (fault : FaultAt P E) where
-    -- UnsupportedValueType: the form of a value fits its type, if that type is there
+    -- UnsupportedValueType: a value is valid only if its form fits the type that is expected (section 5.6.1); told only if
+    -- that type is there
     abbrev pub UnsupportedValueTypeAt : Type 0
     UnsupportedValueTypeAt = Present (s.type_named (wanted_name ty)) (λ t. (FitsForm s variables ty t v → ⊥)
         × (fault ≡ wrong place (UnsupportedValueType (unplaced_value v) ty.it ty.place)))
 
-    -- IntCoercionError: an integer for Int fits 32 bits (section 3.5.1)
+    -- IntCoercionError: an integer for Int is valid only if it fits 32 bits (section 3.5.1)
     abbrev pub IntCoercionErrorAt : Type 0
     IntCoercionErrorAt = Present (s.type_named (wanted_name ty)) (λ t. IsBuiltInScalar s (wanted_name ty) t × ((wanted_name ty ≡ codes "Int")
         × Present (integer_text v) (λ digits. (FitsSigned w32 (integer_value digits) → ⊥) × (fault ≡ wrong place (IntCoercionError digits)))))
 
-    -- UndefinedEnumValue: an enum has the value (section 3.9)
+    -- UndefinedEnumValue: an enum value is valid only if the enum type has it (section 3.9)
     abbrev pub UndefinedEnumValueAt : Type 0
     UndefinedEnumValueAt = Present (s.type_named (wanted_name ty)) (λ t. (t.kind ≡ kind.Enum) × Present (enum_name v) (λ e.
         (t.value e.it ≡ None) × (fault ≡ wrong place (UndefinedEnumValue e.it (wanted_name ty) (at (TypeAt (wanted_name ty)))))))
 
-    -- UndefinedInputValue: an input object has a field for each key; the first key without one is told (section 5.6.2)
+    -- UndefinedInputValue: an object value is valid only if the input object type has a field for each key (section 5.6.2);
+    -- the first key without one is told
     abbrev pub UndefinedInputValueAt : Type 0
     UndefinedInputValueAt = Present (s.type_named (wanted_name ty)) (λ t. (t.kind ≡ kind.InputObject) × Present (object_entries v) (λ es.
         AtSomeIndex (entry_list es) (λ i e. (t.input e.0.it ≡ None) × ((AtSomeIndex (entry_list es) (λ k d. (k < i) × (t.input d.0.it ≡ None)) → ⊥)
         × (fault ≡ wrong e.1.place (UndefinedInputValue e.0.it (wanted_name ty) (at (TypeAt (wanted_name ty)))))))))
 
-    -- RequiredField: a required field of an input object is given, and not as null (section 5.6.4)
+    -- RequiredField: an object value is valid only if each required field is given, and not as null (section 5.6.4)
     abbrev pub RequiredFieldAt : Type 0
     RequiredFieldAt = Present (s.type_named (wanted_name ty)) (λ t. (t.kind ≡ kind.InputObject) × Present (object_entries v) (λ es.
         Somewhere t.input (λ m f. (is_required_input f ≡ true) × ((is_absent_or_null (entry_named m es) ≡ true)

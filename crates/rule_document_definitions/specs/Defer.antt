@@ -11,11 +11,11 @@ use Rattle.rule_document_definitions.specs.Reached.{AtRoot}
 use Rattle.rule_document_definitions.specs.DeferUses.{defers, labels, string_labels, IsConditional, ReachedAlways}
 
 module _ {P : Type 0} (d : MeantDocument P) (fault : Broken P) where
-  -- DeferLabelMustNotBeVariable: a label is no variable
+  -- DeferLabelMustNotBeVariable: a label of `@defer` is valid only if it is no variable
   abbrev pub DeferLabelMustNotBeVariableAt : Type 0
   DeferLabelMustNotBeVariableAt = AtSomeIndex (labels d) (λ i v. Present (variable_name v.it) (λ n. fault ≡ broken v.place DeferLabelMustNotBeVariable))
 
-  -- DuplicateDeferLabel: labels differ
+  -- DuplicateDeferLabel: a label of `@defer` is valid only if no earlier one is the same string
   abbrev pub DuplicateDeferLabelAt : Type 0
   DuplicateDeferLabelAt = Repeats (λ t. t.it) (string_labels d) (λ i first j later. fault ≡ broken later.place (DuplicateDeferLabel later.it first.place))
 
@@ -25,12 +25,14 @@ module _ {P : Type 0} (d : MeantDocument P) (fault : Broken P) where
 -- ---- in an operation
 
 module _ {P : Type 0} (d : MeantDocument P) (o : MeantOperation P) (fault : Broken P) where
-  -- DeferOnRootMutationOrSubscriptionField: no fragment at the root of these has @defer
+  -- DeferOnRootMutationOrSubscriptionField: a `@defer` is valid only if it does not stand at the root of a mutation or
+  -- subscription
   abbrev pub DeferOnRootMutationOrSubscriptionFieldAt : Type 0
   DeferOnRootMutationOrSubscriptionFieldAt = (o.operation_type ≢ operation.Query) × ((x : Standing P) × (AtRoot d o x × ((as_field x ≡ None)
       × AtSomeIndex (defers x) (λ i e. fault ≡ broken e.place (DeferOnRootMutationOrSubscriptionField o.operation_type)))))
 
-  -- DeferInSubscriptionMustBeConditional: what a subscription always reaches is deferred by a condition alone
+  -- DeferInSubscriptionMustBeConditional: a `@defer` that a subscription always reaches is valid only if a condition
+  -- decides on it
   abbrev pub DeferInSubscriptionMustBeConditionalAt : Type 0
   DeferInSubscriptionMustBeConditionalAt = (o.operation_type ≡ operation.Subscription) × ((x : Standing P) × (ReachedAlways d o x
       × AtSomeIndex (defers x) (λ i e. (IsConditional e → ⊥) × (fault ≡ broken e.place DeferInSubscriptionMustBeConditional))))

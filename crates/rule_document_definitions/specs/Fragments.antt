@@ -33,19 +33,20 @@ ReachesItself {P} d f = (by : Placed P SpreadTree) × ((rest : List (Placed P Sp
 -- ---- rules that ask nothing of a schema
 
 module _ {P E : Type 0} (d : MeantDocument P) (fault : FaultAt P E) where
-  -- UndefinedFragment: a fragment that is spread is there (section 5.5.2.1)
+  -- UndefinedFragment: a fragment spread is valid only if the fragment is defined (section 5.5.2.1)
   abbrev pub UndefinedFragmentAt : MeantOperation P → Type 0
   UndefinedFragmentAt o = AtReached d o (λ x. Present (spread_name x.it) (λ n.
       (fragment_named d n ≡ None) × (fault ≡ wrong (selection_place x.it) (UndefinedFragment n))))
 
-  -- RecursiveFragmentDefinition: no spreads lead from a fragment back to it (section 5.5.2.2)
+  -- RecursiveFragmentDefinition: a fragment definition is valid only if no spreads lead from it back to it
+  -- (section 5.5.2.2)
   abbrev pub RecursiveFragmentDefinitionAt : Places P → MeantOperation P → Type 0
   RecursiveFragmentDefinitionAt places o = AtReachedFragment d o (λ f. (by : Placed P SpreadTree) × ((rest : List (Placed P SpreadTree)) × (
       Leads (RefersBySpread d) f.name.it (by ∷ rest) f.name.it
       × ((head : P) × (places.Spans f.place f.name.place head
       × (fault ≡ wrong f.place (RecursiveFragmentDefinition head f.name.it (reverse (by ∷ rest)))))))))
 
-  -- UnusedFragment: each fragment is used in an operation (section 5.5.1.4)
+  -- UnusedFragment: a fragment definition is valid only if an operation uses it (section 5.5.1.4)
   abbrev pub UnusedFragmentAt : Type 0
   UnusedFragmentAt = (f : MeantFragment P) × (Contains (fragments d) f
       × ((AtOperation d (λ o. ReachesFragment d o f) → ⊥) × (fault ≡ wrong f.place (UnusedFragment f.name.it))))
@@ -53,13 +54,13 @@ module _ {P E : Type 0} (d : MeantDocument P) (fault : FaultAt P E) where
 -- ---- rules under a schema
 
 module _ {P E : Type 0} (s : Judged) (d : MeantDocument P) (o : MeantOperation P) (fault : FaultAt P E) where
-  -- InvalidFragmentTarget: a fragment is on a composite type (section 5.5.1.3)
+  -- InvalidFragmentTarget: a fragment is valid only if it is on a composite type (section 5.5.1.3)
   abbrev pub InvalidFragmentTargetAt : Type 0
   InvalidFragmentTargetAt =
       AtReachedFragment d o (λ f. IsNotComposite s f.type_condition.it × (fault ≡ wrong f.place (InvalidFragmentTarget (Some f.name.it) f.type_condition.it)))
       ⊎ AtReached d o (λ x. Present (inline_condition x.it) (λ c. IsNotComposite s c × (fault ≡ wrong (selection_place x.it) (InvalidFragmentTarget None c))))
 
-  -- InvalidFragmentSpread: a fragment can apply where it stands (section 5.5.2.3)
+  -- InvalidFragmentSpread: a fragment is valid only if it can apply where it stands (section 5.5.2.3)
   abbrev pub InvalidFragmentSpreadAt : Places P → Type 0
   InvalidFragmentSpreadAt places = AtReached d o (λ x.
       Present (spread_name x.it) (λ n. Present (fragment_named d n) (λ f. (MayApply s x.parent f.type_condition.it → ⊥)

@@ -47,7 +47,8 @@ module _ {P : Type 0} (d : MeantDocument P) where
   PassesChainBound o = (c : List (StandingField P)) × (Chain (Below d) (Starts d o) c × (chain_bound < length c))
 
 module _ {P E : Type 0} (places : Places P) (d : MeantDocument P) (fault : DocumentFault P E) where
-  -- DeeplyNestedType, from the first token of a fragment's definition to its name
+  -- DeeplyNestedType: a fragment definition is valid only if no path of spreads from it holds more than 100 fragments; told
+  -- from the first token of the definition to its name
   abbrev pub SpreadBoundFails : Type 0
   SpreadBoundFails = (f : MeantFragment P) × (Contains (fragments d) f × (PassesSpreadBound d f × ((head : P) × (places.Spans f.place f.name.place head
       × (fault ≡ OfData (wrong head (DeeplyNestedType f.name.it (codes "fragment"))))))))

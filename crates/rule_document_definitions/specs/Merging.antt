@@ -92,17 +92,19 @@ module _ {P : Type 0} (s : Judged) (d : MeantDocument P) (o : MeantOperation P) 
     abbrev pub AtMeeting : (StandingField P → StandingField P → Type 0) → (StandingField P → StandingField P → Type 0) → (StandingField P → StandingField P → Type 0) → Type 0
     AtMeeting Together Agree Q = (f : StandingField P) × ((g : StandingField P) × (Meet (Below d) Together (Starts d o) f g × ((Agree f g → ⊥) × Q f g)))
 
-    -- ConflictingFieldType: fields of one key have one shape
+    -- ConflictingFieldType: a selection set is valid only if fields of one response key have one shape (section 5.3.2)
     abbrev pub ConflictingFieldTypeAt : Type 0
     ConflictingFieldTypeAt = AtMeeting SameKey (SameShape s) (λ f g.
         fault ≡ broken g.place (ConflictingFieldType (response_key g) (telling f f.definition.ty) (telling g g.definition.ty)))
 
-    -- ConflictingFieldName: where one object may have both, they have one name
+    -- ConflictingFieldName: a selection set is valid only if fields that one object may have under one response key have
+    -- one name (section 5.3.2)
     abbrev pub ConflictingFieldNameAt : Type 0
     ConflictingFieldNameAt = AtMeeting (MayShare s) SameName (λ f g.
         fault ≡ broken g.place (ConflictingFieldName (response_key g) (telling f tt) (telling g tt)))
 
-    -- ConflictingFieldArgument: and the same arguments
+    -- ConflictingFieldArgument: a selection set is valid only if fields that one object may have under one response key
+    -- have the same arguments (section 5.3.2)
     abbrev pub ConflictingFieldArgumentAt : Type 0
     ConflictingFieldArgumentAt = (n : List ℕ) × AtMeeting (MayShare s) (SameArgument n) (λ f g.
         fault ≡ broken g.place (ConflictingFieldArgument (response_key g) (telling_argument n f) (telling_argument n g)))

@@ -30,7 +30,7 @@ field_taker places f = record {
 }
 
 module _ {P E : Type 0} (s : Judged) (d : MeantDocument P) (o : MeantOperation P) (fault : FaultAt P E) where
-  -- MissingSubselection: a field whose values have fields selects some of them (section 5.3.3)
+  -- MissingSubselection: a field whose values have fields is valid only if it selects some of them (section 5.3.3)
   abbrev pub MissingSubselectionAt : Type 0
   MissingSubselectionAt = AtReachedField d o (λ f. Present (s.type_named (named_in f.definition.ty)) (λ t. IsCompositeType t × (HasNone f.set
       × (fault ≡ wrong f.place (MissingSubselection (OfAttribute f.parent (field_name f)) (named_in f.definition.ty) (kind_words t.kind))))))

@@ -11,17 +11,18 @@ use Rattle.rule_document_definitions.specs.Reached.{AtRoot}
 use Rattle.rule_document_definitions.specs.RootFields.{meta_field_names, IsRootField, AreRootFields}
 
 module _ {P : Type 0} (d : MeantDocument P) (o : MeantOperation P) (fault : Broken P) where
-  -- SubscriptionUsesMultipleFields: there is at most one
+  -- SubscriptionUsesMultipleFields: a subscription is valid only if it has at most one field at its root (section 5.2.3.1)
   abbrev pub SubscriptionUsesMultipleFieldsAt : Type 0
   SubscriptionUsesMultipleFieldsAt = (fs : List (StandingField P)) × (AreRootFields d o fs × ((1 < length fs)
       × (fault ≡ broken o.place (SubscriptionUsesMultipleFields (operation_name o) (map field_name fs)))))
 
-  -- SubscriptionUsesIntrospection: it is no meta-field
+  -- SubscriptionUsesIntrospection: a subscription is valid only if no field at its root is a meta-field (section 5.2.3.1)
   abbrev pub SubscriptionUsesIntrospectionAt : Type 0
   SubscriptionUsesIntrospectionAt = (f : StandingField P) × (IsRootField d o f × (Contains meta_field_names (field_name f)
       × (fault ≡ broken f.place (SubscriptionUsesIntrospection (operation_name o) (field_name f)))))
 
-  -- SubscriptionUsesConditionalSelection: no selection at the root has @skip or @include
+  -- SubscriptionUsesConditionalSelection: a subscription is valid only if no selection at its root has `@skip` or
+  -- `@include` (past section 5.2.3.1)
   abbrev pub SubscriptionUsesConditionalSelectionAt : Type 0
   SubscriptionUsesConditionalSelectionAt = (x : Standing P) × (AtRoot d o x × AtSomeIndex (selection_directives x.it) (λ i e.
       Contains (codes "skip" ∷ codes "include" ∷ []) (directive_name e) × (fault ≡ broken e.place (SubscriptionUsesConditionalSelection (operation_name o)))))

@@ -18,7 +18,7 @@ use Rattle.rule_document_definitions.specs.UsedVariables.{IsUsedIn, wanted_by}
 -- ---- rules that ask nothing of a schema
 
 module _ {P E : Type 0} (o : MeantOperation P) (fault : FaultAt P E) where
-  -- UniqueVariable: the variables of an operation differ in name (section 5.8.1)
+  -- UniqueVariable: an operation is valid only if its variables differ in name (section 5.8.1)
   abbrev pub UniqueVariableAt : Type 0
   UniqueVariableAt = Repeats defined_name o.variables (λ i first j later.
       fault ≡ wrong later.place (UniqueVariable (defined_name later) first.place later.place))
@@ -27,7 +27,7 @@ module _ {P E : Type 0} (o : MeantOperation P) (fault : FaultAt P E) where
   abbrev pub UniqueDefaultKeyAt : Type 0
   UniqueDefaultKeyAt = AtSomeIndex o.variables (λ i x. Present x.it.default_value (λ v. UniqueInputValueIn v.it fault))
 
-  -- UnusedVariable: each variable is used (section 5.8.4)
+  -- UnusedVariable: a variable is valid only if it is used (section 5.8.4)
   abbrev pub UnusedVariableAt : Places P → MeantDocument P → Type 0
   UnusedVariableAt places d = AtSomeIndex o.variables (λ i x. (IsUsedIn (defined_name x) d o → ⊥) × ((head : P) × (
       places.Spans x.place x.it.name.place head × (fault ≡ wrong head (UnusedVariable (defined_name x))))))
@@ -35,12 +35,12 @@ module _ {P E : Type 0} (o : MeantOperation P) (fault : FaultAt P E) where
 -- ---- rules under a schema
 
 module _ {P E : Type 0} (s : Judged) (o : MeantOperation P) (fault : FaultAt P E) where
-  -- UndefinedDefinition: the type of a variable is there (section 5.8.2)
+  -- UndefinedDefinition: a variable is valid only if its type is defined (section 5.8.2)
   abbrev pub UndefinedVariableTypeAt : Type 0
   UndefinedVariableTypeAt = AtSomeIndex o.variables (λ i x.
       (s.type_named (wanted_name (wanted_by x.it)) ≡ None) × (fault ≡ wrong x.place (UndefinedDefinition (wanted_name (wanted_by x.it)))))
 
-  -- VariableInputType: it is an input type (section 5.8.2)
+  -- VariableInputType: a variable is valid only if its type is an input type (section 5.8.2)
   abbrev pub VariableInputTypeAt : Type 0
   VariableInputTypeAt = AtSomeIndex o.variables (λ i x. Present (s.type_named (wanted_name (wanted_by x.it))) (λ t.
       (is_input_kind t.kind ≡ false) × (fault ≡ wrong x.place (VariableInputType (defined_name x) (unplaced_type x.it.ty.it) (kind_words t.kind)))))

@@ -75,8 +75,8 @@ fn told_types(
     Ok((other.field.location(), conflict))
 }
 
-/// ConflictingFieldType: fields of one response key have one shape (section 5.3.2, "SameResponseShape"). Each comparison is
-/// counted.
+/// ConflictingFieldType: a selection set is valid only if fields of one response key have one shape (section 5.3.2). This
+/// is SameResponseShape of the specification. Each comparison is counted.
 fn conflicting_field_type(
     alloc: Global,
     schema: &Schema,
@@ -119,8 +119,8 @@ fn told_names(
     Ok((other.field.location(), conflict))
 }
 
-/// ConflictingFieldName: fields that one object may have under one response key have one name (section 5.3.2, "must have
-/// identical field names").
+/// ConflictingFieldName: a selection set is valid only if fields that one object may have under one response key have one
+/// name (section 5.3.2). The specification says "must have identical field names".
 fn conflicting_field_name(
     alloc: Global,
     first: FieldSelection<'_>,
@@ -210,8 +210,9 @@ fn told_arguments(
     Ok((other.field.location(), conflict))
 }
 
-/// ConflictingFieldArgument: fields that one object may have under one response key have the same arguments (section 5.3.2,
-/// "must have identical sets of arguments"). The first argument that differs is told.
+/// ConflictingFieldArgument: a selection set is valid only if fields that one object may have under one response key have
+/// the same arguments (section 5.3.2). The specification says "must have identical sets of arguments". The first argument
+/// that differs is told.
 fn conflicting_field_argument(
     alloc: Global,
     first: FieldSelection<'_>,

@@ -139,7 +139,7 @@ fn told_spread(
     Ok(Fault { location, data })
 }
 
-/// InvalidFragmentSpread: a fragment can apply where it stands (section 5.5.2.3).
+/// InvalidFragmentSpread: a fragment is valid only if it can apply where it stands (section 5.5.2.3).
 fn invalid_fragment_spread(
     schema: &Schema,
     possible: &PossibleTypes,

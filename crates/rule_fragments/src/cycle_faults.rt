@@ -56,8 +56,8 @@ fn spread_trace(
     Ok(trace)
 }
 
-/// RecursiveFragmentDefinition: no spreads lead from a fragment back to it (section 5.5.2.2). These do, from the fragment of
-/// the number `root` along the path.
+/// RecursiveFragmentDefinition: a fragment definition is valid only if no spreads lead from it back to it
+/// (section 5.5.2.2). These do, from the fragment of the number `root` along the path.
 pub(crate) fn recursive_fragment_definition(
     alloc: Global,
     fragment: &Node<Fragment>,
@@ -79,7 +79,8 @@ pub(crate) fn recursive_fragment_definition(
     })
 }
 
-/// A way of spreads without repetition from the fragment holds more than 100 fragments (DeeplyNestedType).
+/// DeeplyNestedType: a fragment definition is valid only if no path of spreads from it holds more than 100 fragments. A
+/// path from this one does.
 pub(crate) fn deeply_nested_fragment(fragment: &Node<Fragment>) -> Result<Fault, AllocError>
     ensures { IfOk result (λ r. IsDeepFault (fragment_meant fragment.now) (fault_of r)) }
 {

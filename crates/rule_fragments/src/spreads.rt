@@ -15,7 +15,7 @@ use fault_data::{DiagnosticData, Fault, tell};
 use rule_document_ground::Reach;
 use std::alloc::AllocError;
 
-/// UndefinedFragment: a fragment that is spread is there (section 5.5.2.1).
+/// UndefinedFragment: a fragment spread is valid only if the fragment is defined (section 5.5.2.1).
 fn undefined_fragment(
     fragments: &FragmentMap,
     selection: &Selection,

@@ -33,7 +33,8 @@ fn is_no_composite(schema: &Schema, name: &Name) -> bool
     }
 }
 
-/// InvalidFragmentTarget: a fragment is on a composite type (section 5.5.1.3). An inline fragment has no name.
+/// InvalidFragmentTarget: a fragment is valid only if it is on a composite type (section 5.5.1.3). An inline fragment has
+/// no name.
 fn invalid_fragment_target(
     schema: &Schema,
     location: Option<SourceSpan>,

@@ -19,7 +19,8 @@ use indexmap::IndexSet;
 use rule_document_ground::has_name;
 use std::alloc::AllocError;
 
-/// UnusedFragment: each fragment is used in an operation (section 5.5.1.4). `used` has the names of those that are.
+/// UnusedFragment: a fragment definition is valid only if an operation uses it (section 5.5.1.4). `used` has the names of
+/// those that are.
 fn unused_fragment(
     used: &IndexSet<Name>,
     fragment: &Node<Fragment>,

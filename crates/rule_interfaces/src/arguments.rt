@@ -153,7 +153,8 @@ fn own_argument_fault(
     }
 }
 
-/// MissingInterfaceFieldArgument: a field has each argument of its interface's field. Told of one that it lacks.
+/// MissingInterfaceFieldArgument: a field that an interface asks for is valid only if it has each argument of the
+/// interface's field (sections 3.6 and 3.7). Told of one that it lacks.
 fn missing_interface_field_argument(
     implementation: &Implementation<'_>,
     argument: &Node<InputValueDefinition>,
@@ -175,7 +176,8 @@ fn missing_interface_field_argument(
     }))
 }
 
-/// InvalidImplementationFieldArgumentType: an argument has the type that the interface's has.
+/// InvalidImplementationFieldArgumentType: an argument that an interface asks for is valid only if its type is that of the
+/// interface's argument (sections 3.6 and 3.7).
 fn invalid_implementation_field_argument_type(
     implementation: &Implementation<'_>,
     wanted: &Node<InputValueDefinition>,
@@ -213,7 +215,8 @@ fn same_type(a: &Type, b: &Type) -> bool
     *a == *b
 }
 
-/// ExtraRequiredImplementationFieldArgument: an argument that the interface's field lacks is not required.
+/// ExtraRequiredImplementationFieldArgument: an argument that the interface's field lacks is valid only if it is not
+/// required (sections 3.6 and 3.7).
 fn extra_required_implementation_field_argument(
     implementation: &Implementation<'_>,
     argument: &Node<InputValueDefinition>,

@@ -79,7 +79,8 @@ fn check_implementation(
     check_arguments(alloc, implementation, faults)
 }
 
-/// MissingInterfaceField: a type has each field of its interfaces. Told of one that it lacks.
+/// MissingInterfaceField: a type is valid only if it has each field of its interfaces (sections 3.6 and 3.7). Told of one
+/// that it lacks.
 fn missing_interface_field(
     implementer: &Implementer<'_>,
     field_name: &Name,
@@ -102,7 +103,8 @@ fn missing_interface_field(
     }))
 }
 
-/// InvalidImplementationFieldType: the type of a field serves where the interface has one.
+/// InvalidImplementationFieldType: a field that an interface asks for is valid only if its type is that of the interface's
+/// field or a subtype of it (sections 3.6 and 3.7).
 fn invalid_implementation_field_type(
     schema: &Schema,
     implementation: &Implementation<'_>,

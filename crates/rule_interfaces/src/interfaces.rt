@@ -13,7 +13,8 @@ use graphql_names::Name;
 use schema_components::ComponentName;
 use std::alloc::AllocError;
 
-/// UndefinedDefinition: what a type implements is an interface. Told of one that is not.
+/// UndefinedDefinition: a type is valid only if each name that it implements is that of an interface (sections 3.6 and
+/// 3.7). Told of one that is not.
 pub(crate) fn undefined_interface(interface: &Name) -> Result<Option<Fault>, AllocError>
     ensures { IfOk result (λ r. map fault_of (option_to_list r) ≡ undefined_interface (name_tree interface.now)) }
 {
@@ -25,7 +26,7 @@ pub(crate) fn undefined_interface(interface: &Name) -> Result<Option<Fault>, All
     }))
 }
 
-/// RecursiveInterfaceDefinition: an interface does not implement itself.
+/// RecursiveInterfaceDefinition: an interface type is valid only if it does not implement itself (section 3.7).
 pub(crate) fn recursive_interface_definition(
     implementer: &Implementer<'_>,
 ) -> Result<Option<Fault>, AllocError>
@@ -63,7 +64,8 @@ pub(crate) fn check_transitive(
     Ok(())
 }
 
-/// TransitiveImplementedInterfaces: a type lists what its interfaces list.
+/// TransitiveImplementedInterfaces: a type is valid only if it also implements what its interfaces implement (sections 3.6
+/// and 3.7).
 fn transitive_implemented_interfaces(
     implementer: &Implementer<'_>,
     missing: &ComponentName,

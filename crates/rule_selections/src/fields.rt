@@ -38,7 +38,7 @@ fn is_composite(kind: TypeKind) -> bool
     kind.is_output_type() && !kind.is_leaf()
 }
 
-/// MissingSubselection: a field whose values have fields selects some of them (section 5.3.3).
+/// MissingSubselection: a field whose values have fields is valid only if it selects some of them (section 5.3.3).
 fn missing_subselection(
     schema: &Schema,
     parent: &Name,

@@ -20,7 +20,8 @@ use rule_document_ground::tell_breach;
 use std::alloc::AllocError;
 use tree_directives::Directive;
 
-/// DeferOnRootMutationOrSubscriptionField: no fragment at the root of a mutation or subscription has `@defer`.
+/// DeferOnRootMutationOrSubscriptionField: a `@defer` is valid only if it does not stand at the root of a mutation or
+/// subscription.
 fn defer_on_root_mutation_or_subscription_field(
     operation: &Node<Operation>,
     directive: &Node<Directive>,
@@ -79,7 +80,8 @@ fn is_conditional(directive: &Node<Directive>) -> bool
     value.as_variable().is_some() || !value.to_bool().unwrap_or(true)
 }
 
-/// DeferInSubscriptionMustBeConditional: what a subscription always reaches is deferred by a condition alone.
+/// DeferInSubscriptionMustBeConditional: a `@defer` that a subscription always reaches is valid only if a condition decides
+/// on it.
 fn defer_in_subscription_must_be_conditional(directive: &Node<Directive>) -> Option<Breach>
     ensures { told_by result ≡ deferred_always (node_tree directive_tree directive.now) }
 {

@@ -131,7 +131,7 @@ fn document_labels(
     Ok(found)
 }
 
-/// DeferLabelMustNotBeVariable: a label of `@defer` is no variable.
+/// DeferLabelMustNotBeVariable: a label of `@defer` is valid only if it is no variable.
 fn defer_label_must_not_be_variable(label: &Node<Value>) -> Option<Breach>
     ensures { told_by result ≡ variable_label (node_tree value_tree label.now) }
 {
@@ -141,8 +141,8 @@ fn defer_label_must_not_be_variable(label: &Node<Value>) -> Option<Breach>
     Some((label.location(), BuildError::DeferLabelMustNotBeVariable))
 }
 
-/// DuplicateDeferLabel: string labels of `@defer` differ. `first` is the place of the first of that text, if one is before the
-/// label at that place.
+/// DuplicateDeferLabel: a label of `@defer` is valid only if no earlier one is the same string. `first` is the place of the
+/// first of that text, if one is before the label at that place.
 fn duplicate_defer_label(
     alloc: Global,
     text: &str,

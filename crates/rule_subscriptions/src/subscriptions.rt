@@ -42,7 +42,7 @@ fn field_names(alloc: Global, selections: &[Selection]) -> Result<Vec<Name>, All
     Ok(names)
 }
 
-/// SubscriptionUsesMultipleFields: a subscription has at most one field at its root (section 5.2.3.1).
+/// SubscriptionUsesMultipleFields: a subscription is valid only if it has at most one field at its root (section 5.2.3.1).
 fn subscription_uses_multiple_fields(
     operation: &Node<Operation>,
     fields: Vec<Name>,
@@ -65,7 +65,7 @@ fn is_meta_field_name(name: &Name) -> bool
     name == "__typename" || name == "__schema" || name == "__type"
 }
 
-/// SubscriptionUsesIntrospection: no field at the root of a subscription is a meta-field (section 5.2.3.1).
+/// SubscriptionUsesIntrospection: a subscription is valid only if no field at its root is a meta-field (section 5.2.3.1).
 fn subscription_uses_introspection(
     operation: &Node<Operation>,
     selection: &Selection,
@@ -85,8 +85,8 @@ fn subscription_uses_introspection(
     Ok(Some((node.location(), breach)))
 }
 
-/// SubscriptionUsesConditionalSelection: no selection at the root of a subscription has `@skip` or `@include` (past section
-/// 5.2.3.1 of October 2021).
+/// SubscriptionUsesConditionalSelection: a subscription is valid only if no selection at its root has `@skip` or `@include`
+/// (past section 5.2.3.1).
 fn subscription_uses_conditional_selection(
     operation: &Node<Operation>,
     directive: &Node<Directive>,

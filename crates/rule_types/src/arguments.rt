@@ -98,7 +98,8 @@ fn check_repeats(
     Ok(())
 }
 
-/// UniqueInputValue: no earlier argument of the same field or directive has the name. `seen` has the first place of each name.
+/// UniqueInputValue: a field or directive definition is valid only if its arguments differ in name (sections 3.6 and 3.13).
+/// `seen` has the first place of each name.
 fn unique_input_value(
     seen: &IndexMap<Name, Option<SourceSpan>>,
     argument: &Node<InputValueDefinition>,

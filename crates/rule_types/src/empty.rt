@@ -15,7 +15,7 @@ use std::alloc::{AllocError, Global};
 use tree_directives::InputValueDefinition;
 use tree_type_members::{EnumValueDefinition, FieldDefinition};
 
-/// EmptyFieldSet: an object or interface, which has these fields, has a field (sections 3.6 and 3.7).
+/// EmptyFieldSet: an object or interface type is valid only if it has a field (sections 3.6 and 3.7).
 pub(crate) fn empty_field_set(
     alloc: Global,
     name: &Name,
@@ -43,7 +43,7 @@ pub(crate) fn empty_field_set(
     )
 }
 
-/// EmptyMemberSet: a union, which has these members, has a member (section 3.8).
+/// EmptyMemberSet: a union type is valid only if it has a member (section 3.8).
 pub(crate) fn empty_member_set(
     alloc: Global,
     name: &Name,
@@ -71,7 +71,7 @@ pub(crate) fn empty_member_set(
     )
 }
 
-/// EmptyValueSet: an enum, which has these values, has a value (section 3.9).
+/// EmptyValueSet: an enum type is valid only if it has a value (section 3.9).
 pub(crate) fn empty_value_set(
     alloc: Global,
     name: &Name,
@@ -99,7 +99,7 @@ pub(crate) fn empty_value_set(
     )
 }
 
-/// EmptyInputValueSet: an input object, which has these fields, has a field (section 3.10).
+/// EmptyInputValueSet: an input object type is valid only if it has a field (section 3.10).
 pub(crate) fn empty_input_value_set(
     alloc: Global,
     name: &Name,

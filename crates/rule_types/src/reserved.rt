@@ -34,7 +34,8 @@ impl Named {
     }
 }
 
-/// ReservedName: what is not built in has no name that begins with `__`. `location` is that of the name.
+/// ReservedName: a name that is not built in is valid only if it does not begin with `__` (section 2.1.9). `location` is
+/// that of the name.
 pub(crate) fn reserved_name(
     built_in: bool,
     name: &Name,

@@ -69,7 +69,7 @@ fn check_repeats(
     tell(faults, subscription_again(definition)?)
 }
 
-/// QueryRootOperationType: the root of queries is given.
+/// QueryRootOperationType: a schema is valid only if it has a root for queries (section 3.3.1).
 fn query_root_operation_type(
     definition: &Node<SchemaDefinition>,
     faults: &mut Vec<Fault>,
@@ -88,7 +88,7 @@ fn query_root_operation_type(
     }
 }
 
-/// RootOperationObjectType: the type of a root is an object type.
+/// RootOperationObjectType: a root is valid only if its type is an object type (section 3.3.1).
 fn root_operation_object_type(
     root: &Name,
     kind: Option<TypeKind>,
@@ -116,7 +116,8 @@ fn root_operation_object_type(
     }
 }
 
-/// DuplicateRootOperationType: the types of the roots differ. Told of the later of two.
+/// DuplicateRootOperationType: a schema is valid only if its roots have different types (section 3.3.1). Told of the later
+/// of two.
 fn duplicate_root_operation_type(
     original_operation: OperationType,
     original: &Option<ComponentName>,

@@ -17,7 +17,8 @@ use tree_directives::InputValueDefinition;
 use tree_literals::Type;
 use tree_type_members::FieldDefinition;
 
-/// UndefinedDefinition: the type that is named is there.
+/// UndefinedDefinition: a root or a member of a union is valid only if its type is defined (sections 3.3.1 and 3.8). Told
+/// of a name that no type has.
 pub(crate) fn undefined_name(
     name: &Name,
     kind: Option<TypeKind>,
@@ -39,7 +40,8 @@ pub(crate) fn undefined_name(
     }
 }
 
-/// UndefinedDefinition: the type inside a reference is there, or it has the name of a built-in scalar.
+/// UndefinedDefinition: a field, argument or input field is valid only if its type is defined (section 3.4.2). Told of the
+/// type inside the reference, unless it has the name of a built-in scalar.
 pub(crate) fn undefined_type(
     ty: &Type,
     kind: Option<TypeKind>,
@@ -66,7 +68,7 @@ fn is_scalar_name(text: &str) -> bool
     text == "Int" || text == "Float" || text == "String" || text == "Boolean" || text == "ID"
 }
 
-/// OutputType: the type of a field that stands under `name` is an output type.
+/// OutputType: a field is valid only if its type is an output type (sections 3.6 and 3.7). The field stands under `name`.
 pub(crate) fn output_type(
     name: &Name,
     field: &Node<FieldDefinition>,
@@ -96,7 +98,7 @@ pub(crate) fn output_type(
     }
 }
 
-/// InputType: the type of an argument or input field is an input type.
+/// InputType: an argument or input field is valid only if its type is an input type (sections 3.6.1, 3.10 and 3.13).
 pub(crate) fn input_type(
     input: &Node<InputValueDefinition>,
     kind: Option<TypeKind>,
@@ -125,7 +127,7 @@ pub(crate) fn input_type(
     }
 }
 
-/// UnionMemberObjectType: a member of a union is an object type.
+/// UnionMemberObjectType: a member of a union is valid only if it is an object type (section 3.8).
 pub(crate) fn union_member_object_type(
     member: &Name,
     kind: Option<TypeKind>,

@@ -38,7 +38,7 @@ fn find_definition<'a>(schema: &'a Schema, name: &Name) -> Option<&'a Node<Direc
     schema.directive_definitions.get(name)
 }
 
-/// UndefinedDirective: a directive that is used is defined (section 5.7.1). This one is not.
+/// UndefinedDirective: a use of a directive is valid only if the directive is defined (section 5.7.1). This one is not.
 fn undefined_directive(directive: &Node<Directive>) -> Result<Fault, AllocError>
     ensures { IfOk result (λ r. fault_of r ≡ undefined_directive (node_tree directive_tree directive.now)) }
 {
@@ -55,7 +55,7 @@ fn has_location(locations: &[DirectiveLocation], location: DirectiveLocation) ->
     locations.contains(&location)
 }
 
-/// UnsupportedLocation: a directive may stand at such a place (section 5.7.2).
+/// UnsupportedLocation: a use of a directive is valid only if the directive may stand at such a place (section 5.7.2).
 fn unsupported_location(
     directive: &Node<Directive>,
     definition: &Node<DirectiveDefinition>,
@@ -80,8 +80,8 @@ fn unsupported_location(
     }))
 }
 
-/// UniqueDirective: one that is not repeatable is used once at a place (section 5.7.3). `first` is the place of the first of
-/// its name, if one is before it.
+/// UniqueDirective: a use of a directive that is not repeatable is valid only if the directive has no other use at that
+/// place (section 5.7.3). `first` is the place of the first of its name, if one is before it.
 fn unique_directive(
     schema: &Schema,
     first: Option<Option<SourceSpan>>,

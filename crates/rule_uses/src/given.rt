@@ -54,8 +54,8 @@ pub(crate) fn find_argument<'a>(
     }
 }
 
-/// UniqueArgument: no argument is given twice (section 5.4.2). `first` is the place of the first of its name, if one is before
-/// it.
+/// UniqueArgument: a list of arguments is valid only if none is given twice (section 5.4.2). `first` is the place of the
+/// first of its name, if one is before it.
 fn unique_argument(
     first: Option<Option<SourceSpan>>,
     later: &Node<Argument>,

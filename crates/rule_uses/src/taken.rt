@@ -64,7 +64,7 @@ fn find_definition<'a>(
     }
 }
 
-/// UndefinedArgument: each argument that is given is defined (section 5.4.1).
+/// UndefinedArgument: an argument is valid only if the field or directive defines it (section 5.4.1).
 fn undefined_argument(
     taker: &Taker<'_>,
     defined: &IndexMap<Name, usize>,
@@ -120,7 +120,8 @@ fn is_not_given(given: &[Node<Argument>], numbers: &IndexMap<Name, usize>, name:
     }
 }
 
-/// RequiredArgument: each required argument is given, and not as null (section 5.4.2.1).
+/// RequiredArgument: a field or use of a directive is valid only if each required argument is given, and not as null
+/// (section 5.4.2.1).
 fn required_argument(
     taker: &Taker<'_>,
     given: &IndexMap<Name, usize>,

@@ -102,7 +102,8 @@ fn told_usage(
     Ok(Fault { location, data })
 }
 
-/// DisallowedVariableUsage: a variable that is given may stand there (section 5.8.5).
+/// DisallowedVariableUsage: a use of a variable is valid only if a value of the variable's type may stand there
+/// (section 5.8.5).
 pub fn disallowed_variable_usage(
     argument: &Node<Argument>,
     definition: &InputValueDefinition,

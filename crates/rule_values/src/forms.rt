@@ -138,7 +138,7 @@ fn value_node(
     }
 }
 
-/// UnsupportedValueType: the form of a value fits its type (section 5.6.1).
+/// UnsupportedValueType: a value is valid only if its form fits the type that is expected (section 5.6.1).
 pub(crate) fn unsupported_value_type(
     wanted: &Wanted<'_>,
     found: &ExtendedType,
@@ -180,7 +180,7 @@ fn as_integer(value: &Value) -> Option<&IntValue>
     }
 }
 
-/// IntCoercionError: an integer for Int fits 32 bits (section 3.5.1).
+/// IntCoercionError: an integer for Int is valid only if it fits 32 bits (section 3.5.1).
 pub(crate) fn int_coercion_error(
     name: &Name,
     found: &ExtendedType,
@@ -204,7 +204,7 @@ pub(crate) fn int_coercion_error(
     tell(faults, Some(Fault { location, data }))
 }
 
-/// UndefinedEnumValue: an enum has the value (section 3.9).
+/// UndefinedEnumValue: an enum value is valid only if the enum type has it (section 3.9).
 pub(crate) fn undefined_enum_value(
     name: &Name,
     found: &ExtendedType,

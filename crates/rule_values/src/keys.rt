@@ -13,8 +13,8 @@ use indexmap::IndexMap;
 use std::alloc::AllocError;
 use tree_literals::Value;
 
-/// UniqueInputValue: no key stands twice in an object (section 5.6.3). `first` is the place of the first of its name, if one is
-/// before it.
+/// UniqueInputValue: an object value is valid only if its keys differ (section 5.6.3). `first` is the place of the first of
+/// its name, if one is before it.
 fn unique_input_value(
     first: Option<Option<SourceSpan>>,
     key: &Name,

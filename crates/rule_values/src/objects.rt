@@ -26,7 +26,8 @@ use std::alloc::{AllocError, Global};
 use tree_directives::InputValueDefinition;
 use tree_literals::Value;
 
-/// UndefinedInputValue: an input object has a field for each key; the first key without one is told (section 5.6.2).
+/// UndefinedInputValue: an object value is valid only if the input object type has a field for each key (section 5.6.2).
+/// The first key without one is told.
 pub(crate) fn undefined_input_value(
     name: &Name,
     found: &ExtendedType,
@@ -118,8 +119,8 @@ struct GivenObject<'a> {
     nulls: &'a IndexMap<Name, bool>,
 }
 
-/// RequiredField: a required field of an input object is given, and not as null (section 5.6.4). `field` stands under the
-/// name `field_name` in the type that `given` is given for.
+/// RequiredField: an object value is valid only if each required field is given, and not as null (section 5.6.4). `field`
+/// stands under the name `field_name` in the type that `given` is given for.
 fn required_field(
     given: &GivenObject<'_>,
     field_name: &Name,

@@ -14,7 +14,7 @@ use graphql_names::{Name, Node, SourceSpan};
 use std::alloc::AllocError;
 use tree_literals::Value;
 
-/// UndefinedVariable: a variable in a value is defined (section 5.8.3).
+/// UndefinedVariable: a use of a variable is valid only if the operation defines the variable (section 5.8.3).
 #[inline(never)]
 fn undefined_variable(
     location: Option<SourceSpan>,

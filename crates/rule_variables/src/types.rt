@@ -17,7 +17,7 @@ use std::alloc::AllocError;
 use tree_directives::DirectiveLocation;
 use tree_operations::VariableDefinition;
 
-/// UndefinedDefinition: the type of a variable is there (section 5.8.2).
+/// UndefinedDefinition: a variable is valid only if its type is defined (section 5.8.2).
 fn undefined_definition(
     schema: &Schema,
     variable: &Node<VariableDefinition>,
@@ -37,7 +37,7 @@ fn undefined_definition(
     }
 }
 
-/// VariableInputType: the type of a variable is an input type (section 5.8.2).
+/// VariableInputType: a variable is valid only if its type is an input type (section 5.8.2).
 fn variable_input_type(
     schema: &Schema,
     variable: &Node<VariableDefinition>,

@@ -17,8 +17,8 @@ use rule_values::{DiagnosticData, Fault, note_first, tell, unique_input_values};
 use std::alloc::AllocError;
 use tree_operations::VariableDefinition;
 
-/// UniqueVariable: the variables of an operation differ in name (section 5.8.1). `first` is the place of the first of its
-/// name, if one is before it.
+/// UniqueVariable: an operation is valid only if its variables differ in name (section 5.8.1). `first` is the place of the
+/// first of its name, if one is before it.
 fn unique_variable(
     first: Option<Option<SourceSpan>>,
     later: &Node<VariableDefinition>,
@@ -65,7 +65,8 @@ fn tell_variables_again(
     Ok(())
 }
 
-/// UniqueInputValue: the keys of an object in a default differ (section 5.6.3). Adds a fault for each key that stands before.
+/// UniqueInputValue: an object value is valid only if its keys differ (section 5.6.3). Of the objects in a default: adds a
+/// fault for each key that stands before.
 fn unique_default_keys(
     variable: &Node<VariableDefinition>,
     faults: &mut Vec<Fault>,

@@ -31,7 +31,7 @@ fn has_name(names: &IndexSet<Name>, name: &Name) -> bool
     names.contains(name)
 }
 
-/// UnusedVariable: each variable is used (section 5.8.4). `used` has the names of those that are.
+/// UnusedVariable: a variable is valid only if it is used (section 5.8.4). `used` has the names of those that are.
 fn unused_variable(
     used: &IndexSet<Name>,
     variable: &Node<VariableDefinition>,

@@ -49,16 +49,19 @@ RuleAt = Definitions → DefinitionTree Place → BuildFault → Type 0
 abbrev pub At : DefinitionTree Place → Breach → BuildFault
 At d breach = record { place = definition_place d; breach = breach }
 
--- an operation or a fragment
+-- ExecutableDefinition: a schema document is valid only if it holds no operation and no fragment (section 3)
+-- broken by an operation or a fragment
 abbrev pub ExecutableDefinitionAt : RuleAt
 ExecutableDefinitionAt before d fault = (is_executable d ≡ true) × (fault ≡ At d ExecutableDefinition)
 
--- a schema definition behind another one
+-- SchemaDefinitionCollision: a schema is valid only if it is defined at most once (section 3.3)
+-- broken by a schema definition behind another one
 abbrev pub SchemaDefinitionCollisionAt : RuleAt
 SchemaDefinitionCollisionAt before d fault =
     (is_some (schema_here d) ≡ true) × (is_some (schema_definition_in before) ≡ true) × (fault ≡ At d SchemaDefinitionCollision)
 
--- a directive definition behind another one of its name: the built-in one does not count
+-- DirectiveDefinitionCollision: a directive definition is valid only if no earlier one has its name (section 3.13)
+-- broken by a directive definition behind another one of its name: the built-in one does not count
 abbrev pub DirectiveDefinitionCollisionAt : RuleAt
 DirectiveDefinitionCollisionAt before d fault = (own : Placed Place (DirectiveDefinitionTree Place)) × (
     (directive_here d ≡ Some own) × (has_name directive_name (directive_name own) (directives_in before) ≡ true)
@@ -76,27 +79,32 @@ module _ (built_in texts : Definitions) where
   abbrev pub IsSecondDefinition : Definitions → DefinitionTree Place → TypeDefinition Place → Type 0
   IsSecondDefinition before d t = (type_here d ≡ Some t) × (has_name type_name (type_name t) (types_in (built_in ++ before)) ≡ true)
 
-  -- ... of a name that is none of the built-in scalars
+  -- TypeDefinitionCollision: a type definition is valid only if no earlier one has its name (section 3.4)
+  -- broken by the definition of a type behind another one of its name, which is none of the built-in scalars
   abbrev pub TypeDefinitionCollisionAt : RuleAt
   TypeDefinitionCollisionAt before d fault = (t : TypeDefinition Place) × (
       IsSecondDefinition before d t × (is_built_in_scalar (type_name t) ≡ false) × (fault ≡ At d (TypeDefinitionCollision (type_name t))))
 
-  -- ... of the name of a built-in scalar (section 3.5)
+  -- BuiltInScalarTypeRedefinition: a type definition is valid only if no built-in scalar has its name (section 3.5)
+  -- broken by the definition of a type behind another one of its name, which is that of a built-in scalar
   abbrev pub BuiltInScalarTypeRedefinitionAt : RuleAt
   BuiltInScalarTypeRedefinitionAt before d fault = (t : TypeDefinition Place) × (
       IsSecondDefinition before d t × (is_built_in_scalar (type_name t) ≡ true) × (fault ≡ At d (BuiltInScalarTypeRedefinition (type_name t))))
 
-  -- an extension of a schema that is not defined anywhere
+  -- OrphanSchemaExtension: a schema extension is valid only if the schema is defined (section 3.3.2)
+  -- broken by an extension of a schema that is not defined anywhere
   abbrev pub OrphanSchemaExtensionAt : RuleAt
   OrphanSchemaExtensionAt before d fault =
       (is_some (schema_extension_here d) ≡ true) × (schema_is_defined with_built_in ≡ false) × (fault ≡ At d OrphanSchemaExtension)
 
-  -- an extension of a type that is not defined anywhere
+  -- OrphanTypeExtension: a type extension is valid only if its type is defined (section 3.4.3)
+  -- broken by an extension of a type that is not defined anywhere
   abbrev pub OrphanTypeExtensionAt : RuleAt
   OrphanTypeExtensionAt before d fault = (e : TypeParts Place) × (
       (type_extension_here d ≡ Some e) × (type_named e.name.it with_built_in ≡ None) × (fault ≡ At d (OrphanTypeExtension e.name.it)))
 
-  -- an extension of another kind than its type's definition
+  -- TypeExtensionKindMismatch: a type extension is valid only if it is of the kind of its type (sections 3.5 to 3.10)
+  -- broken by an extension of another kind than its type's definition
   abbrev pub TypeExtensionKindMismatchAt : RuleAt
   TypeExtensionKindMismatchAt before d fault = (e : TypeParts Place) × ((t : TypeDefinition Place) × (
       (type_extension_here d ≡ Some e) × (type_named e.name.it with_built_in ≡ Some t) × (same_kind t.parts.kind e.kind ≡ false)
@@ -108,7 +116,8 @@ module _ (built_in texts : Definitions) where
 
   -- ---- rules on the components of the schema definition and of the types
 
-  -- a root behind another one of its operation
+  -- DuplicateRootOperation: a schema is valid only if it gives each operation at most one root (section 3.3.1)
+  -- broken by a root behind another one of its operation
   abbrev pub DuplicateRootOperationIn : ℕ → BuildFault → Type 0
   DuplicateRootOperationIn first fault = (g : Given Place Root) × (
       IsRepeated root_key (roots_given first with_built_in) g × (fault ≡ record { place = g.it.place; breach = DuplicateRootOperation g.it.it.operation_type }))
@@ -119,24 +128,33 @@ module _ (built_in texts : Definitions) where
       Contains (firsts type_name (types_in with_built_in)) t × (same_kind t.parts.kind kind ≡ true) × IsRepeated key (components of (numbered first with_built_in) t) g
       × (fault ≡ record { place = place g.it; breach = breach (type_name t) (key g) })))
 
+  -- DuplicateImplementsInterfaceInObject: an object type is valid only if it names each of its interfaces once
+  -- (section 3.6)
   abbrev pub DuplicateImplementsInterfaceInObjectIn : ℕ → BuildFault → Type 0
   DuplicateImplementsInterfaceInObjectIn = RepeatedIn kind.Object (λ p. p.interfaces) given_name (λ x. x.place) DuplicateImplementsInterfaceInObject
 
+  -- DuplicateImplementsInterfaceInInterface: an interface type is valid only if it names each of its interfaces once
+  -- (section 3.7)
   abbrev pub DuplicateImplementsInterfaceInInterfaceIn : ℕ → BuildFault → Type 0
   DuplicateImplementsInterfaceInInterfaceIn = RepeatedIn kind.Interface (λ p. p.interfaces) given_name (λ x. x.place) DuplicateImplementsInterfaceInInterface
 
+  -- ObjectFieldNameCollision: an object type is valid only if its fields differ in name (section 3.6)
   abbrev pub ObjectFieldNameCollisionIn : ℕ → BuildFault → Type 0
   ObjectFieldNameCollisionIn = RepeatedIn kind.Object (λ p. p.fields) field_key (λ x. x.place) ObjectFieldNameCollision
 
+  -- InterfaceFieldNameCollision: an interface type is valid only if its fields differ in name (section 3.7)
   abbrev pub InterfaceFieldNameCollisionIn : ℕ → BuildFault → Type 0
   InterfaceFieldNameCollisionIn = RepeatedIn kind.Interface (λ p. p.fields) field_key (λ x. x.place) InterfaceFieldNameCollision
 
+  -- EnumValueNameCollision: an enum type is valid only if its values differ in name (section 3.9)
   abbrev pub EnumValueNameCollisionIn : ℕ → BuildFault → Type 0
   EnumValueNameCollisionIn = RepeatedIn kind.Enum (λ p. p.values) value_key (λ x. x.place) EnumValueNameCollision
 
+  -- UnionMemberNameCollision: a union type is valid only if it names each of its members once (section 3.8)
   abbrev pub UnionMemberNameCollisionIn : ℕ → BuildFault → Type 0
   UnionMemberNameCollisionIn = RepeatedIn kind.Union (λ p. p.members) given_name (λ x. x.place) UnionMemberNameCollision
 
+  -- InputFieldNameCollision: an input object type is valid only if its fields differ in name (section 3.10)
   abbrev pub InputFieldNameCollisionIn : ℕ → BuildFault → Type 0
   InputFieldNameCollisionIn = RepeatedIn kind.InputObject (λ p. p.inputs) input_key (λ x. x.place) InputFieldNameCollision
 

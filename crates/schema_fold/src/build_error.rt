@@ -89,12 +89,19 @@ impl Drop for BuildError {
 /// The rules that a second component of one name breaks.
 #[derive(Clone, Copy)]
 pub enum Repeat {
+    /// An object type is valid only if it names each of its interfaces once (section 3.6).
     ObjectInterface,
+    /// An interface type is valid only if it names each of its interfaces once (section 3.7).
     InterfaceInterface,
+    /// An object type is valid only if its fields differ in name (section 3.6).
     ObjectField,
+    /// An interface type is valid only if its fields differ in name (section 3.7).
     InterfaceField,
+    /// An enum type is valid only if its values differ in name (section 3.9).
     EnumValue,
+    /// A union type is valid only if it names each of its members once (section 3.8).
     UnionMember,
+    /// An input object type is valid only if its fields differ in name (section 3.10).
     InputField,
 }
 

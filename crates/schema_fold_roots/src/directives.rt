@@ -95,7 +95,8 @@ fn keep_directive(
     insert_directive(kept, name, node)
 }
 
-/// Directives have names of their own (section 3.13): this definition is told, which has that of an earlier one.
+/// DirectiveDefinitionCollision: a directive definition is valid only if no earlier one has its name (section 3.13). This
+/// definition is told, which has that of an earlier one.
 fn directive_definition_collision(
     name: &Name,
     location: Option<SourceSpan>,

@@ -83,7 +83,8 @@ fn keep_root(
     Ok(())
 }
 
-/// An operation has one root at most (section 3.3.1): this one is told, which stands behind another.
+/// DuplicateRootOperation: a schema is valid only if it gives each operation at most one root (section 3.3.1). This one is
+/// told, which stands behind another.
 fn duplicate_root_operation(
     operation_type: OperationType,
     location: Option<SourceSpan>,

@@ -111,7 +111,8 @@ fn is_defined(built_in: &Seen, before: &Before<'_>, name: &Name) -> bool
     built_in.kind(name).is_some() || before.defines(name)
 }
 
-/// An operation or a fragment is no definition of a schema (section 3): this one is told.
+/// ExecutableDefinition: a schema document is valid only if it holds no operation and no fragment (section 3). This one is
+/// told.
 fn executable_definition(
     location: Option<SourceSpan>,
     faults: &mut Vec<(Option<SourceSpan>, BuildError)>,
@@ -121,7 +122,8 @@ fn executable_definition(
     tell(faults, location, BuildError::ExecutableDefinition)
 }
 
-/// There is one schema definition at most (section 3.3): this one is told, which stands behind another.
+/// SchemaDefinitionCollision: a schema is valid only if it is defined at most once (section 3.3). This one is told, which
+/// stands behind another.
 fn schema_definition_collision(
     location: Option<SourceSpan>,
     faults: &mut Vec<(Option<SourceSpan>, BuildError)>,
@@ -131,7 +133,8 @@ fn schema_definition_collision(
     tell(faults, location, BuildError::SchemaDefinitionCollision)
 }
 
-/// Types have names of their own (section 3.4): this one is told, which has that of an earlier one.
+/// TypeDefinitionCollision: a type definition is valid only if no earlier one has its name (section 3.4). This one is told,
+/// which has that of an earlier one.
 fn type_definition_collision(
     name: &Name,
     location: Option<SourceSpan>,
@@ -147,7 +150,8 @@ fn type_definition_collision(
     )
 }
 
-/// Built-in scalars are not defined again (section 3.5): this definition of one is told.
+/// BuiltInScalarTypeRedefinition: a type definition is valid only if no built-in scalar has its name (section 3.5). This
+/// definition of one is told.
 fn built_in_scalar_type_redefinition(
     name: &Name,
     location: Option<SourceSpan>,

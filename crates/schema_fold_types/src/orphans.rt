@@ -77,7 +77,8 @@ fn tell_type_extension(
     }
 }
 
-/// A schema that is extended is defined (section 3.3.2): this extension is told, whose schema is not.
+/// OrphanSchemaExtension: a schema extension is valid only if the schema is defined (section 3.3.2). This extension is
+/// told, whose schema is not.
 fn orphan_schema_extension(
     location: Option<SourceSpan>,
     faults: &mut Vec<(Option<SourceSpan>, BuildError)>,
@@ -87,7 +88,8 @@ fn orphan_schema_extension(
     tell(faults, location, BuildError::OrphanSchemaExtension)
 }
 
-/// A type that is extended is defined (section 3.4.3): this extension is told, whose type is not.
+/// OrphanTypeExtension: a type extension is valid only if its type is defined (section 3.4.3). This extension is told,
+/// whose type is not.
 fn orphan_type_extension(
     name: &Name,
     location: Option<SourceSpan>,
@@ -99,7 +101,8 @@ fn orphan_type_extension(
     tell(faults, location, BuildError::OrphanTypeExtension { name })
 }
 
-/// An extension is of the kind of its type (sections 3.5 to 3.10): this one is told, which is of another.
+/// TypeExtensionKindMismatch: a type extension is valid only if it is of the kind of its type (sections 3.5 to 3.10). This
+/// one is told, which is of another.
 fn type_extension_kind_mismatch(
     name: &Name,
     location: Option<SourceSpan>,
