@@ -125,7 +125,8 @@ impl Schema {
     {
         match Schema::builder(alloc).build() {
             Ok((schema, _)) => Ok(schema),
-            Err(_) => Err(AllocError),
+            Err(BuilderRefusal::Memory) => Err(AllocError),
+            Err(BuilderRefusal::Spent | BuilderRefusal::Failed) => unreachable!(),
         }
     }
 
