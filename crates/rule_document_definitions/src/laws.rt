@@ -2,8 +2,9 @@
 
 ghost use Rattle.rule_document_definitions.specs.Laws.{SameDocumentVerdict, SameBounds, SameFieldSetVerdict, SameVerdictAlone, MergesByContents, RulesWithoutPlaces, MergingWithoutPlaces, SetRulesWithoutPlaces, RulesAloneWithoutPlaces, BoundsWithoutPlaces, SetBoundsWithoutPlaces, ValidWhereNothingIsTold, MergesWhereNothingIsTold, SetValidWhereNothingIsTold, ValidAloneWhereNothingIsTold, WithinBoundsWhereNothingIsTold, SetWithinBoundsWhereNothingIsTold};
 
-/// Documents that are equal, under schemas that are equal with the same built in, get the same verdict and pass the same
-/// bounds, whatever the rules are; field sets and documents without a schema likewise.
+/// Documents that are equal, with their operations and fragments in the same order, get the same verdict under schemas that
+/// are equal with the same built in, and pass the same bounds, whatever the rules are; field sets and documents without a
+/// schema likewise.
 pub fn equal_documents_same_verdict()
     ensures verdict { SameDocumentVerdict }
     ensures bounds { SameBounds }
