@@ -8,13 +8,13 @@ use std::io::ErrorKind;
 pub enum Ending {
     /// Each call fails, with an error of this kind.
     Fails(ErrorKind),
-    /// One call fails, with an error of this kind, and those after it hand on again.
+    /// One call fails, with an error of this kind; the calls after it pass bytes on again.
     FailsOnce(ErrorKind),
     /// A write takes nothing, and a read fails with an error of the kind `Other`.
     TakesNothing,
 }
 
-/// A reader or a writer that hands on at most a set number of bytes a call, and a set number in all. After
+/// A reader or a writer that passes on at most a set number of bytes a call, and a set number in all. After
 /// these it ends as it is told. It counts its calls of `read` and `write`.
 #[derive(Drop)]
 pub struct Cut<D> {

@@ -10,7 +10,7 @@ use std::io;
 use std::io::{Error, ErrorKind, Read, Write};
 
 impl<D> Cut<D> {
-    /// Hands on at most `most` bytes a call, which is not 0, and `total` bytes in all.
+    /// Passes on at most `most` bytes a call, which is not 0, and `total` bytes in all.
     pub fn new(inner: D, most: usize, total: usize, ending: Ending) -> Self
         requires { 0 < most }
         ensures inner { cut_inner result ≡ inner }
@@ -54,7 +54,7 @@ impl<D> Cut<D> {
         }
     }
 
-    /// How many of `len` bytes a call hands on.
+    /// How many of `len` bytes a call passes on.
     fn share(&self, len: usize) -> usize
         ensures len { result ≤ len }
         ensures most { result ≤ cut_most self.now }
