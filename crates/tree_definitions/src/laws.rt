@@ -1,4 +1,4 @@
-//! What equality of definitions and of documents means: exactly that the trees are the same, places and sources aside.
+//! What equality of definitions and of documents means: exactly that the trees are the same apart from places and sources.
 ghost use Rattle.std.specs.Prelude.{◌≡◌, ◌↔◌, IsTrue};
 ghost use Rattle.tree_definitions.specs.DefinitionTree.{definition_tree, unplaced_definition, document_tree, unplaced_document};
 

@@ -72,7 +72,7 @@ fn put_further_directives<S: Sink>(sink: &mut S, directives: &[Node<Directive>])
     }
 }
 
-/// Directives behind something else. Public for the printers of the crates above.
+/// Directives after something else. Public for the printers of the crates above.
 pub fn put_directives<S: Sink>(sink: &mut S, directives: &DirectiveList)
     ensures { S.puts sink.old (directives_text (directives_tree directives.now)) sink.new }
 {

@@ -4,7 +4,7 @@ ghost use Rattle.std.specs.List.{prefix_len, list_all};
 ghost use Rattle.std.specs.Char.{is_ascii_digit};
 ghost use Rattle.tree_literals.specs.NumberSyntax.{is_digits, is_natural, without_minus, without_sign, is_exponent, is_float_tail};
 
-/// The bytes behind a `-`, if one stands first.
+/// The bytes after a `-`, if that comes first.
 pub fn without_minus(bytes: &[u8]) -> &[u8]
     ensures { result.now ≡ without_minus bytes.now }
 {
@@ -14,7 +14,7 @@ pub fn without_minus(bytes: &[u8]) -> &[u8]
     }
 }
 
-/// The bytes behind a `+` or `-`, if one stands first.
+/// The bytes after a `+` or `-`, if one of these comes first.
 fn without_sign(bytes: &[u8]) -> &[u8]
     ensures { result.now ≡ without_sign bytes.now }
 {
@@ -96,7 +96,7 @@ pub fn is_float_tail(bytes: &[u8]) -> bool
     }
 }
 
-/// Whether the bytes make a fraction, or a fraction and an exponent, behind a `.`.
+/// Whether the bytes make a fraction, or a fraction and an exponent, after a `.`.
 fn is_fraction_end(bytes: &[u8]) -> bool
     ensures { result ≡ is_float_tail (46 ∷ bytes.now) }
 {

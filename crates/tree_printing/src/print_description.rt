@@ -60,7 +60,7 @@ fn first_line_is_blank(text: &str) -> bool
     }
 }
 
-/// Whether the last line is not blank, and some line stands at the margin.
+/// Whether the last line is not blank, and some line begins at the margin.
 fn lines_end_well(text: &str) -> bool
     ensures { result ≡ (not (last_is_blank (text_lines text.now)) && list_any is_at_margin (text_lines text.now)) }
 {

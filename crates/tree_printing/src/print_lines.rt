@@ -45,7 +45,7 @@ pub fn put_start<S: Sink>(sink: &mut S, prefix: Option<&str>, level: &Level)
     }
 }
 
-/// A new line; a space where all stands on one line. Public for the printers of the crates above.
+/// A new line, or a space where the layout is one line. Public for the printers of the crates above.
 pub fn put_break<S: Sink>(sink: &mut S, prefix: Option<&str>, level: &Level)
     ensures { S.puts sink.old (break_text (option_copied prefix.entry) (level_depth level.now)) sink.new }
 {

@@ -25,7 +25,7 @@ fn put_further_names<S: Sink>(sink: &mut S, sign: &str, names: &[Name])
     }
 }
 
-/// Names behind a keyword, with a sign between each two. For the crates of definitions above.
+/// Names after a keyword, with a sign between each two. For the crates of definitions above.
 pub fn put_names<S: Sink>(sink: &mut S, keyword: &str, sign: &str, names: &[Name])
     ensures { S.puts sink.old (names_text keyword.now sign.now (map name_tree names.now)) sink.new }
 {
