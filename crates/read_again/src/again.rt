@@ -31,7 +31,7 @@ fn printed_document(alloc: Global, layout: Serialize<'_, Document>) -> Result<St
 
 /// Prints a type, and reads the text as one of this file, with at most `nesting` brackets open at once (section 2.11).
 ///
-/// The answer is the same type, places aside. `Nesting` comes only where so many brackets are not enough, so never where the
+/// The answer is the same type, apart from places. `Nesting` comes only where so many brackets are not enough, so never where the
 /// type is no deeper than that, `Memory` where memory ran out, and `Syntax` never.
 pub fn reread_type(
     alloc: Global,
@@ -50,7 +50,7 @@ pub fn reread_type(
 /// (section 2.2).
 ///
 /// Where the document can be written, and spaces and tabs alone begin its lines, the answer is a document of the same
-/// definitions, places aside. `Nesting` comes only where so many brackets are not enough, so never where the document is no
+/// definitions, apart from places. `Nesting` comes only where so many brackets are not enough, so never where the document is no
 /// deeper than that, `Memory` where memory ran out, and `Syntax` never.
 pub fn reread_document(
     alloc: Global,

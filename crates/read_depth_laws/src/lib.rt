@@ -41,7 +41,7 @@ pub fn depths_count_no_places()
     ensures selections { (trees : SelectionTrees Place) → selections_depth (unplaced_selections trees) ≡ selections_depth trees }
 {}
 
-/// Tokens whose trees are equal, places aside, nest equally deep.
+/// Tokens whose trees are equal, apart from places, nest equally deep.
 pub fn texts_of_equal_trees_nest_alike()
     ensures documents { (m : Meaning Place) → (other : Meaning Place) → NestAlike unplaced_document (Derives m) (Derives other) }
     ensures types { (m : Meaning Place) → (other : Meaning Place) → NestAlike unplaced_type (DerivesType m) (DerivesType other) }

@@ -40,7 +40,7 @@ fn optional_repeatable(tokens: &mut Source<'_>) -> Result<Option<()>, Stop>
     Ok(Some(expect(tokens, Terminal::Repeatable)?))
 }
 
-/// What stands behind the directives of a directive's definition: `"repeatable"? "on" DirectiveLocations`.
+/// What follows the directives of a directive's definition: `"repeatable"? "on" DirectiveLocations`.
 fn directive_end(
     alloc: Global,
     tokens: &mut Source<'_>,
@@ -53,7 +53,7 @@ fn directive_end(
     Ok((repeatable, locations))
 }
 
-/// What stands behind the arguments of a directive's definition: `Directives? "repeatable"? "on" DirectiveLocations`,
+/// What follows the arguments of a directive's definition: `Directives? "repeatable"? "on" DirectiveLocations`,
 /// without variables in the values.
 fn directive_tail(
     alloc: Global,
@@ -68,7 +68,7 @@ fn directive_tail(
     Ok((directives, repeatable, locations))
 }
 
-/// What stands behind the name of a directive:
+/// What follows the name of a directive:
 /// `ArgumentsDefinition? Directives? "repeatable"? "on" DirectiveLocations`.
 fn directive_rest(
     alloc: Global,
@@ -91,7 +91,7 @@ fn directive_rest(
     Ok((arguments, directives, repeatable, locations))
 }
 
-/// DirectiveDefinition, behind its description:
+/// DirectiveDefinition, after its description:
 /// `"directive" "@" Name ArgumentsDefinition? Directives? "repeatable"? "on" DirectiveLocations` (the directives go past
 /// October 2021).
 pub fn directive_definition(

@@ -26,7 +26,7 @@ use tree_directives::{DirectiveList, InputValueDefinition};
 use tree_literals::Type;
 use tree_type_members::FieldDefinition;
 
-/// What stands behind the arguments of a field: `":" Type Directives?`, without variables in its values.
+/// What follows the arguments of a field: `":" Type Directives?`, without variables in its values.
 fn field_end(
     alloc: Global,
     tokens: &mut Source<'_>,
@@ -41,7 +41,7 @@ fn field_end(
     Ok((ty, directives))
 }
 
-/// What stands behind the name of a field: `ArgumentsDefinition? ":" Type Directives?`.
+/// What follows the name of a field: `ArgumentsDefinition? ":" Type Directives?`.
 fn field_rest(
     alloc: Global,
     tokens: &mut Source<'_>,

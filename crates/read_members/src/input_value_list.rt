@@ -25,7 +25,7 @@ use std::alloc::Global;
 use tree_directives::{DirectiveList, InputValueDefinition};
 use tree_literals::{Type, Value};
 
-/// What stands behind the name of an input value: `":" Type DefaultValue? Directives?`, without variables in its values.
+/// What follows the name of an input value: `":" Type DefaultValue? Directives?`, without variables in its values.
 fn input_value_rest(
     alloc: Global,
     tokens: &mut Source<'_>,

@@ -68,7 +68,7 @@ fn directive_location(tokens: &mut Source<'_>) -> Result<DirectiveLocation, Stop
     Ok(location_named(text))
 }
 
-/// One more place behind `|`.
+/// One more place after `|`.
 fn next_location(tokens: &mut Source<'_>) -> Result<DirectiveLocation, Stop>
     ensures { Reads (λ x. x) (read.behind kinds.is_pipe reading.directive_location tokens.old) result tokens.new }
 {
@@ -86,7 +86,7 @@ fn first_location(tokens: &mut Source<'_>) -> Result<DirectiveLocation, Stop>
     directive_location(tokens)
 }
 
-/// The places behind those that are found, each behind `|`.
+/// The places that follow those found, each after `|`.
 fn other_locations(
     tokens: &mut Source<'_>,
     mut found: Vec<DirectiveLocation>,

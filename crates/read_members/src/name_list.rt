@@ -16,7 +16,7 @@ use read_tokens::{Source, Terminal};
 use read_values::{expect, name, next_is};
 use std::alloc::Global;
 
-/// One more name behind a mark.
+/// One more name after a mark.
 fn next_name(tokens: &mut Source<'_>, file: FileId, mark: Terminal) -> Result<Name, Stop>
     ensures { Reads name_tree (read.behind (kinds.is mark) (values.name (in_file file)) tokens.old) result tokens.new }
 {
@@ -34,7 +34,7 @@ fn first_name(tokens: &mut Source<'_>, file: FileId, mark: Terminal) -> Result<N
     name(tokens, file)
 }
 
-/// The names behind those that are found, each behind a mark.
+/// The names that follow those found, each after a mark.
 fn other_names(
     tokens: &mut Source<'_>,
     file: FileId,

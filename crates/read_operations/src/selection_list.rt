@@ -59,7 +59,7 @@ fn directives_and_any_set(
     Ok((directives, selections))
 }
 
-/// What stands behind the name of a field: `Arguments? Directives? SelectionSet?`.
+/// What follows the name of a field: `Arguments? Directives? SelectionSet?`.
 #[cycle(selection)]
 fn behind_name(
     alloc: Global,

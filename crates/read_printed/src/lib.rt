@@ -1,7 +1,7 @@
 //! What is printed reads as it was: printed pieces are tokens, and the grammar reads them as the tree that was printed.
 //!
 //! For the layers above: the text of a well-formed tree (`specs/WellFormed.antt`) is a text of its symbol, of this tree
-//! alone, places aside (`specs/ReadsAlone.antt`).
+//! alone, apart from places (`specs/ReadsAlone.antt`).
 //!
 //! Begin with `specs/ReadsAlone.antt`, then `specs/Printed.antt`, from which the proofs are put together.
 #![tactic(auto)]
@@ -31,13 +31,13 @@ ghost use Rattle.read_printed.specs.Definitions.{definition_well_formed};
 ghost use Rattle.read_printed.specs.SelectionsLayout.{selections_text};
 ghost use Rattle.read_printed.specs.ReadsAlone.{ReadsAlone};
 
-/// The text of a type whose names are names reads as it alone, places aside.
+/// The text of a type whose names are names reads as it alone, apart from places.
 pub fn printed_type_reads()
     ensures { (m : Meaning Place) → (tree : TypeTree Place) → type_well_formed tree ≡ true
         → ReadsAlone (DerivesType m) unplaced_type (type_text tree) (unplaced_type tree) }
 {}
 
-/// The text of a value that is well-formed and writable reads as it alone, places aside.
+/// The text of a value that is well-formed and writable reads as it alone, apart from places.
 pub fn printed_value_reads()
     ensures { (file : FileId) → (const : Const) → (tree : ValueTree Place) → value_well_formed tree ≡ true
         → value_writable const tree ≡ true
@@ -45,7 +45,7 @@ pub fn printed_value_reads()
 {}
 
 /// The text of an operation or a fragment that is well-formed and writable, on one line or on lines that white space
-/// begins, at any level, reads as it alone, places aside.
+/// begins, at any level, reads as it alone, apart from places.
 pub fn printed_operations_read()
     ensures operation { (file : FileId) → (at_start : Bool) → (prefix : Prefix) → (level : ℕ) → (tree : OperationTree Place)
         → is_white_prefix prefix ≡ true → operation_well_formed tree ≡ true → operation_writable tree ≡ true
@@ -55,16 +55,16 @@ pub fn printed_operations_read()
         → ReadsAlone (DerivesAs (fragment_definition (in_file file))) unplaced_fragment (fragment_text prefix tree level) (unplaced_fragment tree) }
 {}
 
-/// The text of selections without braces, of one at least, that are well-formed and writable, reads as them alone, places
-/// aside; under the same layouts.
+/// The text of selections without braces, of one at least, that are well-formed and writable, reads as them alone, apart
+/// from places; under the same layouts.
 pub fn printed_selections_read()
     ensures { (file : FileId) → (prefix : Prefix) → (level : ℕ) → (tree : SelectionTrees Place)
         → is_white_prefix prefix ≡ true → has_selection tree ≡ true → selections_well_formed tree ≡ true → selections_writable tree ≡ true
         → ReadsAlone (DerivesSelections (in_file file)) unplaced_selections (selections_text prefix tree level) (unplaced_selections tree) }
 {}
 
-/// The text of a document, of one definition at least, each well-formed and writable, reads as it alone, places aside; under
-/// the same layouts.
+/// The text of a document, of one definition at least, each well-formed and writable, reads as it alone, apart from places;
+/// under the same layouts.
 pub fn printed_document_reads()
     ensures { (file : FileId) → (prefix : Prefix) → (level : ℕ) → (tree : DefinitionTree Place) → (trees : List (DefinitionTree Place))
         → is_white_prefix prefix ≡ true → list_all definition_well_formed (tree ∷ trees) ≡ true → list_all definition_writable (tree ∷ trees) ≡ true
@@ -72,7 +72,7 @@ pub fn printed_document_reads()
 {}
 
 /// Two trees of one kind that are well-formed and writable have one text under a layout, on one line or on lines that white
-/// space begins, exactly where they are equal, places aside.
+/// space begins, exactly when they are equal, apart from places.
 pub fn equal_texts_are_of_equal_trees()
     ensures types { (a : TypeTree Place) → (b : TypeTree Place) → type_well_formed a ≡ true → type_well_formed b ≡ true
         → (type_text a ≡ type_text b) ↔ (unplaced_type a ≡ unplaced_type b) }

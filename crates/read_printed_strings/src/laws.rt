@@ -1,4 +1,4 @@
-//! Laws of the definitions, each the contract of a function. In all of them `behind` is what stands behind the printed
+//! Laws of the definitions, each the contract of a function. In all of them `behind` is what follows the printed
 //! string.
 ghost use Rattle.std.specs.Prelude.{◌≡◌, ◌⊎◌, ℕ, true, List, [], ◌++◌};
 ghost use Rattle.read_tokens.specs.Strings.{string_value};
@@ -25,7 +25,7 @@ pub fn block_strings_are_read()
         → IsWhite prefix → block_value (block_text prefix level text) ≡ text → (text ≡ []) ⊎ (can_be_block_string text ≡ true) }
 {}
 
-/// What is printed of a description is one token and stands for its text, also with the end of its line behind it.
+/// What is printed of a description is one token and stands for its text, also with the end of its line after it.
 pub fn descriptions_are_read()
     ensures alone { (prefix : Prefix) → (level : ℕ) → (text : List ℕ) → (behind : List ℕ)
         → IsWhitePrefix prefix → MayFollow text behind → IsReadAs (description_string prefix level text) text behind }

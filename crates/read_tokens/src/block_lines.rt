@@ -21,7 +21,7 @@ fn terminator_len(bytes: &[u8]) -> usize
     }
 }
 
-/// The first line of a text, and what is behind its terminator.
+/// The first line of a text, and what follows its terminator.
 #[tactic(auto, using(crate::proofs::Lines::line_cut))]
 fn cut_bytes(bytes: &[u8]) -> (&[u8], &[u8])
     ensures cut { spec.Cut bytes.now result.0.now result.1.now }
@@ -42,7 +42,7 @@ fn first_line(text: &str) -> &str
     line
 }
 
-/// What is behind the terminator of the first line, which has this length.
+/// What follows the terminator of the first line, which has this length.
 #[tactic(auto, using(crate::proofs::Lines::line_cut, crate::proofs::Lines::line_boundary, crate::proofs::Lines::terminator_boundary))]
 fn behind_line(text: &str, line: usize) -> &str
     requires { line ≡ prefix_len is_in_line text.now }
@@ -157,7 +157,7 @@ fn push_line(out: &mut String, line: &str, indent: usize) -> Result<(), AllocErr
     out.push_str(without_indent(line, indent))
 }
 
-/// Adds the lines of a text without an indent, each behind a line feed, but for blank ones at the end.
+/// Adds the lines of a text without an indent, each after a line feed, but for blank ones at the end.
 fn push_kept(out: &mut String, text: &str, indent: usize) -> Result<(), AllocError>
     requires { spec.AtMost indent (blocks.common_indent (blocks.lines_of text.now)) }
     ensures { OnOk result (string_bytes out.new ≡ string_bytes out.old ++ spec.further_lines indent (blocks.without_blank_back (blocks.lines_of text.now))) }

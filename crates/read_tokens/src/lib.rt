@@ -1,8 +1,8 @@
 //! Tokens of GraphQL texts, and what the string tokens mean.
 //!
-//! [`next_token`] gives the token behind an offset. [`Source`] is a cursor for parsers: it shows the terminal symbols
+//! [`next_token`] gives the token after an offset. [`Source`] is a cursor for parsers: it shows the terminal symbols
 //! that are left of a text, and cuts each token when it comes. [`string_value`] and [`block_value`] give what a string
-//! stands for. The rules of tokens stand in `specs/Tokens`, texts and their lists of tokens in `specs/Lex`, what a
+//! stands for. The rules of tokens are in `specs/Tokens`, texts and their lists of tokens in `specs/Lex`, what a
 //! cursor shows in `specs/Input` and `specs/Cursor`.
 #![tactic(auto)]
 

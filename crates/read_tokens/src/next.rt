@@ -13,7 +13,7 @@ use graphql_names::TextPart;
 use std::alloc::AllocError;
 use std::rc::RcStr;
 
-/// Where the ignored pieces end that stand at an offset and behind one another.
+/// Where the ignored pieces end that begin at an offset and follow one another.
 pub(crate) fn past_ignored(text: &str, offset: usize) -> usize
     requires { offset ≤ length text.now }
     ensures place { result ≡ past_ignored text.now offset }
@@ -61,7 +61,7 @@ pub(crate) fn end_part(shared: &RcStr) -> Result<TextPart, AllocError>
 
 /// The next token of the text from the offset on, or that nothing is left, or that no token starts where one would have to.
 ///
-/// A token has at least one byte, and the text may be cut behind it: so its end is an offset from which to go on.
+/// A token has at least one byte, and the text may be cut after it: so its end is an offset from which to go on.
 pub fn next_token(text: &str, offset: usize) -> NextToken<'_>
     requires { IsCharBoundary text.now offset }
     ensures starts { StartsAt text.now (past_ignored text.now offset) result }

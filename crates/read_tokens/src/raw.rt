@@ -20,7 +20,7 @@ fn block_character_at(bytes: &[u8]) -> (&'static str, usize)
     }
 }
 
-/// Adds what the character stands for that begins the text, and gives the text behind it.
+/// Adds what the character stands for that begins the text, and gives the text after it.
 fn push_character<'a>(out: &mut String, text: &'a str) -> Result<&'a str, AllocError>
     requires { begins_with (92 ∷ []) text.now ≡ true }
     ensures pushed { OnOk result (string_bytes out.new ≡ string_bytes out.old ++ (block_character_at text.now).0) }

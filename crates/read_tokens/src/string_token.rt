@@ -8,7 +8,7 @@ ghost use Rattle.read_tokens.specs.Runs as runs;
 
 use crate::search::len_before_two;
 
-/// What a letter behind `\` stands for.
+/// What a letter after `\` stands for.
 fn escaped(byte: u8) -> Option<char>
     ensures { result ≡ spec.escaped byte }
 {
@@ -59,7 +59,7 @@ fn unicode_at(bytes: &[u8]) -> Option<char>
     char::from_u32(a * 4096 + b * 256 + c * 16 + d)
 }
 
-/// The character that an escape stands for, and how many bytes it takes behind its `\`.
+/// The character that an escape stands for, and how many bytes it takes after its `\`.
 #[tactic(auto, unfolding(crate::specs::Strings::escape_at))]
 pub(crate) fn escape_at(bytes: &[u8]) -> Option<(char, usize)>
     ensures value { result ≡ spec.escape_at bytes.now }

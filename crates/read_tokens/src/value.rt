@@ -47,7 +47,7 @@ fn part_at(bytes: &[u8]) -> (char, usize)
     }
 }
 
-/// Adds what the escape stands for that begins the text, and gives the text behind it.
+/// Adds what the escape stands for that begins the text, and gives the text after it.
 fn push_part<'a>(out: &mut String, text: &'a str) -> Result<&'a str, AllocError>
     requires { begins_with (92 ∷ []) text.now ≡ true }
     ensures pushed { OnOk result (string_bytes out.new ≡ string_bytes out.old ++ (part_at text.now).0) }

@@ -24,7 +24,7 @@ use tree_directives::DirectiveList;
 use tree_literals::NamedType;
 use tree_type_members::FieldDefinition;
 
-/// What stands behind the name of an object or an interface: `ImplementsInterfaces? Directives? FieldsDefinition?`.
+/// What follows the name of an object or an interface: `ImplementsInterfaces? Directives? FieldsDefinition?`.
 fn fields_rest(
     alloc: Global,
     tokens: &mut Source<'_>,
@@ -88,7 +88,7 @@ pub fn interface_type(
     }))
 }
 
-/// What stands behind the name of a union: `Directives? UnionMemberTypes?`.
+/// What follows the name of a union: `Directives? UnionMemberTypes?`.
 fn union_rest(
     alloc: Global,
     tokens: &mut Source<'_>,

@@ -32,7 +32,7 @@ where
     Ok(Definition::from(Node::new_parsed(alloc, value, place)?))
 }
 
-/// SchemaDefinition or TypeDefinition, behind its description.
+/// SchemaDefinition or TypeDefinition, after its description.
 fn definition_kind(
     alloc: Global,
     tokens: &mut Source<'_>,

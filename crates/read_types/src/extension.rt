@@ -19,7 +19,7 @@ use read_values::{begin, expect, next_is, since};
 use std::alloc::{AllocError, Global};
 use tree_definitions::Definition;
 
-/// What an extension says behind `extend`, without a look at its parts.
+/// What an extension says after `extend`, without a look at its parts.
 fn extension_kind(
     alloc: Global,
     tokens: &mut Source<'_>,
@@ -34,7 +34,7 @@ fn extension_kind(
     type_definition(alloc, tokens, file, depth)
 }
 
-/// What an extension says behind `extend`, with at least one part.
+/// What an extension says after `extend`, with at least one part.
 #[tactic(auto, unfolding(read_grammar::specs::DocumentReading::extension))]
 fn extension(
     alloc: Global,

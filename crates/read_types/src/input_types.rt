@@ -42,7 +42,7 @@ pub fn scalar_type(
     }))
 }
 
-/// What stands behind the name of an enum: `Directives? EnumValuesDefinition?`.
+/// What follows the name of an enum: `Directives? EnumValuesDefinition?`.
 fn enum_rest(
     alloc: Global,
     tokens: &mut Source<'_>,
@@ -82,7 +82,7 @@ pub fn enum_type(
     }))
 }
 
-/// What stands behind the name of an input object: `Directives? InputFieldsDefinition?`.
+/// What follows the name of an input object: `Directives? InputFieldsDefinition?`.
 fn input_object_rest(
     alloc: Global,
     tokens: &mut Source<'_>,

@@ -10,7 +10,7 @@ use tree_input_types::{
     EnumTypeExtension, InputObjectTypeExtension, ScalarTypeExtension, SchemaExtension,
 };
 
-/// What a definition of the schema or of a type says behind its description, and an extension behind `extend`.
+/// What a definition of the schema or of a type says after its description, and an extension after `extend`.
 #[derive(Drop)]
 pub enum Kind {
     Schema(SchemaExtension),
@@ -76,7 +76,7 @@ fn input_object_has_part(parts: &InputObjectTypeExtension) -> bool
 }
 
 impl Kind {
-    /// Whether at least one part stands behind `schema`, or behind the type's name.
+    /// Whether at least one part follows `schema`, or the type's name.
     pub fn has_part(&self) -> bool
         ensures { result ≡ grammar.has_part (kind_tree self.now) }
     {

@@ -33,7 +33,7 @@ pub fn schema_definition(
     }))
 }
 
-/// SchemaExtension behind `extend` (section 3.3.2): `"schema" Directives? ("{" RootOperationTypeDefinition+ "}")?`.
+/// SchemaExtension after `extend` (section 3.3.2): `"schema" Directives? ("{" RootOperationTypeDefinition+ "}")?`.
 #[tactic(auto, unfolding(read_grammar::specs::TypeSystemReading::schema_extension))]
 pub fn schema_extension(
     alloc: Global,

@@ -32,7 +32,7 @@ fn bracketed(
     Ok(found)
 }
 
-/// A type without the mark `!` behind it.
+/// A type without the mark `!` after it.
 #[cycle(ty)]
 #[tactic(auto, using(tree_literals::proofs::Trees::type_tree_rules))]
 fn unmarked(
