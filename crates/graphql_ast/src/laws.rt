@@ -1,4 +1,4 @@
-//! What equality of each tree means: exactly that the trees are the same, places and sources aside.
+//! What equality of each tree means: exactly that the trees are the same apart from places and sources.
 ghost use Rattle.std.specs.Prelude.{◌≡◌, ◌↔◌, IsTrue};
 ghost use Rattle.tree_definitions.specs.in_type_members.TypeSystemTree.{enum_value_tree, field_definition_tree, unplaced_enum, unplaced_enum_value, unplaced_field_definition, unplaced_fields, unplaced_input_object, unplaced_scalar, unplaced_schema, unplaced_union};
 ghost use Rattle.tree_definitions.specs.in_composite_types.CompositeTree.{object_parts, object_extension_parts, interface_parts, interface_extension_parts, union_parts, union_extension_parts};

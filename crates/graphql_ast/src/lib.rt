@@ -1,10 +1,10 @@
-//! Definitions, documents and their printer: the trees of whole texts, and the face of the crates that they stand in.
+//! Definitions, documents and their printer: the trees of whole texts, and the face of the crates that have them.
 //!
 //! For the layer above: contracts see a definition as a plain tree (`specs/DefinitionTree.antt` of
 //! `tree_definitions`); equality and hash are those of the trees without places and sources; what is printed is the
 //! layout of the tree.
 //!
-//! The trees stand in `tree_type_members`, `tree_composite_types`, `tree_input_types` and
+//! The trees are in `tree_type_members`, `tree_composite_types`, `tree_input_types` and
 //! `tree_definitions`; here are the laws of equality, and the names of everything that a caller needs.
 #![tactic(auto)]
 

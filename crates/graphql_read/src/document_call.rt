@@ -23,7 +23,7 @@ use std::alloc::{AllocError, Global};
 use std::rc::RcStr;
 use tree_definitions::{Definition, Document, SourceFile};
 
-/// Document, and nothing behind it.
+/// Document, and nothing after it.
 #[tactic(auto, unfolding(read_grammar::specs::DocumentReading::document))]
 fn whole_document(
     alloc: Global,

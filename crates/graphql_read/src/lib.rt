@@ -7,8 +7,9 @@
 //!   the file is another than that of the built-in definitions;
 //! - `only`: where the text has a tree within the limit, that tree is answered, or that memory ran out;
 //! - `fault`: the fault answered is due, and is the earliest: some text of the symbol begins with the tokens before it;
-//! - `within`: it stands in the text, `End` where that ends and each other before;
-//! - `bound`: a tree is answered only where no front of the text nests brackets deeper than the limit, `Nesting` only where one does.
+//! - `within`: it is in the text: `End` where that ends, each other fault before;
+//! - `bound`: a tree is answered only where no prefix of the text nests brackets deeper than the limit, `Nesting` only where one
+//!   does.
 //!
 //! The one source of a document is its text, under the number of its file and without a path (`sources`).
 //!

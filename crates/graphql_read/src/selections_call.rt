@@ -19,7 +19,7 @@ use std::alloc::Global;
 use std::rc::RcStr;
 use tree_operations::Selection;
 
-/// `Selection+`, and nothing behind it.
+/// `Selection+`, and nothing after it.
 fn whole_selections(
     alloc: Global,
     tokens: &mut Source<'_>,

@@ -20,7 +20,7 @@ use std::alloc::Global;
 use std::rc::RcStr;
 use tree_literals::Type;
 
-/// Type, and nothing behind it.
+/// Type, and nothing after it.
 fn whole_type(
     alloc: Global,
     tokens: &mut Source<'_>,

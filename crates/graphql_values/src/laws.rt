@@ -1,4 +1,4 @@
-//! Laws of the trees, each on the contract of a call: assignable types are ordered, what is written through a borrow stands in
+//! Laws of the trees, each on the contract of a call: assignable types are ordered, what is written through a borrow is in
 //! the list, and `==` is the sameness of two trees whatever their places.
 ghost use Rattle.std.specs.Prelude.{◌≡◌, ◌↔◌, IsTrue, IfOk, None, Some, if◌then◌else◌, filter, is_some, slice_get};
 ghost use Rattle.tree_operations.specs.in_directives.DirectiveNodes.{node_has_name};
@@ -34,98 +34,98 @@ pub fn integers_come_back(alloc: Global, number: i32) -> Result<Option<i32>, All
     Ok(IntValue::from_i32(alloc, number)?.try_to_i32())
 }
 
-/// Whether two references to types are the same, places aside: what `==` answers.
+/// Whether two references to types are the same apart from places: what `==` answers.
 pub fn equal_types(a: &Type, b: &Type) -> bool
     ensures { IsTrue result ↔ (unplaced_type (type_tree a.now) ≡ unplaced_type (type_tree b.now)) }
 {
     *a == *b
 }
 
-/// Whether two values are the same, places aside: what `==` answers.
+/// Whether two values are the same apart from places: what `==` answers.
 pub fn equal_values(a: &Value, b: &Value) -> bool
     ensures { IsTrue result ↔ (unplaced_value (value_tree a.now) ≡ unplaced_value (value_tree b.now)) }
 {
     *a == *b
 }
 
-/// Whether two arguments are the same, places aside: what `==` answers.
+/// Whether two arguments are the same apart from places: what `==` answers.
 pub fn equal_arguments(a: &Argument, b: &Argument) -> bool
     ensures { IsTrue result ↔ (unplaced_argument (argument_tree a.now) ≡ unplaced_argument (argument_tree b.now)) }
 {
     *a == *b
 }
 
-/// Whether two directives are the same, places aside: what `==` answers.
+/// Whether two directives are the same apart from places: what `==` answers.
 pub fn equal_directives(a: &Directive, b: &Directive) -> bool
     ensures { IsTrue result ↔ (unplaced_directive (directive_tree a.now) ≡ unplaced_directive (directive_tree b.now)) }
 {
     *a == *b
 }
 
-/// Whether two lists of directives are the same, places aside: what `==` answers.
+/// Whether two lists of directives are the same apart from places: what `==` answers.
 pub fn equal_directive_lists(a: &DirectiveList, b: &DirectiveList) -> bool
     ensures { IsTrue result ↔ (unplaced_directives (directives_tree a.now) ≡ unplaced_directives (directives_tree b.now)) }
 {
     *a == *b
 }
 
-/// Whether two definitions of input values are the same, places aside: what `==` answers.
+/// Whether two definitions of input values are the same apart from places: what `==` answers.
 pub fn equal_input_values(a: &InputValueDefinition, b: &InputValueDefinition) -> bool
     ensures { IsTrue result ↔ (unplaced_input_value (input_value_tree a.now) ≡ unplaced_input_value (input_value_tree b.now)) }
 {
     *a == *b
 }
 
-/// Whether two definitions of directives are the same, places aside: what `==` answers.
+/// Whether two definitions of directives are the same apart from places: what `==` answers.
 pub fn equal_directive_definitions(a: &DirectiveDefinition, b: &DirectiveDefinition) -> bool
     ensures { IsTrue result ↔ (unplaced_directive_definition (directive_definition_tree a.now) ≡ unplaced_directive_definition (directive_definition_tree b.now)) }
 {
     *a == *b
 }
 
-/// Whether two definitions of variables are the same, places aside: what `==` answers.
+/// Whether two definitions of variables are the same apart from places: what `==` answers.
 pub fn equal_variable_definitions(a: &VariableDefinition, b: &VariableDefinition) -> bool
     ensures { IsTrue result ↔ (unplaced_variable_definition (variable_definition_tree a.now) ≡ unplaced_variable_definition (variable_definition_tree b.now)) }
 {
     *a == *b
 }
 
-/// Whether two selections are the same, places aside: what `==` answers.
+/// Whether two selections are the same apart from places: what `==` answers.
 pub fn equal_selections(a: &Selection, b: &Selection) -> bool
     ensures { IsTrue result ↔ (unplaced_selection (selection_tree a.now) ≡ unplaced_selection (selection_tree b.now)) }
 {
     *a == *b
 }
 
-/// Whether two fields are the same, places aside: what `==` answers.
+/// Whether two fields are the same apart from places: what `==` answers.
 pub fn equal_fields(a: &Field, b: &Field) -> bool
     ensures { IsTrue result ↔ (unplaced_selection (field_tree None a.now) ≡ unplaced_selection (field_tree None b.now)) }
 {
     *a == *b
 }
 
-/// Whether two fragment spreads are the same, places aside: what `==` answers.
+/// Whether two fragment spreads are the same apart from places: what `==` answers.
 pub fn equal_fragment_spreads(a: &FragmentSpread, b: &FragmentSpread) -> bool
     ensures { IsTrue result ↔ (unplaced_selection (spread_tree None a.now) ≡ unplaced_selection (spread_tree None b.now)) }
 {
     *a == *b
 }
 
-/// Whether two inline fragments are the same, places aside: what `==` answers.
+/// Whether two inline fragments are the same apart from places: what `==` answers.
 pub fn equal_inline_fragments(a: &InlineFragment, b: &InlineFragment) -> bool
     ensures { IsTrue result ↔ (unplaced_selection (inline_tree None a.now) ≡ unplaced_selection (inline_tree None b.now)) }
 {
     *a == *b
 }
 
-/// Whether two operations are the same, places aside: what `==` answers.
+/// Whether two operations are the same apart from places: what `==` answers.
 pub fn equal_operations(a: &OperationDefinition, b: &OperationDefinition) -> bool
     ensures { IsTrue result ↔ (unplaced_operation (operation_tree a.now) ≡ unplaced_operation (operation_tree b.now)) }
 {
     *a == *b
 }
 
-/// Whether two fragments are the same, places aside: what `==` answers.
+/// Whether two fragments are the same apart from places: what `==` answers.
 pub fn equal_fragments(a: &FragmentDefinition, b: &FragmentDefinition) -> bool
     ensures { IsTrue result ↔ (unplaced_fragment (fragment_tree a.now) ≡ unplaced_fragment (fragment_tree b.now)) }
 {
