@@ -23,7 +23,7 @@ use schema_coordinates::{
 use tree_directives::{DirectiveDefinition, InputValueDefinition};
 use tree_type_members::{EnumValueDefinition, FieldDefinition};
 
-/// The look-up of a type.
+/// The lookup of a type.
 pub trait TypeCoordinateExt {
     /// The type.
     fn lookup<'coord, 'schema>(
@@ -43,7 +43,7 @@ impl TypeCoordinateExt for TypeCoordinate {
     }
 }
 
-/// The look-ups of a field, an input field or an enum value.
+/// The lookup of a field, an input field or an enum value.
 pub trait TypeAttributeCoordinateExt {
     /// The field, input field or enum value.
     fn lookup<'coord, 'schema>(
@@ -117,7 +117,7 @@ impl TypeAttributeCoordinateExt for TypeAttributeCoordinate {
     }
 }
 
-/// The look-up of an argument of a field.
+/// The lookup of an argument of a field.
 pub trait FieldArgumentCoordinateExt {
     /// The definition of the argument.
     fn lookup<'coord, 'schema>(
@@ -140,7 +140,7 @@ impl FieldArgumentCoordinateExt for FieldArgumentCoordinate {
     }
 }
 
-/// The look-up of a directive.
+/// The lookup of a directive.
 pub trait DirectiveCoordinateExt {
     /// The definition of the directive.
     fn lookup<'coord, 'schema>(
@@ -160,7 +160,7 @@ impl DirectiveCoordinateExt for DirectiveCoordinate {
     }
 }
 
-/// The look-up of an argument of a directive.
+/// The lookup of an argument of a directive.
 pub trait DirectiveArgumentCoordinateExt {
     /// The definition of the argument.
     fn lookup<'coord, 'schema>(
@@ -186,7 +186,7 @@ impl DirectiveArgumentCoordinateExt for DirectiveArgumentCoordinate {
     }
 }
 
-/// The look-up of whatever a coordinate names.
+/// The lookup of whatever a coordinate names.
 pub trait SchemaCoordinateExt {
     /// What it names.
     fn lookup<'coord, 'schema>(

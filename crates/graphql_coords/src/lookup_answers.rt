@@ -1,4 +1,4 @@
-//! What look-ups answer.
+//! What a lookup answers.
 ghost use Rattle.std.specs.Prelude.{◌≡◌};
 ghost use Rattle.graphql_coords.specs.LookUps.{NamedAttribute};
 ghost use Rattle.graphql_coords.specs.LookUpView.{attribute_of, named_of};

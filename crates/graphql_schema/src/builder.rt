@@ -27,7 +27,7 @@ use schema_fold_lists::{BuildError, fold_list};
 use schema_writing::Document;
 use std::alloc::{AllocError, Global};
 
-/// Takes the definitions of documents, and builds the schema of them all behind what is built in.
+/// Takes the definitions of documents, and builds the schema of them all after what is built in.
 ///
 /// Contracts see it by `builder_value` alone: the definitions that were added, in order, with the number of the first
 /// extension, the sources, the settings, and whether memory or numbers ran out.
@@ -78,7 +78,7 @@ impl SchemaBuilder {
         }
     }
 
-    /// Adds the definitions and the sources of a document behind the others.
+    /// Adds the definitions and the sources of a document after the others.
     ///
     /// Where memory or numbers run out it answers so, and from then on [`BuilderRefusal::Failed`].
     pub fn add_ast(&mut self, document: &Document) -> Result<(), BuilderRefusal>
@@ -98,8 +98,8 @@ impl SchemaBuilder {
         self.building.iter_orphan_extension_types()
     }
 
-    /// The schema that the definitions fold to, behind what is built in, and each way in which a folding rule is
-    /// broken. Each thing of the schema stands under its own name.
+    /// The schema that the definitions fold to, after what is built in, and each way in which a folding rule is
+    /// broken. Each thing of the schema is under its own name.
     pub fn build(self) -> Result<(Schema, Vec<(Option<SourceSpan>, BuildError)>), BuilderRefusal>
         ensures running { OnOk result ((builder_value self).failed ≡ false) }
         ensures schema { IfOk result (λ r. schema_tree r.0 ≡ folded (builder_value self)) }

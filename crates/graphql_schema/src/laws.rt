@@ -1,4 +1,4 @@
-//! What equality of schemas means: exactly that they are the same, places, origins, sources and order aside. And the
+//! What equality of schemas means: exactly that they are the same apart from places, origins, sources and order. And the
 //! subtypes of an interface are its implementers; what fields a type has is a fact of the schema without places; and no
 //! two things of one kind have one name.
 ghost use Rattle.std.specs.Prelude.{◌≡◌, ◌↔◌, IsTrue};
@@ -18,7 +18,7 @@ pub fn equal_schemas(a: &Schema, b: &Schema) -> bool
     *a == *b
 }
 
-/// `is_subtype` is true of an interface and a name exactly where `implementers_map` has the name under the interface.
+/// `is_subtype` is true of an interface and a name exactly when `implementers_map` has the name under the interface.
 pub fn subtypes_are_implementers(schema: &Schema)
     ensures { SubtypesAreImplementers (schema_tree schema.now) }
 {
@@ -26,7 +26,7 @@ pub fn subtypes_are_implementers(schema: &Schema)
     let _count = schema.types.len();
 }
 
-/// The fields that `type_field` finds, places and origins aside, are those of the schema without places and order.
+/// The fields that `type_field` finds are, apart from places and origins, those of the schema without places and order.
 pub fn fields_are_plain(schema: &Schema)
     ensures { FieldsArePlain (schema_tree schema.now) }
 {

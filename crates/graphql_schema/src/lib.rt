@@ -1,12 +1,12 @@
-//! Schemas: look-ups in the types, directive definitions and roots that definitions and extensions give.
+//! Schemas: lookup in the types, directive definitions and roots that definitions and extensions give.
 //!
-//! For the layer above: contracts see a schema as one tree (`specs/SchemaOf.antt`), look-ups answer by its entries
+//! For the layer above: contracts see a schema as one tree (`specs/SchemaOf.antt`), each lookup answers by its entries
 //! (`specs/LookUps.antt`), and `==` decides whether two schemas are the same without places, origins and order.
 //!
 //! A builder gives the fold of the definitions that were added, with each way in which a folding rule is broken
 //! (`builder.rt`), and `to_ast` gives the definitions that are written of a schema.
 //!
-//! Types and components stand in `schema_types` and `schema_components`, a builder's state in
+//! Types and components are in `schema_types` and `schema_components`, a builder's state in
 //! `schema_building`, the fold in `schema_fold_lists`, the write-out in `schema_writing`; here are
 //! the whole schema, and the names of everything that a caller needs. Begin with `schema.rt` and `builder.rt`.
 #![tactic(auto)]

@@ -74,7 +74,7 @@ impl Building {
         building
     }
 
-    /// Adds the definitions and the sources of a document behind the others.
+    /// Adds the definitions and the sources of a document after the others.
     ///
     /// Where memory or numbers run out it answers so, and from then on [`BuilderRefusal::Failed`].
     pub fn add_ast(&mut self, document: &Document) -> Result<(), BuilderRefusal>
@@ -106,7 +106,7 @@ impl Building {
         OrphanExtensionTypes::of(&self.texts.index)
     }
 
-    /// Gives up the list of definitions that counts, behind what is built in, with its index, and the sources.
+    /// Gives up the list of definitions that counts, after what is built in, with its index, and the sources.
     pub fn settle(self) -> Result<SettledList, BuilderRefusal>
         ensures running { OnOk result ((builder_view self).failed ≡ false) }
         ensures list { IfOk result (λ s. map listed_view s.list.items ≡ numbered (builder_view self).first (built_in_definitions ++ counted (builder_view self))) }

@@ -13,7 +13,7 @@ use tree_composite_types::{InterfaceTypeDefinition, ObjectTypeDefinition, UnionT
 use tree_directives::DirectiveList;
 use tree_input_types::{EnumTypeDefinition, InputObjectTypeDefinition, ScalarTypeDefinition};
 
-/// Puts the definition of a type of that kind and name, with nothing in it and no place, behind the others of a list.
+/// Adds the definition of a type of that kind and name, with nothing in it and no place, after the others of a list.
 pub(crate) fn push_empty_type(
     alloc: Global,
     kind: TypeKind,
@@ -87,7 +87,7 @@ pub(crate) fn push_empty_type(
     }
 }
 
-/// Puts a definition of this content and no place, which is no extension, behind the others of a list.
+/// Adds a definition of this content and no place, which is no extension, after the others of a list.
 pub(crate) fn push_unplaced<T: Drop>(
     alloc: Global,
     value: T,

@@ -49,8 +49,8 @@ pub(crate) fn settle(
     Ok(built_in)
 }
 
-/// The index of the texts of a settled list: that of those added, with what is adopted filed behind them. Where
-/// redefinitions were passed over, the list is filed anew.
+/// The index of the texts of a settled list: that of those added, with what is adopted filed after them. Where
+/// redefinitions were passed over, the list is filed again.
 pub(crate) fn settled_index(
     alloc: Global,
     ignores: bool,
@@ -72,7 +72,7 @@ pub(crate) fn settled_index(
     Ok(index)
 }
 
-/// Puts definitions that are no extensions behind the others of the list.
+/// Adds definitions that are no extensions after the others of the list.
 fn list_all(definitions: &[Definition], list: &mut Vec<Listed>) -> Result<(), AllocError>
     ensures { OnOk result (map listed_view list.new.items ≡ map listed_view list.old.items ++ map unnumbered (map definition_tree definitions.now)) }
 {
@@ -82,7 +82,7 @@ fn list_all(definitions: &[Definition], list: &mut Vec<Listed>) -> Result<(), Al
     Ok(())
 }
 
-/// Puts the definitions of the texts behind the others of the list, shared. Redefinitions are passed over, where
+/// Adds the definitions of the texts after the others of the list, shared. Redefinitions are passed over, where
 /// they are ignored.
 fn keep_texts(ignores: bool, texts: &[Listed], list: &mut Vec<Listed>) -> Result<(), AllocError>
     ensures { OnOk result (map listed_view list.new.items ≡ map listed_view list.old.items ++ filter (is_kept ignores) (map listed_view texts.now)) }

@@ -9,7 +9,7 @@ use indexmap::IndexMap;
 use schema_fold::SourceFile;
 use std::alloc::AllocError;
 
-/// Adds the sources of a document. One that has the number of an earlier one stands in its place.
+/// Adds the sources of a document. One that has the number of an earlier one replaces it.
 pub fn add_sources(
     sources: &mut IndexMap<FileId, SourceFile>,
     more: &IndexMap<FileId, SourceFile>,

@@ -23,7 +23,7 @@ pub struct Building {
     ghost kept: { IsKept texts failed },
 }
 
-/// Lets go what it keeps, here and not wherever a builder goes.
+/// Drops what it keeps, here and not at each place where a builder is dropped.
 impl Drop for Building {
     fn drop(self) {
         let Building {

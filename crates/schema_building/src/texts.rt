@@ -25,7 +25,7 @@ pub(crate) struct Texts {
 }
 
 impl Texts {
-    /// Puts a definition behind the others, with a number if it is an extension, and files it.
+    /// Adds a definition after the others, with a number if it is an extension, and files it.
     pub(crate) fn add(
         &mut self,
         alloc: Global,
@@ -41,7 +41,7 @@ impl Texts {
         Ok(())
     }
 
-    /// Puts a definition behind the others, with a number if it is an extension.
+    /// Adds a definition after the others, with a number if it is an extension.
     fn push(&mut self, definition: &Definition) -> Result<(), BuilderRefusal>
         ensures added { OnOk result (AddsDefinitions (definition_tree definition.now ∷ []) (texts_view self.old) (texts_view self.new)) }
         ensures behind { OnOk result (definitions self.new ≡ definitions self.old ++ definition_tree definition.now ∷ []) }
@@ -56,7 +56,7 @@ impl Texts {
     }
 }
 
-/// Puts a definition, shared, behind the others of a list.
+/// Adds a definition, shared, after the others of a list.
 pub(crate) fn push_shared(
     list: &mut Vec<Listed>,
     definition: &Definition,

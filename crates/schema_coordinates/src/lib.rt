@@ -2,7 +2,7 @@
 //! they are printed and how they are read. What they name in a schema is found by `graphql_coords`.
 //!
 //! For the layer above: contracts see a coordinate as one of five forms (`specs/Coordinate.antt`); a text is read
-//! exactly where it is printed for some coordinate.
+//! exactly when it is printed for some coordinate.
 //!
 //! Begin with `coordinate.rt` and `specs/Coordinate.antt`.
 #![tactic(auto)]

@@ -79,7 +79,7 @@ fn type_parts(text: &str) -> Option<Parts<'_>>
     }
 }
 
-/// Cuts what stands behind `@`.
+/// Cuts what follows `@`.
 fn directive_parts(text: &str) -> Option<Parts<'_>>
     ensures { option_map parts_view result ≡ directive_cut text.now }
 {
@@ -89,7 +89,7 @@ fn directive_parts(text: &str) -> Option<Parts<'_>>
     }
 }
 
-/// What stands before `:)`, if nothing stands behind it.
+/// What stands before `:)`, if nothing follows that.
 fn argument_part(text: &str) -> Option<&str>
     ensures { option_map (λ a. a.now) result ≡ argument_cut text.now }
 {
@@ -97,7 +97,7 @@ fn argument_part(text: &str) -> Option<&str>
     if rest == ")" { Some(argument) } else { None }
 }
 
-/// What stands before the first such sign, and what behind it.
+/// What stands before the first such sign, and what follows it.
 fn cut_at(text: &str, sign: char) -> Option<(&str, &str)>
     requires { sign < 128 }
     ensures { option_map (λ p. (p.0.now, p.1.now)) result ≡ cut_at sign text.now }

@@ -1,4 +1,4 @@
-//! Where the definitions and the extensions of types stand in a list, by the names of their types.
+//! The positions of the definitions and extensions of types in a list, by the names of the types.
 ghost use Rattle.std.specs.Prelude.{◌≡◌, ◌++◌, ◌∷◌, [], None, map, IfOk, OnOk};
 ghost use Rattle.indexmap.specs.IndexMap.{get};
 ghost use Rattle.schema_fold.specs.in_components.Names.{same_text};
@@ -36,7 +36,7 @@ impl Drop for Filed {
 }
 
 impl Filed {
-    /// Adds a position behind the others.
+    /// Adds a position after the others.
     fn add(&mut self, position: usize) -> Result<(), AllocError>
         ensures kind { self.new.kind ≡ self.old.kind }
         ensures first { self.new.first ≡ self.old.first }
@@ -84,7 +84,7 @@ impl Index {
         Ok(index)
     }
 
-    /// Files what the list has from that position on, behind what it has before.
+    /// Files what the list has from that position on, after what it has before.
     pub fn file_rest(
         &mut self,
         alloc: Global,
@@ -99,7 +99,7 @@ impl Index {
         Ok(())
     }
 
-    /// Files the definition or the extension of a type, which stands at that position, behind the others. Of other
+    /// Files the definition or the extension of a type, which has that position, after the others. Of other
     /// definitions nothing is filed.
     pub fn file(
         &mut self,
@@ -119,7 +119,7 @@ impl Index {
     }
 }
 
-/// Files a position under the name of a type, behind those that stand there.
+/// Files a position under the name of a type, after those that are there.
 fn file_under(
     alloc: Global,
     filed: &mut IndexMap<Name, Filed>,

@@ -1,4 +1,4 @@
-//! Where the definitions and the extensions of types stand in a list, by the names of their types.
+//! The positions of the definitions and extensions of types in a list, by the names of the types.
 //!
 //! For the layers above: the state of a schema builder keeps such an index of what was added to it
 //! (`schema_building`), and types are folded from it (`schema_fold_types`). What it has is said by positions in

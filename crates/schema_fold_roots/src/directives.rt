@@ -21,8 +21,8 @@ use schema_fold::{BuildError, Definition, Listed, insert_new, tell};
 use std::alloc::{AllocError, Global};
 use tree_directives::DirectiveDefinition;
 
-/// Folds the definitions of directives (section 3.13): the first of each name in the texts, which stands in the place
-/// of a built-in one of its name, and the other built-in ones. Tells each that is not the first of its name in the texts.
+/// Folds the definitions of directives (section 3.13): the first of each name in the texts, which replaces
+/// a built-in one of its name, and the other built-in ones. Tells each that is not the first of its name in the texts.
 pub fn fold_directives(
     alloc: Global,
     built_in: &[Listed],
@@ -80,7 +80,7 @@ fn keep_directives(
     Ok(kept)
 }
 
-/// Keeps a definition behind those before it, or tells that an earlier one has its name.
+/// Keeps a definition after those before it, or tells that an earlier one has its name.
 fn keep_directive(
     kept: &mut IndexMap<Name, Node<DirectiveDefinition>>,
     node: &Node<DirectiveDefinition>,

@@ -66,7 +66,7 @@ pub(crate) fn keep_roots(
     Ok(kept)
 }
 
-/// Keeps a root behind those before it, or tells that its operation has one.
+/// Keeps a root after those before it, or tells that its operation has one.
 fn keep_root(
     kept: &mut Roots,
     root: &Component<(OperationType, NamedType)>,
@@ -84,7 +84,7 @@ fn keep_root(
 }
 
 /// DuplicateRootOperation: a schema is valid only if it gives each operation at most one root (section 3.3.1). This one is
-/// told, which stands behind another.
+/// told: it comes after another.
 fn duplicate_root_operation(
     operation_type: OperationType,
     location: Option<SourceSpan>,

@@ -38,7 +38,7 @@ impl<'a> Before<'a> {
     }
 }
 
-/// Tells each definition of the texts that stands behind another one, or is none of a type system. Gives whether the
+/// Tells each definition of the texts that collides with an earlier one, or is none of a type system. Gives whether the
 /// texts define the schema.
 pub(crate) fn tell_collisions(
     built_in: &Seen,
@@ -64,7 +64,7 @@ pub(crate) fn tell_collisions(
     Ok(schema)
 }
 
-/// Tells what is wrong with a definition behind those that stand before it.
+/// Tells what is wrong with a definition, given those before it.
 fn tell_definition(
     built_in: &Seen,
     before: &Before<'_>,
@@ -85,7 +85,7 @@ fn tell_definition(
     }
 }
 
-/// Tells what is wrong with a type of that name behind those that stand before it.
+/// Tells what is wrong with a type of that name, given those before it.
 fn tell_type(
     built_in: &Seen,
     before: &Before<'_>,
@@ -122,8 +122,8 @@ fn executable_definition(
     tell(faults, location, BuildError::ExecutableDefinition)
 }
 
-/// SchemaDefinitionCollision: a schema is valid only if it is defined at most once (section 3.3). This one is told, which
-/// stands behind another.
+/// SchemaDefinitionCollision: a schema is valid only if it is defined at most once (section 3.3). This one is told:
+/// it comes after another.
 fn schema_definition_collision(
     location: Option<SourceSpan>,
     faults: &mut Vec<(Option<SourceSpan>, BuildError)>,

@@ -25,7 +25,7 @@ pub(crate) fn extensions_of(
     }
 }
 
-/// What stands at the positions that are filed, shared.
+/// The entries at the positions that are filed, shared.
 fn gather(alloc: Global, texts: &[Listed], filed: &Filed) -> Result<Vec<Listed>, AllocError>
     ensures { IfOk result (λ v. map listed_view v.items ≡ flat_map (listed_at (map listed_view texts.now)) (positions_of filed.now)) }
 {
@@ -37,7 +37,7 @@ fn gather(alloc: Global, texts: &[Listed], filed: &Filed) -> Result<Vec<Listed>,
     Ok(gathered)
 }
 
-/// Puts what stands at a position of the list behind the others, shared, if it is there.
+/// Adds the entry at a position of the list after the others, shared, if there is one.
 fn push_at(texts: &[Listed], position: usize, gathered: &mut Vec<Listed>) -> Result<(), AllocError>
     ensures { OnOk result (map listed_view gathered.new.items ≡ map listed_view gathered.old.items ++ listed_at (map listed_view texts.now) position) }
 {

@@ -1,5 +1,5 @@
-//! The fold of a list of definitions to types; and the folding rules that are judged by what stands at a position of the
-//! list: definitions behind others of their name, and extensions of what is not defined or is of another kind.
+//! The fold of a list of definitions to types; and the folding rules that are judged by the entry at a position of the
+//! list: definitions after others of their name, and extensions of what is not defined or is of another kind.
 //!
 //! For the layer above: the types, and the faults, are stated by positions in the whole list of definitions
 //! (`specs/Fold.antt` and `specs/BuildErrors.antt` of `schema_fold`); `specs/Misplaced.antt` puts the rules on

@@ -53,7 +53,7 @@ impl Seen {
         Ok(seen)
     }
 
-    /// Adds what is defined here, behind the others.
+    /// Adds what is defined here, after the others.
     pub(crate) fn add(&mut self, d: &Definition) -> Result<(), AllocError>
         ensures { OnOk result (Sees (seen_view self.old) (definition_tree d.now) (seen_view self.new)) }
     {

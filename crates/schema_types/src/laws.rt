@@ -1,4 +1,4 @@
-//! What equality means: exactly that the types or schema definitions are the same, places, origins and order aside.
+//! What equality means: exactly that the types or schema definitions are the same apart from places, origins and order.
 ghost use Rattle.std.specs.Prelude.{◌≡◌, ◌↔◌, IsTrue};
 ghost use Rattle.schema_types.specs.TypeView.{extended_type, schema_roots};
 ghost use Rattle.schema_types.specs.Plain.{plain_type, plain_roots};

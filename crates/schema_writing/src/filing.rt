@@ -11,7 +11,7 @@ use indexmap::IndexMap;
 use schema_components::{Component, ComponentName, ComponentOrigin};
 use std::alloc::{AllocError, Global};
 
-/// Files an item behind what its giver gave before.
+/// Files an item after what its giver gave before.
 fn file<X: Drop>(
     alloc: Global,
     filed: &mut IndexMap<ComponentOrigin, Vec<X>>,
