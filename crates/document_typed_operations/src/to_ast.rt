@@ -31,7 +31,7 @@ impl ExecutableDocument {
     }
 }
 
-/// Writes the definitions of a document behind others.
+/// Writes the definitions of a document after others.
 fn write_definitions(
     alloc: Global,
     document: &ExecutableDocument,
@@ -47,7 +47,7 @@ fn write_definitions(
     Ok(())
 }
 
-/// Writes the operation without a name, if there is one, behind other definitions.
+/// Writes the operation without a name, if there is one, after other definitions.
 fn write_anonymous(
     alloc: Global,
     anonymous: &Option<Node<Operation>>,
@@ -64,7 +64,7 @@ fn write_anonymous(
     }
 }
 
-/// Writes operations behind other definitions.
+/// Writes operations after other definitions.
 fn write_operations(
     alloc: Global,
     operations: &[Node<Operation>],
@@ -78,7 +78,7 @@ fn write_operations(
     Ok(())
 }
 
-/// Writes fragments behind other definitions.
+/// Writes fragments after other definitions.
 fn write_fragments(
     alloc: Global,
     fragments: &[Node<Fragment>],

@@ -17,7 +17,7 @@ pub(crate) fn node_at<T, U: Drop>(
     Ok(other.same_location(alloc, value)?)
 }
 
-/// Puts what was made behind others.
+/// Adds what was made after the others.
 pub(crate) fn push_made<T: Drop>(
     list: &mut Vec<T>,
     made: Result<T, AllocError>,

@@ -51,7 +51,7 @@ impl<'schema> ExecutableDocumentBuilder<'schema> {
         }
     }
 
-    /// Adds the definitions and the sources of a document behind the others.
+    /// Adds the definitions and the sources of a document after the others.
     ///
     /// Where memory runs out it answers so, and from then on [`BuilderRefusal::Failed`].
     pub fn add_ast_document(&mut self, document: &Document) -> Result<(), BuilderRefusal>

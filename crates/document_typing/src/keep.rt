@@ -1,4 +1,4 @@
-//! Selections with their meaning, put behind those that are kept. None of these is inlined, so that what they hold takes no
+//! Selections with their meaning, added after those that are kept. None of these is inlined, so that what they hold takes no
 //! stack at each level of selections.
 ghost use Rattle.std.specs.Prelude.{◌≡◌, ◌++◌, [], ◌∷◌, ℕ, List, Option, OnOk};
 ghost use Rattle.std.specs.Option.{option_map};

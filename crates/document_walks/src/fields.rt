@@ -53,7 +53,7 @@ impl<'doc> Iterator for AllFields<'doc> {
     }
 }
 
-/// Lends each field of a selection set that stands in no other field, and each of every fragment that the set reaches
+/// Lends each field of a selection set that is within no other field, and each of every fragment that the set reaches
 /// through such selections, in the order and with the answers of [`AllFields`].
 pub struct RootFields<'doc> {
     selections: ReachedSelections<'doc>,

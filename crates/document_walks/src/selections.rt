@@ -16,9 +16,9 @@ use indexmap::IndexSet;
 use std::alloc::{AllocError, Global};
 use tree_literals::NamedType;
 
-/// Lends each selection of a selection set and of every fragment that the set reaches, once, with the type of the set in
-/// which it stands: the set's, then one fragment's after the other's, those of each in the order of the text. What stands
-/// in inline fragments is lent too, and if `nested` is true, what stands in fields. A spread of a fragment that the
+/// Lends each selection of a selection set and of every fragment that the set reaches, once, with the type of the set
+/// that has it: the set's, then one fragment's after the other's, those of each in the order of the text. What is
+/// within inline fragments is lent too, and if `nested` is true, what is within fields. A spread of a fragment that the
 /// document does not have is lent, and no more. An item is an error where memory is refused; after that, and after the
 /// end, nothing is lent any more.
 pub struct ReachedSelections<'doc> {

@@ -14,8 +14,8 @@ use indexmap::IndexSet;
 use std::alloc::{AllocError, Global};
 use tree_literals::NamedType;
 
-/// Where a walk stands. Sets that are not passed to their ends wait on a stack, the innermost one aside; a fragment that
-/// is spread is noted, once, by its place among the document's, and entered when all sets before it are passed.
+/// How far a walk has come. Sets that are not passed to their ends wait on a stack, except the innermost one. A fragment
+/// that is spread is noted, once, by its place among the document's, and entered when all sets before it are passed.
 #[derive(Drop)]
 pub(crate) struct Walk<'doc> {
     nested: bool,
@@ -83,7 +83,7 @@ impl<'doc> Walk<'doc> {
         Ok(())
     }
 
-    /// Goes on with what stands in a field, if that is walked over.
+    /// Goes on with the selections of a field, if fields are entered.
     fn enter_field(&mut self, field: &'doc Node<Field>) -> Result<(), AllocError>
         ensures { OnOk result (walk_state self.new ≡ with_more (if (walk_state self.old).nested then own_members (typed_set_tree (content field.now).selection_set) else []) (walk_state self.old)) }
     {
@@ -93,7 +93,7 @@ impl<'doc> Walk<'doc> {
         self.descend(&field.content().selection_set)
     }
 
-    /// Passes a selection: goes on with what stands in it, or notes what it spreads.
+    /// Passes a selection: goes on with what is within it, or notes what it spreads.
     fn pass(&mut self, ty: &NamedType, selection: &'doc Selection) -> Result<(), AllocError>
         ensures { OnOk result (HasPassed (name_tree ty.now, typed_selection_tree selection.now) (walk_state self.old) (walk_state self.new)) }
     {

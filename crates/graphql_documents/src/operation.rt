@@ -20,7 +20,7 @@ pub trait OperationExt {
         document: &ExecutableDocument,
     ) -> Result<bool, AllocError>;
 
-    /// Lends each field that the operation reaches in the document and that stands in no other field, once.
+    /// Lends each field that the operation reaches in the document and that is within no other field, once.
     fn root_fields<'doc>(
         &'doc self,
         alloc: Global,

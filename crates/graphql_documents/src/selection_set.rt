@@ -28,7 +28,7 @@ pub trait SelectionSetExt {
         name: Name,
     ) -> Result<Field, NewFieldError<'schema>>;
 
-    /// Lends each field that the set reaches in the document and that stands in no other field, once.
+    /// Lends each field that the set reaches in the document and that is within no other field, once.
     fn root_fields<'doc>(
         &'doc self,
         alloc: Global,
