@@ -72,7 +72,7 @@ pub enum BuildError {
         label: String,
         original_location: Option<SourceSpan>,
     },
-    /// A `@defer` stands at the root of a mutation or subscription.
+    /// A `@defer` is at the root of a mutation or subscription.
     DeferOnRootMutationOrSubscriptionField {
         operation_type: OperationType,
     },

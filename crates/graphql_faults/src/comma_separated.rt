@@ -23,7 +23,7 @@ impl<T: fmt::Display> fmt::Display for CommaSeparated<'_, T> {
     }
 }
 
-/// Items behind others: each with `, ` before it.
+/// Items after others: each with `, ` before it.
 fn fmt_further<T: fmt::Display, W: fmt::Write>(
     items: &[T],
     f: &mut fmt::Formatter<W>,
@@ -36,7 +36,7 @@ fn fmt_further<T: fmt::Display, W: fmt::Write>(
     Ok(())
 }
 
-/// An item behind another, with `, ` before it.
+/// An item after another, with `, ` before it.
 fn fmt_further_item<T: fmt::Display, W: fmt::Write>(
     item: &T,
     f: &mut fmt::Formatter<W>,

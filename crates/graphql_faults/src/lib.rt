@@ -1,10 +1,10 @@
 //! What is wrong with texts, schemas and documents: lists of it, and how it is told.
 //!
 //! For the layers above: contracts see a list as places and plain data (`specs/DetailsTree.antt`); a list grows at its end; a
-//! message is its template, filled (`specs/DetailsMessages.antt`, and those of the crates beneath); a name is that of the rule
+//! message is its template, filled (`specs/DetailsMessages.antt`, and those of the crates below); a name is that of the rule
 //! (`specs/DetailsNames.antt`).
 //!
-//! What breaks rules stands in `fault_data`, and for typing documents, merging, subscriptions and `@defer` in
+//! What breaks rules is in `fault_data`, and for typing documents, merging, subscriptions and `@defer` in
 //! `fault_document_data`. Begin with `details.rt` and `diagnostic_list.rt`.
 #![tactic(auto)]
 

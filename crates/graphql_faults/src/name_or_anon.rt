@@ -1,4 +1,4 @@
-//! Names, or what is said in the place of one.
+//! Names, or what is said instead of one.
 ghost use Rattle.std.specs.Prelude.{Some};
 ghost use Rattle.std.specs.Option.{option_copied};
 ghost use Rattle.graphql_faults.specs.Words.{name_or_anon};
