@@ -19,7 +19,7 @@ use schema_types::{ExtendedType, ScalarType};
 use std::alloc::{AllocError, Global};
 
 /// The types of the schema as validated: without each built-in scalar that is the inner type of no field, argument or
-/// input field, and behind them each of the five that is and was not there. The schema stays as it is.
+/// input field, and after them each of the five that is one, if it was not there. The schema stays as it is.
 pub(crate) fn kept_types(
     alloc: Global,
     schema: &Schema,

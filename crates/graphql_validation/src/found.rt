@@ -58,7 +58,7 @@ pub(crate) fn fragments_differ(document: &ExecutableDocument)
     let _ = document.fragments.len();
 }
 
-/// The faults that were found, and behind them those of all fragments of the document: UnusedFragment, and
+/// The faults that were found, and after them those of all fragments of the document: UnusedFragment, and
 /// RecursiveFragmentDefinition of those that an operation reaches.
 pub(crate) fn check_fragments(
     document: &ExecutableDocument,

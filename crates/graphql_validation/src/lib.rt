@@ -1,10 +1,10 @@
 //! Rules on documents (GraphQL, October 2021, section 5): on documents and field sets under a schema, and those that need none.
 //!
 //! For the layers above: a call adds to a list what breaks the rules of its document, each fault at its place, and nothing
-//! else (`specs/Told.antt`, `specs/TellsDocument.antt`); it adds nothing exactly where all rules hold, memory and the bounds
-//! aside. What breaks a rule is a predicate named after its variant, in `rule_document_definitions`.
+//! else (`specs/Told.antt`, `specs/TellsDocument.antt`); it adds nothing exactly when all rules hold, apart from memory and
+//! the bounds. What breaks a rule is a predicate named after its variant, in `rule_document_definitions`.
 //!
-//! The rules stand in inner crates side by side: `rule_variables`, `rule_selections`, `rule_fragments` and
+//! The rules are in inner crates side by side: `rule_variables`, `rule_selections`, `rule_fragments` and
 //! `rule_subscriptions`; what an operation reaches is found once, by `rule_document_ground`. Fields are merged
 //! by `rule_merging`, operation by operation; a field where it is selected is a `FieldSelection`, of `rule_document_ground`.
 //! Begin with `document.rt`, `field_set.rt` and `standalone.rt`.

@@ -99,7 +99,7 @@ fn check_subscriptions(
     Ok(())
 }
 
-/// What breaks the rules on `@defer`, and behind it what breaks those on subscriptions (section 5.2.3).
+/// What breaks the rules on `@defer`, and after it what breaks those on subscriptions (section 5.2.3).
 pub(crate) fn breaches_under(
     alloc: Global,
     document: &ExecutableDocument,

@@ -29,7 +29,7 @@ fn literal_if(directive: &Node<Directive>) -> Option<bool>
     value.content().to_bool()
 }
 
-/// Whether the directive may leave out what it stands at: `@skip` if not literally `false`, `@include` if not literally
+/// Whether the directive may leave out what it is on: `@skip` if not literally `false`, `@include` if not literally
 /// `true` (sections 3.13.1 and 3.13.2).
 fn leaves_out(directive: &Node<Directive>) -> bool
     ensures { result ≡ leaves_out (node_tree directive_tree directive.now) }
@@ -52,7 +52,7 @@ fn stays(selection: &Selection) -> bool
     true
 }
 
-/// Adds the selections of the set that stay, in the order of the text, those of each before those behind it. Spreads are not
+/// Adds the selections of the set that stay, in the order of the text, those of each before those after it. Spreads are not
 /// entered.
 #[cycle(staying)]
 fn push_staying(set: &SelectionSet, found: &mut Vec<Selection>) -> Result<(), AllocError>

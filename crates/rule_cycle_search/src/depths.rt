@@ -29,7 +29,7 @@ fn depth_of(graph: &Graph, parts: &Parts, node: usize, counts: bool, depths: &[u
     most
 }
 
-/// Counts anew for each node of the order, which best has what a node refers to before the node.
+/// Counts again for each node of the order, which best has what a node refers to before the node.
 fn deepen(graph: &Graph, parts: &Parts, order: &[usize], first: bool, depths: &mut [usize])
     requires whole { IsWhole graph.now parts.now.toward.items parts.now.from.items }
     requires counted { AreCounted graph.now (is_of graph.now first) depths.old }

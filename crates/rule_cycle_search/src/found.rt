@@ -81,8 +81,8 @@ fn way_round(
     Ok(Found::WayBack(ahead))
 }
 
-/// What is found of a root: a way back is one over a node of its own part that refers to it. Where there is none, some
-/// other way from it may be too long.
+/// What is found of a root: a cycle is over a node of its own part that refers to it. Where there is none, some
+/// other path from it may be too long.
 fn look_back(
     alloc: Global,
     graph: &Graph,

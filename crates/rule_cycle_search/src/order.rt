@@ -5,7 +5,7 @@ ghost use Rattle.rule_cycle_search.specs.Order.{to_enter};
 use crate::graph::listed;
 use std::alloc::{AllocError, Global};
 
-/// A step of a search into depth.
+/// A step of a depth-first search.
 #[derive(Clone, Copy)]
 pub(crate) enum Visit {
     Enter(usize),
@@ -32,7 +32,7 @@ fn enter(
     Ok(())
 }
 
-/// The nodes as a search into depth leaves them: where one leads to another that does not lead back, the other comes
+/// The nodes as a depth-first search leaves them: where one leads to another that does not lead back, the other comes
 /// first.
 pub(crate) fn finishing_order(
     alloc: Global,

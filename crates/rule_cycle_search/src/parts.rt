@@ -50,8 +50,8 @@ fn no_steps(alloc: Global, nodes: usize) -> Result<Vec<Step>, AllocError>
     Ok(steps)
 }
 
-/// Settles all nodes, first as the order has them, last to first. Where that is an order in which a search into depth
-/// leaves them, what leads to a node is no more than its part, so that each reference is gone along a few times in all.
+/// Settles all nodes, first as the order has them, last to first. Where that is an order in which a depth-first search
+/// leaves them, what leads to a node is no more than its part, so that each reference is followed a few times in all.
 pub(crate) fn find_parts(
     alloc: Global,
     graph: &Graph,

@@ -10,7 +10,7 @@ pub fn equal_schemas_same_breaches()
     ensures verdict { SameVerdict }
 {}
 
-/// A type accepts a value exactly where no rule on values fails of it, wherever schema, type and value stand.
+/// A type accepts a value exactly when no rule on values is broken by it, whatever the places of schema, type and value.
 pub fn types_accept_where_rules_hold()
     ensures { AcceptsWhereRulesHold }
 {}

@@ -3,8 +3,8 @@
 ghost use Rattle.rule_document_definitions.specs.Laws.{SameDocumentVerdict, SameBounds, SameFieldSetVerdict, SameVerdictAlone, MergesByContents, RulesWithoutPlaces, MergingWithoutPlaces, SetRulesWithoutPlaces, RulesAloneWithoutPlaces, BoundsWithoutPlaces, SetBoundsWithoutPlaces, ValidWhereNothingIsTold, MergesWhereNothingIsTold, SetValidWhereNothingIsTold, ValidAloneWhereNothingIsTold, WithinBoundsWhereNothingIsTold, SetWithinBoundsWhereNothingIsTold};
 
 /// Documents that are equal, with their operations and fragments in the same order, get the same verdict under schemas that
-/// are equal with the same built in, and pass the same bounds, whatever the rules are; field sets and documents without a
-/// schema likewise.
+/// are equal with the same built in, and pass the same bounds, whatever the rules are. So do field sets and documents
+/// without a schema.
 pub fn equal_documents_same_verdict()
     ensures verdict { SameDocumentVerdict }
     ensures bounds { SameBounds }
@@ -17,7 +17,7 @@ pub fn merging_is_of_contents()
     ensures { MergesByContents }
 {}
 
-/// What breaks a rule or passes a bound is told at places exactly as it is told without them. Rules that speak of all
+/// What breaks a rule or passes a bound is told at places exactly as it is told without them. Rules that are about all
 /// fragments ask that each fragment stands under its own name.
 pub fn told_without_places()
     ensures rules { RulesWithoutPlaces }

@@ -11,8 +11,8 @@ use schema_coordinates::TypeAttributeCoordinate;
 use std::alloc::AllocError;
 use tree_literals::NamedType;
 
-/// A field, and the name of the type that it is selected on. Equality and hash are those of what these say, wherever they
-/// stand in the text.
+/// A field, and the name of the type that it is selected on. Equality and hash are those of what these say, ignoring
+/// places.
 #[derive(Clone, Copy, PartialEq, Eq, Hash)]
 pub struct FieldSelection<'doc> {
     pub parent_type: &'doc NamedType,

@@ -9,7 +9,7 @@ use indexmap::IndexSet;
 use rule_document_ground::{FieldSelection, push_fields};
 use std::alloc::{AllocError, Global};
 
-/// A selection set, for the fields that it selects. Equality and hash are those of what it says, wherever it stands in the text.
+/// A selection set, for the fields that it selects. Equality and hash are those of what it says, ignoring places.
 #[derive(Clone, Copy, PartialEq, Eq, Hash)]
 pub struct SelectedSet<'doc> {
     pub set: &'doc SelectionSet,

@@ -22,7 +22,7 @@ use indexmap::{IndexMap, IndexSet};
 use rule_document_ground::FieldSelection;
 use std::alloc::{AllocError, Global};
 
-/// Adds a field behind those under the name.
+/// Adds a field after those under the name.
 fn push_under<'doc>(
     alloc: Global,
     index: &mut IndexMap<Name, Vec<FieldSelection<'doc>>>,

@@ -73,7 +73,7 @@ fn inline_application<'doc>(inline: &'doc Node<InlineFragment>) -> Option<Applic
     }
 }
 
-/// The fragment that stands at a selection, if one does that is there and has a condition.
+/// The fragment that a selection applies, if it applies one that exists and has a condition.
 #[tactic(auto, using(document_typed_selections::proofs::TypedTrees::typed_tree_rules))]
 fn application_of<'doc>(
     selection: &'doc Selection,

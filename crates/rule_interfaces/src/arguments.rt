@@ -208,7 +208,7 @@ fn invalid_implementation_field_argument_type(
     }))
 }
 
-/// Whether two references to types are the same, places aside.
+/// Whether two references to types are the same, ignoring places.
 fn same_type(a: &Type, b: &Type) -> bool
     ensures { result ≡ same_type (unplaced_type (type_tree a.now)) (unplaced_type (type_tree b.now)) }
 {

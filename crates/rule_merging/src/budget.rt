@@ -1,5 +1,5 @@
-//! What lists of more than two sets may cost. What is not paid is examined by two sets at a time: in lists of ever other sets
-//! members would never come to an end.
+//! What lists of more than two sets may cost. What is not paid is examined by two sets at a time: if each list had
+//! different sets, members would never come to an end.
 
 /// So many members of such lists may be examined for each field that was seen, if these are few.
 const FOR_EACH_FIELD: usize = 4;

@@ -276,7 +276,7 @@ impl<'doc> Examination<'doc> {
         Ok(false)
     }
 
-    /// Examines what a set selects and all below it, to 128 levels. Whether fields are left behind these is given.
+    /// Examines what a set selects and all below it, to 128 levels. Answers whether fields are left below these.
     pub(crate) fn examine_all(
         &self,
         start: SelectedSet<'doc>,

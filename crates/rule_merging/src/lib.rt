@@ -6,7 +6,7 @@
 //! by fields that are new, their sets are looked at two by two (`budget.rt`).
 //!
 //! For the layers above: a `FieldsInSetCanMerge` tells a list of faults what does not merge in an operation (`MergerTold` of
-//! `specs/Merger.antt`, over `specs/Merged.antt`), and is clean where the fields of all operations merge so far. It stands on
+//! `specs/Merger.antt`, over `specs/Merged.antt`), and is clean where the fields of all operations merge so far. It calls
 //! `examine_operation`, which adds what does not merge in an operation, and keeps in an `Examined` what was examined
 //! (`ExaminesOperation` of `specs/Verdict.antt`) and how often shapes were compared (`IsCounted` of `specs/Counted.antt`).
 //! `append_breaches` adds breaches to a list of faults.

@@ -82,7 +82,7 @@ impl<'doc> FieldsInSetCanMerge<'doc> {
     }
 
     /// Tells what does not merge in the operation: ConflictingFieldType where fields of one response key differ in shape,
-    /// ConflictingFieldName and ConflictingFieldArgument where one object may have both; each at the later field. Behind 128
+    /// ConflictingFieldName and ConflictingFieldArgument where one object may have both; each at the later field. After 128
     /// levels of fields it tells the bound, at the operation, and what lies below is not examined. A clean value that adds
     /// nothing has shown that the fields merge. Where memory is refused the list begins as before, and the value is not clean.
     pub fn validate_operation(

@@ -47,7 +47,7 @@ impl<'doc> Examined<'doc> {
     }
 }
 
-/// Examines the fields of an operation and all below them, in both passes. Whether fields are left behind 128 levels is given.
+/// Examines the fields of an operation and all below them, in both passes. Answers whether fields are left below 128 levels.
 pub fn examine_operation<'doc>(
     schema: &'doc Schema,
     document: &'doc ExecutableDocument,

@@ -9,7 +9,7 @@ use rule_number_lists::ListMemory;
 use std::alloc::{AllocError, Global};
 
 /// The contents of the lists of fields that were examined, each once, and of the lists of sets that were looked at: what
-/// these select stands in lists that were examined. A list is known by which contents it has, in whatever order.
+/// these select is in lists that were examined. A list is known by which contents it has, in whatever order.
 #[derive(Drop)]
 pub(crate) struct Remembered<'doc> {
     lists: ListMemory<FieldSelection<'doc>>,

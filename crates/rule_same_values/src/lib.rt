@@ -3,7 +3,7 @@
 //!
 //! For the layers above: `same_value` and `differing_argument` decide `SameValue` and `SameArguments` of
 //! `rule_document_definitions` (`specs/SameValues.antt`), in time linear in what is compared. That these are
-//! equivalences stands in `proofs/Equivalences.antt`.
+//! equivalences is in `proofs/Equivalences.antt`.
 //!
 //! Begin with `values.rt`; what its functions compute is `specs/Tests.antt`, which `proofs/Deciding.antt` leads to the
 //! definitions.

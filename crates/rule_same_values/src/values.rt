@@ -73,7 +73,7 @@ pub(crate) fn differing_key(
     differing_among(alloc, a, b, &firsts, &mut seen)
 }
 
-/// The same by the first values of the second object, those keys aside that were seen before.
+/// The same by the first values of the second object, ignoring the keys that were seen before.
 #[cycle(same)]
 fn differing_among(
     alloc: Global,

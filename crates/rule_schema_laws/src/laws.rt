@@ -17,7 +17,7 @@ pub fn input_types_have_literals()
     ensures { LiteralsAfterValidation }
 {}
 
-/// Texts that are read under other numbers than that of what is built in fold, behind what is built in and with any
+/// Texts that are read under other numbers than that of what is built in fold, after what is built in and with any
 /// settings of a builder, to a schema of which the built-in scalars are among the five (section 3.5), and in which no enum
 /// has a value `true`, `false` or `null` (section 2.9.6): the premises under which each input type has a literal.
 pub fn read_texts_meet_the_premises()

@@ -117,7 +117,7 @@ fn check_defined(
     check_taken(schema, &taker, variables, faults)
 }
 
-/// Adds the faults of a field: MissingSubselection, and the rules on its arguments, directives aside.
+/// Adds the faults of a field: MissingSubselection, and the rules on its arguments, apart from their directives.
 pub(crate) fn check_field(
     schema: &Schema,
     parent: &Name,

@@ -9,7 +9,7 @@ use fault_data::{DiagnosticData, Fault, tell};
 use graphql_names::{Name, SourceSpan};
 use std::alloc::AllocError;
 
-/// What has a name, besides types.
+/// What has a name, apart from types.
 #[derive(Clone, Copy)]
 pub(crate) enum Named {
     Directive,

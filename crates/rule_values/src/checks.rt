@@ -58,7 +58,7 @@ pub fn undefined_variables(
     tell_variable_faults(value, variables, faults)
 }
 
-/// Adds a fault for each key of an object in a value, at any depth, that stands in it before (section 5.6.3).
+/// Adds a fault for each key of an object in a value, at any depth, that the object has before (section 5.6.3).
 pub fn unique_input_values(value: &Node<Value>, faults: &mut Vec<Fault>) -> Result<(), AllocError>
     ensures { OnOk result (Adds faults.old faults.new (UniqueInputValueIn (value_tree (content value.now)))) }
 {

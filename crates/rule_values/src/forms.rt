@@ -1,4 +1,4 @@
-//! Rules on the form of one value, what is inside a list or an object aside.
+//! Rules on the form of one value, apart from what is inside a list or an object.
 ghost use Rattle.std.specs.Prelude.{◌≡◌, ◌&&◌, ◌||◌, ◌++◌, not, IfOk, OnOk};
 ghost use Rattle.std.specs.Option.{option_map};
 ghost use Rattle.graphql_names.specs.Node.{content};

@@ -50,8 +50,8 @@ pub(crate) fn tell_type_faults(
     )
 }
 
-/// Adds the faults of one value against the type that is wanted, inside all brackets of which stands `found`, what is inside
-/// a list or an object aside.
+/// Adds the faults of one value against the type that is wanted, inside all brackets of which is `found`, apart from what
+/// is inside a list or an object.
 // It is not inlined, so that the faults that it makes take no stack at each level of a value.
 #[inline(never)]
 fn tell_form(

@@ -1,4 +1,4 @@
-//! The names of the variables that stand in values, in what is given, and in selections.
+//! The names of the variables that are used in values, in what is given, and in selections.
 ghost use Rattle.std.specs.Prelude.{◌≡◌, map, OnOk};
 ghost use Rattle.tree_literals.specs.ValueTree.{value_tree, item_trees, entry_trees};
 ghost use Rattle.graphql_names.specs.Placed.{node_tree};
