@@ -4,34 +4,34 @@ ghost use Rattle.book_laws.specs.Laws.{RulesHoldByTheBook, SetRulesHoldByTheBook
 ghost use Rattle.book_laws.specs.Exceptions.{UsagesAllowed, SpreadsPossible};
 ghost use Rattle.book_laws.specs.Refused.{UnusedVariableIsInvalid, ConflictingFieldsDoNotMerge, MissingFieldIsInvalid};
 
-/// Texts are accepted exactly where the book says yes: schema texts, a document over the schema of accepted ones, and both.
+/// Texts are accepted exactly when the book says yes: schema texts, a document over the schema of accepted ones, and both.
 pub fn accepted_by_the_book()
     ensures schemas { SchemasAcceptedByTheBook }
     ensures documents { DocumentsAcceptedByTheBook }
     ensures texts { AcceptedByTheBook }
 {}
 
-/// Definitions are foldable by the book exactly where no folding rule is broken.
+/// Definitions are foldable by the book exactly when no folding rule is broken.
 pub fn folded_by_the_book()
     ensures { FoldedByTheBook }
 {}
 
-/// A schema is valid by the book exactly where no rule on schemas is broken.
+/// A schema is valid by the book exactly when no rule on schemas is broken.
 pub fn schema_rules_hold_by_the_book()
     ensures { SchemaRulesHoldByTheBook }
 {}
 
-/// A document is typed by the book exactly where no rule of typing is broken.
+/// A document is typed by the book exactly when no rule of typing is broken.
 pub fn typed_by_the_book()
     ensures { TypedByTheBook }
 {}
 
-/// The selections of a set are typed by the book exactly where no rule of typing is broken in it.
+/// The selections of a set are typed by the book exactly when no rule of typing is broken in it.
 pub fn sets_typed_by_the_book()
     ensures { SetsTypedByTheBook }
 {}
 
-/// A document, a field set, a document without a schema is valid by the book exactly where no rule on it is broken.
+/// A document, a field set, a document without a schema is valid by the book exactly when no rule on it is broken.
 pub fn rules_hold_by_the_book()
     ensures documents { RulesHoldByTheBook }
     ensures field_sets { SetRulesHoldByTheBook }

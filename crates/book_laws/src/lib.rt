@@ -1,4 +1,4 @@
-//! Laws of the book: the rules by their faults, from which refusals are told, hold exactly where the book says so, for folding,
+//! Laws of the book: the rules by their faults, from which refusals are told, hold exactly when the book says so, for folding,
 //! schemas, typing, documents, and whole texts. No code.
 #![tactic(auto)]
 

@@ -21,7 +21,7 @@ pub fn either_reading_answers_the_same()
     ensures { EitherReading }
 {}
 
-/// Where fields stand in one another to some depth and no deeper, one more is deep enough to decide: so it does not matter
+/// Where fields are nested to some depth and no deeper, one more is deep enough to decide: so it does not matter
 /// what deeper calls are taken to return.
 pub fn one_depth_decides()
     ensures { OneDepthDecides }

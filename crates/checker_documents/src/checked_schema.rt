@@ -41,7 +41,7 @@ use tree_definitions::Document;
 pub struct CheckedSchema {
     pub(crate) alloc: Global,
     pub(crate) nesting: usize,
-    /// The number of a document behind the texts; `u64::MAX`, which no text gets, where none is left for it.
+    /// The number of a document that comes after the texts; `u64::MAX`, which no text gets, where none is left for it.
     pub(crate) number: u64,
     /// The schema as it is written: as it was built, before built-in scalars to which nothing refers were dropped. It shares
     /// its nodes with the schema.
@@ -78,7 +78,7 @@ impl CheckedSchema {
     }
 
     /// The document, if it is accepted over the schema: it is read, every rule holds of it, and no bound is
-    /// passed. Its number is the one behind those of the schema texts. The schema stays as it is.
+    /// passed. Its number is the one after those of the schema texts. The schema stays as it is.
     ///
     /// Otherwise it tells what is wrong: a fault, alone, where the text is not read; else each rule of typing that is broken;
     /// where none is, the rules on documents that are; and where none is, the fields that do not merge. It never answers

@@ -66,7 +66,7 @@ impl Checker {
         }
     }
 
-    /// Adds a schema text behind the others.
+    /// Adds a schema text after the others.
     ///
     /// Where memory runs out it answers [`Refusal::Memory`], and from then on [`Refusal::Failed`]. It gives
     /// no other refusal: what is wrong with the text is told by [`Checker::finish`].

@@ -15,7 +15,7 @@ use tree_printing::Tree;
 pub enum Layout<'p> {
     /// All on one line, without a line feed at its end.
     OneLine,
-    /// What stands in braces one a line, each level further in by the prefix: spaces and tabs alone
+    /// What is between braces one a line, each level further in by the prefix: spaces and tabs alone
     /// ([`Layout::is_prefix`]), so that it may be read again. The text ends with a line feed.
     Indented(&'p str),
 }

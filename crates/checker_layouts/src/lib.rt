@@ -1,4 +1,4 @@
-//! The layouts under which a document is written anew.
+//! The layouts under which a document is written again.
 //!
 //! For the layer above: the text is that of the document's tree under the layout's prefix (`specs/Layouts.antt`), and
 //! what begins a line may be read again where `is_prefix` says so.

@@ -26,12 +26,12 @@ use schema_components::Extensions;
 use std::alloc::{AllocError, Global};
 use tree_definitions::Document;
 
-/// The schema of texts that are accepted, with what checks of documents go by.
+/// The schema of texts that are accepted, with what checks of documents depend on.
 #[derive(Drop)]
 pub struct JudgedTexts {
     /// How many brackets may be open at once.
     pub nesting: usize,
-    /// The number of a document behind the texts; `u64::MAX`, which no text gets, where none is left for it.
+    /// The number of a document that comes after the texts; `u64::MAX`, which no text gets, where none is left for it.
     pub number: u64,
     /// The schema as it is written: as it was built.
     pub written: Document,

@@ -31,7 +31,7 @@ impl Settings {
     /// Reads the words, the program's name first: `[--indent line|two|four|tab] [--nesting N] DOCUMENT SCHEMA...`.
     /// Without options texts are written on one line, and 500 brackets may be open; N is from 1 to 1000.
     ///
-    /// An error has the text for the user: a fault of the words, what `--help` shows, or want of memory.
+    /// An error has the text for the user: a fault of the words, what `--help` shows, or that memory ran out.
     pub fn from_words(alloc: Global, words: &[String]) -> Result<Settings, Error>
         ensures read { ReadsAs (map string_bytes words.now) result }
         ensures schemas { IfOk result (λ s. 0 < length s.schemas.items) }

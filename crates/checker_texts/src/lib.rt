@@ -1,7 +1,7 @@
 //! Texts that a checker is given: read one by one, or why they are not.
 //!
-//! For the layer above: a text has its tree exactly where it is read within the limit on brackets (`read`); the texts that were
-//! added stand in order, with what reading them gave (`SchemaTexts`, by `IsReadingOf` of `specs/TextsView.antt`). What a checker
+//! For the layer above: a text has its tree exactly when it is read within the limit on brackets (`read`); the texts that were
+//! added are in order, with what reading them gave (`SchemaTexts`, by `IsReadingOf` of `specs/TextsView.antt`). What a checker
 //! answers where texts are not accepted is a [`Refusal`].
 //!
 //! Begin with `schema_texts.rt`.

@@ -57,7 +57,7 @@ impl SchemaTexts {
         }
     }
 
-    /// Adds a text behind the others. After a refusal terms and texts are as they were, but what was read may not be.
+    /// Adds a text after the others. After a refusal terms and texts are as they were, but what was read may not be.
     pub fn add(&mut self, text: &str) -> Result<(), AllocError>
         requires { IsReadingOf (texts_of self.old) self.old }
         ensures terms { terms_of self.new ≡ terms_of self.old }
@@ -113,7 +113,7 @@ impl SchemaTexts {
     }
 }
 
-/// Tells why a text is not read, behind the faults of the list.
+/// Tells why a text is not read, after the faults of the list.
 fn tell(list: &mut DiagnosticList, unread: Unread) -> Result<(), AllocError>
     ensures { OnOk result (IsToldBehind unread (diagnostics_of list.old) (diagnostics_of list.new)) }
 {

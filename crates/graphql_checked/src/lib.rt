@@ -1,5 +1,5 @@
 //! The checker: schema texts and a document text go in; a verdict, faults, and for an accepted pair both texts
-//! written anew come out.
+//! written again come out.
 //!
 //! For the layer above: a yes is right, each fault is right, and what is written is the layout's bytes. The definitions are those
 //! of `verdict_definitions` (`Judge`, `Says`, `Answer`, `Out`); contracts of the calls say which of them holds

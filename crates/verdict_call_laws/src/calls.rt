@@ -1,4 +1,4 @@
-//! What the calls of the checker answer is what the laws speak of.
+//! What the calls of the checker answer is what the laws are about.
 
 ghost use Rattle.std.specs.Prelude.{◌≡◌, false, map};
 ghost use Rattle.graphql_names.specs.Device.{device_failed};

@@ -1,11 +1,11 @@
 //! Laws of the checker over what its calls answer, each the contract of a function that does nothing.
 //!
-//! Neither the verdict nor the written schema hangs on how schema texts are cut, or in which order unrelated definitions come
+//! Neither the verdict nor the written schema depends on how schema texts are cut, or in which order unrelated definitions come
 //! (`specs/Alike.antt`). What is written of an accepted pair is a canonical text: checked again it is accepted, equal, and
 //! written as it was, in every layout; and what `run` puts out is put out again of itself (`specs/Again.antt`). So what is
 //! written tells what was checked (`specs/Equal.antt`).
 //!
-//! The laws speak of all that `check_texts`, `Checker::finish`, `CheckedSchema::check` and `run` may answer by their contracts,
+//! The laws are about all that `check_texts`, `Checker::finish`, `CheckedSchema::check` and `run` may answer by their contracts,
 //! which `specs/Answers.antt` puts together, call by call; of `run` over devices that tell their bytes.
 #![tactic(auto)]
 

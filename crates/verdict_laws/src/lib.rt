@@ -20,7 +20,8 @@ pub fn accepted_texts_can_be_written()
     ensures documents { TypedDocumentsCanBeWritten }
 {}
 
-/// A text has one tree under each number, under any two the same, places aside; and the same is written of it as a document.
+/// A text has one tree under each number, under any two the same apart from places; and the same is written of it as a
+/// document.
 pub fn texts_are_read_alike_under_each_number()
     ensures one { TextsHaveOneTree }
     ensures alike { TextsAreReadAlike }

@@ -4,7 +4,7 @@
 //! to equal schemas and break the same folding rules (`specs/Folding.antt`), keep the same rules, on documents too
 //! (`specs/Judging.antt`), and what is written of them is rearranged again (`specs/Writing.antt`), as is what the settings of a
 //! builder make of them (`specs/Adopting.antt`). One list from texts that are cut in two ways is a case of it, in which the same is
-//! written (`specs/Cutting.antt`). What all of it comes to for texts that are read stands in `specs/ReadTexts.antt`: begin there.
+//! written (`specs/Cutting.antt`). What all of it comes to for texts that are read is in `specs/ReadTexts.antt`: begin there.
 #![tactic(auto)]
 
 ghost use Rattle.verdict_rearranging_laws.specs.Permuting.{PermutedIsRearranged, RearrangedIsPermuted, RearrangingIsAnEquivalence};

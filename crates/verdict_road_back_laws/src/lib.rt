@@ -25,8 +25,8 @@ pub fn pairs_lead_back()
     ensures answers { AnswerRoadBack }
 {}
 
-/// Under a plain layout one text is written of two accepted lists of schema texts, or of two accepted documents, exactly where
-/// the same definitions are written, places aside; and then the schemas are equal, and over equal schemas the documents.
+/// Under a plain layout one text is written of two accepted lists of schema texts, or of two accepted documents, exactly when
+/// the same definitions are written, apart from places; and then the schemas are equal, and over equal schemas the documents.
 pub fn equal_written_texts_are_of_equal_trees()
     ensures schemas { EqualSchemaTexts }
     ensures documents { EqualDocumentTexts }

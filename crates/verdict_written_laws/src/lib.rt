@@ -1,8 +1,8 @@
 //! What is written of a schema, folded and written again: laws, each the contract of a function that does nothing.
 //!
 //! Where no folding rule is broken, what is written is a list of whole definitions and extensions of the texts
-//! (`specs/Whole.antt`, `specs/WholeSchema.antt`), with an implicit schema definition at most besides. So it can be written, breaks
-//! no folding rule, folds to an equal schema, is written as it stands, and nests no deeper. Begin with `specs/Twice.antt`.
+//! (`specs/Whole.antt`, `specs/WholeSchema.antt`), and at most an implicit schema definition. So it can be written, breaks
+//! no folding rule, folds to an equal schema, is written unchanged, and nests no deeper. Begin with `specs/Twice.antt`.
 #![tactic(auto)]
 
 ghost use Rattle.verdict_written_laws.specs.Twice.{WrittenTwice, WrittenTwiceBesideTheTable, WrittenIsWritable, NestsNoDeeper, FoldsToEqual, AcceptedAgain};
