@@ -2,12 +2,12 @@
 """Whether the pages say what is there: scripts/pages.py [--check] [--clauses]
 
 --check prints what is wrong, a line each, and its status is then 1: README.md has more than 150 lines or 900 words, or all pages
-(*.md at the top and in docs/) have more than 25,000 words; a page has a word that the last table of CONTRIBUTING.md refuses; a
-relative link of a page leads to no file; a name that reads as a crate of the repository is not in crates.txt; one in backticks
-that reads as a file (`name.rt`, `Name.antt`, `name.rows`, `name.edit`, `name.py`) is the name of no file; a table of
-docs/PROMISES.md names a function, a clause or a definition that is not there; docs/PROMISES.md or docs/MAP.md says nothing of a
-crate of crates.txt; a line of a block after `<!-- from PATH -->` is not in that file, after the lines before it; a public clause
-is longer than 160 characters.
+(*.md at the top and in docs/) have more than 25,000 words; a page, or a doc comment (`///`, `//!`) of a crate's src/, has a word
+that the last table of CONTRIBUTING.md refuses; a relative link of a page leads to no file; a name that reads as a crate of the
+repository is not in crates.txt; one in backticks that reads as a file (`name.rt`, `Name.antt`, `name.rows`, `name.edit`,
+`name.py`) is the name of no file; a table of docs/PROMISES.md names a function, a clause or a definition that is not there;
+docs/PROMISES.md or docs/MAP.md says nothing of a crate of crates.txt; a line of a block after `<!-- from PATH -->` is not in that
+file, after the lines before it; a public clause is longer than 160 characters.
 
 What reads as a crate: a word that begins with `graphql_`; one that begins as the crates of an area do (`tree_`, `read_`, ..), if the
 sources have nothing else of that name, neither an item, a definition nor a file; and, whatever it begins with, a name in backticks
@@ -27,11 +27,11 @@ LINES = 150
 CHARACTERS = 160
 README_WORDS, ALL_WORDS = 900, 25000
 
-# the line after which CONTRIBUTING.md has the words that pages must not have.
+# the line after which CONTRIBUTING.md has the words that pages and doc comments must not have.
 WORDS = "<!-- the words that scripts/pages.py refuses -->"
 
-# The pages that scripts make from the sources.
-MADE = ["docs/RULES.md", "docs/DEFINITIONS.md"]
+# The page that a script makes from the comments of specs/: it has their words.
+MADE = ["docs/DEFINITIONS.md"]
 
 
 def pages():
@@ -140,11 +140,12 @@ def misquoted(path, text):
 
 
 def refused_words():
-    """The words that pages must not have, each with those to use, from the table of CONTRIBUTING.md."""
+    """The words that pages and doc comments must not have, within a line or over its end, each with those to use."""
     table = sources.read("CONTRIBUTING.md").split(WORDS)[1].split("\n\n")[0].strip().split("\n")[2:]
     for line in table:
         words, use = (cell.strip() for cell in line.strip("|").split("|"))
-        yield re.compile(r"\b(?:" + "|".join(re.escape(word) for word in words.split(", ")) + r")\b", re.I), use
+        either = "|".join(r"[^\S\n]*\s[^\S\n]*".join(map(re.escape, word.split())) for word in words.split(", "))
+        yield re.compile(rf"\b(?:{either})\b", re.I), use
 
 
 def prose(path, text):
@@ -158,13 +159,27 @@ def prose(path, text):
 
 
 def badly_worded(path, text, refused):
-    """The words of a page that are refused. Pages that a script makes from the sources have the sources' words."""
+    """The words of a text that are refused."""
     if path in MADE:
         return
-    for number, line in enumerate(prose(path, text).split("\n"), 1):
-        for pattern, use in refused:
-            for found in pattern.finditer(line):
-                yield f"{path}:{number}: `{found.group(0)}`: write: {use}"
+    shown = prose(path, text)
+    for pattern, use in refused:
+        for found in pattern.finditer(shown):
+            number = shown.count("\n", 0, found.start()) + 1
+            yield f"{path}:{number}: `{' '.join(found.group(0).split())}`: write: {use}"
+
+
+def doc_comments(text):
+    """The lines of a source: of a doc comment its text, and of all else nothing."""
+    for line in text.split("\n"):
+        found = re.match(r"\s*//[/!](?!/)(.*)", line)
+        yield found.group(1).removeprefix(" ") if found else ""
+
+
+def badly_commented(refused):
+    """The words of doc comments that are refused, in the sources of all crates (crates/*/src)."""
+    for path in sources.paths("crates/*/src/*.rt"):
+        yield from badly_worded(path, "\n".join(doc_comments(sources.read(path))), refused)
 
 
 def left_out(crates):
@@ -209,6 +224,7 @@ def main(words):
     for name, count, most in (("README.md", counts["README.md"], README_WORDS), ("all pages", sum(counts.values()), ALL_WORDS)):
         if count > most:
             wrong.append(f"{name}: {count} words, more than {most}")
+    wrong += badly_commented(refused)
     wrong += unknown_clauses("docs/PROMISES.md", library)
     wrong += left_out(crates)
     clauses = long_clauses(library)

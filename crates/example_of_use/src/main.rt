@@ -1,5 +1,5 @@
 //! How to use the library from a crate: judges documents over a schema, tells each fault at its line and column with the
-//! name of its rule, and writes the schema anew.
+//! name of its rule, and writes the schema again.
 //!
 //! Its words are `SCHEMA DOCUMENT...`, names of files. Begin with `check_files`.
 #![tactic(auto)]

@@ -25,7 +25,7 @@ pub(crate) fn push_documents(
     }
 }
 
-/// Adds the row's documents, numbered behind its schema texts, which must be read.
+/// Adds the row's documents, numbered after its schema texts, which must be read.
 fn add_documents(
     alloc: Global,
     case: Case<'_>,

@@ -60,7 +60,7 @@ fn push_printed(alloc: Global, document: &Document, form: Form, answer: &mut Ans
     answer.status.put(status);
 }
 
-/// Whether what is printed of the document reads as it, places aside, and is printed alike.
+/// Whether what is printed of the document reads as it, apart from places, and is printed alike.
 fn read_again(alloc: Global, document: &Document, form: Form, printed: &str) -> &'static str {
     match parse_document(alloc, printed, FileId(2), usize::MAX) {
         Ok(again) if again == *document => printed_twice(alloc, &again, form, printed),

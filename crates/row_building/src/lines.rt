@@ -23,7 +23,7 @@ pub(crate) fn push_fragment(fragment: &Fragment, lines: &mut Lines) {
     lines.put("\n");
 }
 
-/// `alias: name(arguments) @directives by DEFINITION` behind this, and a line feed.
+/// `alias: name(arguments) @directives by DEFINITION` after this, and a line feed.
 pub(crate) fn push_field(front: &str, field: &Field, lines: &mut Lines) {
     lines.put(front);
     push_optional("", &field.alias, ": ", lines);
@@ -67,7 +67,7 @@ fn push_list<T: Display>(list: &[T], lines: &mut Lines) {
     }
 }
 
-/// Adds each directive behind a space.
+/// Adds each directive after a space.
 fn push_directives(directives: &DirectiveList, lines: &mut Lines) {
     for directive in &directives.0 {
         lines.show_between(" ", directive, "");

@@ -10,7 +10,7 @@ use std::alloc::{AllocError, Global};
 use tree_printing::Tree;
 
 /// Adds what the call tells of the document: what is written, or of each operation, and of each fragment that is kept,
-/// in order, behind a line of its own.
+/// in order, after a line of its own.
 pub(crate) fn push_kept(
     alloc: Global,
     call: &str,
@@ -41,7 +41,7 @@ fn push_written(
     Ok(())
 }
 
-/// Adds what is kept of each fragment, behind a line of its own.
+/// Adds what is kept of each fragment, after a line of its own.
 fn push_fragments(call: &str, document: &ExecutableDocument, lines: &mut Lines) {
     for fragment in document.fragments.values() {
         push_fragment(fragment.content(), lines);

@@ -35,7 +35,7 @@ pub(crate) fn push_bytes(field: Field<'_>, bytes: &mut Vec<u8>) -> Result<(), Pr
     }
 }
 
-/// Takes a byte: how far an escape is read behind it, and the byte that is complete with it.
+/// Takes a byte: how far an escape is read after it, and the byte that is complete with it.
 fn step(escape: Escape, byte: u8) -> Option<(Escape, Option<u8>)> {
     match (escape, byte) {
         (Escape::Outside, b'\\') => Some((Escape::Begun, None)),
@@ -47,7 +47,7 @@ fn step(escape: Escape, byte: u8) -> Option<(Escape, Option<u8>)> {
     }
 }
 
-/// What a letter behind a backslash stands for.
+/// What a letter after a backslash stands for.
 fn letter(byte: u8) -> Option<u8> {
     match byte {
         b'n' => Some(b'\n'),

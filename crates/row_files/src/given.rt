@@ -89,7 +89,7 @@ impl Given {
         }
     }
 
-    /// The number of the first text behind the schema texts, which are numbered from 1.
+    /// The number of the first text after the schema texts, which are numbered from 1.
     pub fn next_file(&self) -> u64 {
         (self.schemas.len() as u64).wrapping_add(1)
     }

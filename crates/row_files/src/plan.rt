@@ -6,12 +6,12 @@ ghost use Rattle.graphql_names.specs.Device.{device_failed};
 use graphql_names::{Cut, Device, Ending};
 use std::io::ErrorKind;
 
-/// How many bytes devices hand on, and how they end.
+/// How many bytes devices pass on, and how they end.
 #[derive(Clone, Copy)]
 pub struct Plan {
     /// The most bytes a call.
     pub step: usize,
-    /// The number of the text whose reader ends after `read` bytes. Each reader behind it fails at its first call.
+    /// The number of the text whose reader ends after `read` bytes. Each reader after it fails at its first call.
     pub text: usize,
     /// After so many bytes the reader of `text` ends.
     pub read: usize,

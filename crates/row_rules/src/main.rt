@@ -1,4 +1,4 @@
-//! Rows of schemas, of what stands in documents by itself, of documents, and of sets of fields by themselves, that are judged
+//! Rows of schemas, of parts of documents by themselves, of documents, and of sets of fields by themselves, that are judged
 //! by rules. Its words name the files of its `data/`.
 #![tactic(auto)]
 

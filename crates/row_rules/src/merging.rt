@@ -8,7 +8,7 @@ use graphql_validation::FieldsInSetCanMerge;
 use row_files::{Answer, Case, Problem, number, says};
 use std::alloc::Global;
 
-/// Adds what does not merge in each operation, in order, then whether the value that judges them is clean behind each, and
+/// Adds what does not merge in each operation, in order, then whether the value that judges them is clean after each, and
 /// how often it compared shapes, where the row asks for another number.
 pub(crate) fn push_merging(
     alloc: Global,
@@ -32,7 +32,7 @@ pub(crate) fn push_merging(
     push_comparisons(case, merging.comparisons(), answer)
 }
 
-/// Adds to the status whether the value is clean behind each operation.
+/// Adds to the status whether the value is clean after each operation.
 fn push_cleans(cleans: &[bool], answer: &mut Answer) {
     for is_clean in cleans {
         answer

@@ -7,7 +7,7 @@ use graphql_schema::Schema;
 use row_files::{Answer, Case, Lines, Problem, number};
 use std::alloc::Global;
 
-/// Adds what breaks a rule in the schema, or in so many of its types as the row says, behind the scalars that are left
+/// Adds what breaks a rule in the schema, or in so many of its types as the row says, after the scalars that are left
 /// where the call asks for them.
 pub(crate) fn push_rules(
     alloc: Global,

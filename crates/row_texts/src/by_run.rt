@@ -1,4 +1,4 @@
-//! Rows that are judged by `run`, over readers and a writer that hand on few bytes a call, and that end.
+//! Rows that are judged by `run`, over readers and a writer that pass on few bytes a call, and that end.
 
 use crate::asked::asked_of;
 use crate::checks::Checks;

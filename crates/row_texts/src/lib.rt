@@ -2,7 +2,7 @@
 //! to the checker, and what its answers are in words.
 //!
 //! For the program of rows over the checker, which says how each call answers (`Checks`): `by_texts` judges a row by these.
-//! Whatever needs no call of the checker stands here, so that it is proved beside the checker and not behind it.
+//! Whatever needs no call of the checker is here, so that its proof does not wait for the checker's.
 //!
 //! Begin with `checks.rt` and `judging.rt`.
 #![tactic(auto)]

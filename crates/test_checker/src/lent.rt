@@ -9,7 +9,7 @@ use document_typed_selections::{Field, SelectionSet};
 use graphql_names::Node;
 use std::alloc::AllocError;
 
-/// A user with a picture, and a scalar of one's own.
+/// A user with a picture, and a custom scalar.
 const USERS: &str =
     "type User { id: ID name: String profilePic(size: Int): URL } schema { query: User } scalar URL @specifiedBy(url: \"https://tools.ietf.org/html/rfc3986\")";
 

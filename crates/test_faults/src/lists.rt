@@ -42,7 +42,7 @@ fn push_built(alloc: Global, list: &mut DiagnosticList) -> Result<(), AllocError
     list.append_document_errors(typing)
 }
 
-/// Adds a list of four, of which one is a copy and two are moved from another list, behind the lengths of both.
+/// Adds a list of four, of which one is a copy and two are moved from another list, after the lengths of both.
 pub(crate) fn show_list(alloc: Global, lines: &mut Lines) -> Result<(), AllocError> {
     let mut list = DiagnosticList::new(alloc);
     list.push(None, Details::Nesting)?;
@@ -62,7 +62,7 @@ pub(crate) fn show_list(alloc: Global, lines: &mut Lines) -> Result<(), AllocErr
     Ok(())
 }
 
-/// Adds names in words: three of them, one, none, and what stands in the place of one.
+/// Adds names in words: three of them, one, none, and what is said instead of one.
 pub(crate) fn show_words(lines: &mut Lines) {
     let names = [type_name(), other_type_name(), field_name()];
     show_names(lines, &names[..]);

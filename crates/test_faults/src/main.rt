@@ -1,4 +1,4 @@
-//! Prints what each fault tells that no row of text reaches, one a line behind the name of its variant. The file `stdout`
+//! Prints what each fault tells that no row of text reaches, one a line after the name of its variant. The file `stdout`
 //! beside this folder has the texts as the rules give them.
 #![tactic(auto)]
 

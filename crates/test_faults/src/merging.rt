@@ -25,7 +25,7 @@ pub(crate) fn show_merging(alloc: Global, lines: &mut Lines) -> Result<(), Alloc
     show_defer(alloc, lines)
 }
 
-/// Adds what the error tells, behind its name.
+/// Adds what the error tells, after its name.
 fn show(lines: &mut Lines, error: BuildError) {
     show_details(lines, &Details::DocumentBuild(error));
 }

@@ -4,7 +4,7 @@ use fault_data::DiagnosticData;
 use graphql_faults::Details;
 use row_files::Lines;
 
-/// Adds what the data tell, behind the name of their variant, and what a copy of them tells.
+/// Adds what the data tell, after the name of their variant, and what a copy of them tells.
 pub(crate) fn show(lines: &mut Lines, variant: &str, data: DiagnosticData) {
     lines.show_between(variant, &": ", "");
     lines.show_between("", &data, "\n");
@@ -20,7 +20,7 @@ fn show_copy(lines: &mut Lines, copy: &DiagnosticData, is_equal: bool) {
     lines.show_between(" copy: ", copy, "\n");
 }
 
-/// Adds what the details tell, behind their name.
+/// Adds what the details tell, after their name.
 pub(crate) fn show_details(lines: &mut Lines, details: &Details) {
     lines.show_between(details.name(), &": ", "");
     lines.show_between("", details, "\n");

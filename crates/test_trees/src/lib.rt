@@ -1,5 +1,5 @@
 //! Tests over public calls that no row of text reaches: trees, selections and documents that are built by calls, equality, hash
-//! and clones, operations by name, look-ups, walks from sets, and each public call once in ample memory. Rows stand in the
+//! and clones, operations by name, lookup, walks from sets, and each public call once in ample memory. Rows are in the
 //! programs of rows (`FORMAT.md` of `row_files`). It has no code but these.
 #![tactic(auto)]
 

@@ -1,4 +1,4 @@
-//! Walks from sets, and the look-up of a fragment.
+//! Walks from sets, and the lookup of a fragment.
 
 use graphql_documents::{
     AllFields, ExecutableDocument, FragmentSpread, FragmentSpreadExt, RootFields,
