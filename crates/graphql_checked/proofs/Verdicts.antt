@@ -21,10 +21,10 @@ use Rattle.checker_documents.specs.DocumentRefusals.{RefusalOfDocument}
 use Rattle.graphql_checked.specs.Verdicts.{IsVerdict, refusal_verdict}
 use Rattle.checker_texts.specs.declared.refusal.Refusal.{Refusal}
 use Rattle.checker_texts.specs.declared.refusal.Refusal.TheVariants.{Faults, Memory, Failed}
-use Rattle.graphql_checked.specs.declared.verdict.Verdict.{Verdict}
-use Rattle.graphql_checked.specs.declared.verdict.Verdict.TheVariants.{Accepted}
-use Rattle.graphql_checked.specs.declared.verdict.CheckError.{CheckError}
-use Rattle.graphql_checked.specs.declared.verdict.CheckError.TheVariants as error
+use Rattle.checker_answers.specs.declared.verdict.Verdict.{Verdict}
+use Rattle.checker_answers.specs.declared.verdict.Verdict.TheVariants.{Accepted}
+use Rattle.checker_answers.specs.declared.verdict.CheckError.{CheckError}
+use Rattle.checker_answers.specs.declared.verdict.CheckError.TheVariants as error
 use Rattle.checker_texts.proofs.Deciding.{one_list}
 
 -- ---- a checker that is given texts

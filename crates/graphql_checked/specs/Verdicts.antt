@@ -6,10 +6,10 @@ use Rattle.verdict_definitions.specs.Answer.{Refuses}
 use Rattle.book_validity.specs.Yes.{IsYes}
 use Rattle.checker_texts.specs.declared.refusal.Refusal.{Refusal}
 use Rattle.checker_texts.specs.declared.refusal.Refusal.TheVariants as refusal
-use Rattle.graphql_checked.specs.declared.verdict.Verdict.{Verdict}
-use Rattle.graphql_checked.specs.declared.verdict.Verdict.TheVariants.{Accepted, Refused}
-use Rattle.graphql_checked.specs.declared.verdict.CheckError.{CheckError}
-use Rattle.graphql_checked.specs.declared.verdict.CheckError.TheVariants.{Memory}
+use Rattle.checker_answers.specs.declared.verdict.Verdict.{Verdict}
+use Rattle.checker_answers.specs.declared.verdict.Verdict.TheVariants.{Accepted, Refused}
+use Rattle.checker_answers.specs.declared.verdict.CheckError.{CheckError}
+use Rattle.checker_answers.specs.declared.verdict.CheckError.TheVariants.{Memory}
 
 -- texts and extensions are counted from 1
 abbrev pub first_terms : ℕ → Terms

@@ -13,7 +13,7 @@
 mod run_texts;
 mod verdict;
 
-pub use checker_answers::{Outcome, RunFault, exit_status};
+pub use checker_answers::{CheckError, Outcome, RunFault, Verdict, exit_status};
 pub use checker_documents::{CheckedDocument, CheckedSchema, Checker, Limits};
 pub use checker_layouts::Layout;
 pub use checker_settings::Settings;
@@ -22,4 +22,4 @@ pub use document_typed_operations::ExecutableDocument;
 pub use graphql_faults::{Details, DiagnosticList};
 pub use graphql_schema::Schema;
 pub use run_texts::run;
-pub use verdict::{CheckError, Verdict, check_texts};
+pub use verdict::check_texts;

@@ -8,32 +8,15 @@ ghost use Rattle.checker_schemas.specs.Refusals.{RefusalOfSchemas};
 ghost use Rattle.graphql_checked.specs.Verdicts.{first_terms, IsVerdict, refusal_verdict};
 ghost use Rattle.checker_texts.specs.declared.refusal.Refusal.TheVariants as refusal;
 ghost use Rattle.checker_texts.specs.declared.refusal.Refusal.TheVariants.{Failed};
-ghost use Rattle.graphql_checked.specs.declared.verdict.Verdict.TheVariants.{Accepted};
-ghost use Rattle.graphql_checked.specs.declared.verdict.CheckError.TheVariants.{Memory};
+ghost use Rattle.checker_answers.specs.declared.verdict.Verdict.TheVariants.{Accepted};
+ghost use Rattle.checker_answers.specs.declared.verdict.CheckError.TheVariants.{Memory};
 
+use checker_answers::{CheckError, Verdict};
 use checker_documents::{CheckedSchema, Checker, Limits};
 use checker_texts::Refusal;
 use graphql_faults::DiagnosticList;
 use std::alloc::Global;
 use std::convert::AsStr;
-use thiserror::Error;
-
-/// Whether texts are accepted.
-#[derive(Drop)]
-pub enum Verdict {
-    /// They are read, and every rule holds.
-    Accepted,
-    /// What is wrong; the list is never empty.
-    Refused(DiagnosticList),
-}
-
-/// Why there is no verdict.
-#[derive(Clone, Copy, Debug, PartialEq, Eq, Error)]
-pub enum CheckError {
-    /// Memory ran out.
-    #[error("out of memory")]
-    Memory,
-}
 
 /// Judges schema texts and a document over them. A refused schema leaves the document unread.
 pub fn check_texts(

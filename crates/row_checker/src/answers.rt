@@ -1,9 +1,9 @@
 //! Answers of the checker call by call.
 
-use graphql_checked::{CheckedDocument, CheckedSchema, Checker, Layout, Limits, Refusal};
+use graphql_checked::{CheckedDocument, CheckedSchema, Checker, Limits, Refusal};
 use graphql_names::Files;
 use row_files::Answer;
-use row_texts::{Asked, push_refusal, push_text};
+use row_texts::{Asked, push_lent, push_refusal, push_text};
 use schema_components::Extensions;
 use std::alloc::Global;
 
@@ -11,7 +11,7 @@ use std::alloc::Global;
 pub(crate) fn push_around(
     schema: &CheckedSchema,
     documents: &[&str],
-    layout: Layout<'_>,
+    asked: Asked,
     answer: &mut Answer,
 ) {
     let Some(first) = documents.first() else {
@@ -19,17 +19,17 @@ pub(crate) fn push_around(
     };
     match schema.check(first) {
         Ok(checked) => {
-            push_each(schema, documents, layout, answer);
-            push_accepted(schema, &checked, layout, answer);
+            push_each(schema, documents, asked, answer);
+            push_accepted(schema, &checked, asked, answer);
         }
         Err(refusal) => push_refusal(&refusal, answer),
     }
 }
 
 /// Adds the answer to each document, and a comma to its status.
-fn push_each(schema: &CheckedSchema, documents: &[&str], layout: Layout<'_>, answer: &mut Answer) {
+fn push_each(schema: &CheckedSchema, documents: &[&str], asked: Asked, answer: &mut Answer) {
     for document in documents {
-        push_check(schema, document, layout, answer);
+        push_check(schema, document, asked, answer);
         answer.status.put(", ");
     }
 }
@@ -64,22 +64,26 @@ pub(crate) fn schema_of(
 pub(crate) fn push_check(
     schema: &CheckedSchema,
     document: &str,
-    layout: Layout<'_>,
+    asked: Asked,
     answer: &mut Answer,
 ) {
     match schema.check(document) {
-        Ok(checked) => push_accepted(schema, &checked, layout, answer),
+        Ok(checked) => push_accepted(schema, &checked, asked, answer),
         Err(refusal) => push_refusal(&refusal, answer),
     }
 }
 
-/// Adds the answer that has both texts.
+/// Adds the answer that has both texts, or what the document lends.
 fn push_accepted(
     schema: &CheckedSchema,
     document: &CheckedDocument<'_>,
-    layout: Layout<'_>,
+    asked: Asked,
     answer: &mut Answer,
 ) {
+    if asked.lends {
+        return push_lent(document.document(), answer);
+    }
+    let layout = asked.layout;
     answer.show("0", &"accepted\n");
     push_text(schema.written(layout), layout, answer);
     push_text(document.written(layout), layout, answer);

@@ -37,7 +37,7 @@ impl Checks for Checking {
 
     fn push_calls(&self, alloc: Global, texts: Texts<'_>, answer: &mut Answer) {
         match schema_of(alloc, texts.schemas, texts.asked) {
-            Ok(schema) => push_check(&schema, texts.document, texts.asked.layout, answer),
+            Ok(schema) => push_check(&schema, texts.document, texts.asked, answer),
             Err(refusal) => push_refusal(&refusal, answer),
         }
     }
@@ -51,7 +51,7 @@ impl Checks for Checking {
         answer: &mut Answer,
     ) {
         match schema_of(alloc, schemas, asked) {
-            Ok(schema) => push_around(&schema, documents, asked.layout, answer),
+            Ok(schema) => push_around(&schema, documents, asked, answer),
             Err(refusal) => push_refusal(&refusal, answer),
         }
     }

@@ -28,7 +28,7 @@ struct Judging;
 impl Calls for Judging {
     fn names_of(&self, call: &str) -> Option<&'static [&'static str]> {
         match call {
-            "rules" | "kept" => Some(&["schema", "types"]),
+            "rules" | "kept" | "noted" => Some(&["schema", "types"]),
             "value" | "covariant" => Some(&["schema", "type", "input"]),
             "directives" => Some(&["schema", "standalone", "location", "input"]),
             "arguments" => Some(&["input"]),
@@ -62,7 +62,7 @@ fn by_built(
     tally: &mut Tally,
 ) -> Result<(), Problem> {
     match case.call {
-        "rules" | "kept" => {
+        "rules" | "kept" | "noted" => {
             push_rules(alloc, case, &mut built.schema, &mut tally.answer)?;
             judge(case, &[], tally)
         }

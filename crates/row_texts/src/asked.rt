@@ -6,7 +6,7 @@ use row_files::{Case, Field, Problem, Way, number, text_of};
 /// The fields that rows of the call may have beside those of every row. None where there is no such call.
 pub fn names_of(call: &str) -> Option<&'static [&'static str]> {
     match call {
-        "check_texts" => Some(&["nesting", "schema", "document"]),
+        "check_texts" | "lent" => Some(&["nesting", "schema", "document"]),
         "calls" | "series" | "back" => Some(&[
             "nesting",
             "first_text",
@@ -32,6 +32,8 @@ pub struct Asked {
     pub text: u64,
     pub extension: u64,
     pub layout: Layout<'static>,
+    /// Whether an accepted document is told by what it lends, instead of by the texts that are written.
+    pub lends: bool,
 }
 
 /// What the row asks for, under the limit of the way.
@@ -41,6 +43,7 @@ pub(crate) fn asked_of(case: Case<'_>, way: Way<'_>) -> Result<Asked, Problem> {
         text: number(case.row, "first_text", "1")? as u64,
         extension: number(case.row, "first_extension", "1")? as u64,
         layout: layout_of(case)?,
+        lends: case.call == "lent",
     })
 }
 

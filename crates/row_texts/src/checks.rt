@@ -19,7 +19,7 @@ pub trait Checks {
     /// Adds the answer of `check_texts`.
     fn push_check_texts(&self, alloc: Global, texts: Texts<'_>, answer: &mut Answer);
 
-    /// Adds the answer of `Checker::new`, `add_schema`, `finish`, `check` and both `written`.
+    /// Adds the answer of `Checker::new`, `add_schema`, `finish`, `check`, and of both `written` or of what the document lends.
     fn push_calls(&self, alloc: Global, texts: Texts<'_>, answer: &mut Answer);
 
     /// Adds the answers of one schema to the documents, in order, and that to the first once more.

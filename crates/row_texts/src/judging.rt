@@ -123,7 +123,7 @@ fn judge_texts<C: Checks>(
     tally: &mut Tally,
 ) -> Result<(), Problem> {
     match way.call {
-        "calls" => {
+        "calls" | "lent" => {
             checks.push_calls(alloc, texts, &mut tally.answer);
             compare(case, way, tally)
         }

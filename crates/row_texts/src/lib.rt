@@ -2,7 +2,7 @@
 //! to the checker, and what its answers are in words.
 //!
 //! For the program of rows over the checker, which says how each call answers (`Checks`): `by_texts` judges a row by these.
-//! Whatever needs no call of the checker is here, so that its proof does not wait for the checker's.
+//! Whatever needs no call of the checker stands here, so that it is proved beside the checker and not after it.
 //!
 //! Begin with `checks.rt` and `judging.rt`.
 #![tactic(auto)]
@@ -13,6 +13,7 @@ mod by_run;
 mod checks;
 mod devices;
 mod judging;
+mod lent;
 mod pair;
 mod words;
 
@@ -20,5 +21,6 @@ pub use asked::{Asked, layouts, names_of};
 pub use checks::{Checks, Texts};
 pub use devices::{failed_reader, push_end, readers};
 pub use judging::by_texts;
+pub use lent::push_lent;
 pub use pair::Pair;
 pub use words::{push_refusal, push_refused, push_text};

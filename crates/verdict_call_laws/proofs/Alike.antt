@@ -17,10 +17,10 @@ use Rattle.graphql_checked.specs.Verdicts.{IsVerdict}
 use Rattle.graphql_faults.specs.declared.diagnostic_list.DiagnosticList.{DiagnosticList}
 use Rattle.checker_texts.specs.declared.refusal.Refusal.{Refusal}
 use Rattle.checker_texts.specs.declared.refusal.Refusal.TheVariants as refusal
-use Rattle.graphql_checked.specs.declared.verdict.Verdict.{Verdict}
-use Rattle.graphql_checked.specs.declared.verdict.Verdict.TheVariants.{Accepted, Refused}
-use Rattle.graphql_checked.specs.declared.verdict.CheckError.{CheckError}
-use Rattle.graphql_checked.specs.declared.verdict.CheckError.TheVariants.{Memory}
+use Rattle.checker_answers.specs.declared.verdict.Verdict.{Verdict}
+use Rattle.checker_answers.specs.declared.verdict.Verdict.TheVariants.{Accepted, Refused}
+use Rattle.checker_answers.specs.declared.verdict.CheckError.{CheckError}
+use Rattle.checker_answers.specs.declared.verdict.CheckError.TheVariants.{Memory}
 use Rattle.verdict_call_laws.specs.Answers.{AnswersFinish}
 use Rattle.verdict_call_laws.specs.Alike.{VerdictsAgree, PassesNoBound, AreAnsweredAlike, VerdictsOfRearranged, VerdictsOfCut, AreRearrangedSchemas, AreCutSchemas, FirstIsCertain, FinishAlike, SchemasOfRearranged, SchemasOfCut, DocumentsOverEqual}
 

@@ -20,10 +20,10 @@ use Rattle.graphql_checked.specs.Run.{IsAnswerToCertain}
 use Rattle.graphql_checked.specs.Verdicts.{first_terms}
 use Rattle.checker_texts.specs.declared.refusal.Refusal.{Refusal}
 use Rattle.checker_texts.specs.declared.refusal.Refusal.TheVariants as refusal
-use Rattle.graphql_checked.specs.declared.verdict.Verdict.{Verdict}
-use Rattle.graphql_checked.specs.declared.verdict.Verdict.TheVariants.{Accepted}
-use Rattle.graphql_checked.specs.declared.verdict.CheckError.{CheckError}
-use Rattle.graphql_checked.specs.declared.verdict.CheckError.TheVariants.{Memory}
+use Rattle.checker_answers.specs.declared.verdict.Verdict.{Verdict}
+use Rattle.checker_answers.specs.declared.verdict.Verdict.TheVariants.{Accepted}
+use Rattle.checker_answers.specs.declared.verdict.CheckError.{CheckError}
+use Rattle.checker_answers.specs.declared.verdict.CheckError.TheVariants.{Memory}
 use Rattle.verdict_call_laws.specs.Answers.{AnswersTexts, AnswersFinish, AnswersCheck, RunValue, AnswersRun}
 
 -- ---- the schema

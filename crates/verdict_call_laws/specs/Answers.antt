@@ -15,10 +15,10 @@ use Rattle.graphql_checked.specs.Run.{BytesOf, IsAnswerToCertain}
 use Rattle.graphql_checked.specs.Verdicts.{IsVerdict}
 use Rattle.checker_texts.specs.declared.refusal.Refusal.{Refusal}
 use Rattle.checker_texts.specs.declared.refusal.Refusal.TheVariants as refusal
-use Rattle.graphql_checked.specs.declared.verdict.Verdict.{Verdict}
-use Rattle.graphql_checked.specs.declared.verdict.Verdict.TheVariants.{Accepted}
-use Rattle.graphql_checked.specs.declared.verdict.CheckError.{CheckError}
-use Rattle.graphql_checked.specs.declared.verdict.CheckError.TheVariants.{Memory}
+use Rattle.checker_answers.specs.declared.verdict.Verdict.{Verdict}
+use Rattle.checker_answers.specs.declared.verdict.Verdict.TheVariants.{Accepted}
+use Rattle.checker_answers.specs.declared.verdict.CheckError.{CheckError}
+use Rattle.checker_answers.specs.declared.verdict.CheckError.TheVariants.{Memory}
 
 -- `check_texts`, of these texts on these terms
 pub record AnswersTexts (terms : Terms) (schemas : List SourceText) (document : SourceText) (answer : Result Verdict CheckError) : Type 0 where
