@@ -1,13 +1,13 @@
-//! The checker: schema texts and a document text go in; a verdict, faults, and for an accepted pair both texts
-//! written again come out.
+//! The checker: schema texts and a document text go in. A verdict and faults come out, and for an accepted pair both
+//! texts, written again.
 //!
-//! For the layer above: a yes is right, each fault is right, and what is written is the layout's bytes. The definitions are those
-//! of `verdict_definitions` (`Judge`, `Says`, `Answer`, `Out`); contracts of the calls say which of them holds
-//! (`specs/Verdicts.antt`, `specs/Run.antt` here, `specs/CheckerAnswers.antt` of `checker_documents`).
+//! For the layer above: a yes is right, each fault is right, and what is written is the layout's bytes. The definitions
+//! are those of `verdict_definitions` (`Judge`, `Says`, `Answer`, `Out`); contracts of the calls say which of them
+//! holds (`specs/Verdicts.antt`, `specs/Run.antt` here, `specs/CheckerAnswers.antt` of `checker_documents`).
 //!
-//! A [`Checker`] takes schema texts and gives a [`CheckedSchema`], which checks documents (both of `checker_documents`);
-//! [`check_texts`] is the two in one call, and [`run`] the same over readers and a writer. Begin with `verdict.rt` and
-//! `run_texts.rt`.
+//! A [`Checker`] takes schema texts and gives a [`CheckedSchema`], which checks documents (both of
+//! `checker_documents`). [`check_texts`] is the two in one call, and [`run`] the same over readers and a writer. Begin
+//! with `verdict.rt` and `run_texts.rt`.
 #![tactic(auto)]
 
 mod run_texts;

@@ -22,11 +22,10 @@ use graphql_names::Device;
 use std::alloc::{AllocError, Global};
 use std::io::{Read, Write};
 
-/// Reads the schema texts and then the document to their ends, judges them, makes the whole answer, and then
-/// writes it.
+/// Reads the schema texts and then the document to their ends, judges them, makes the whole answer, and then writes it.
 ///
-/// A schema that is refused leaves the document unjudged, though it was read. After every fault but [`RunFault::Writer`]
-/// nothing is out. Wherever something is put out each reader was read to its end.
+/// If the schema is refused, the document is read but not judged. After every fault but [`RunFault::Writer`] nothing is
+/// out. If anything is out, each reader was read to its end.
 pub fn run<R: Read, D: Read, W: Write>(
     alloc: Global,
     schemas: &mut [Device<R>],

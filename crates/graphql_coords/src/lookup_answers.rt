@@ -9,7 +9,7 @@ use schema_components::Component;
 use tree_directives::{DirectiveDefinition, InputValueDefinition};
 use tree_type_members::{EnumValueDefinition, FieldDefinition};
 
-/// Why a coordinate names nothing in a schema: the name that was not found or does not fit, or the type.
+/// Why a coordinate names nothing in a schema, with the name that was not found or does not fit, or the type.
 #[derive(Clone, Copy)]
 pub enum SchemaLookupError<'coord, 'schema> {
     /// There is no type, or no directive, of that name.

@@ -13,7 +13,7 @@ use schema_types::ExtendedType;
 
 /// Calls of a field that need a schema.
 pub trait FieldExt {
-    /// The type inside that of the field's definition, if the schema has it.
+    /// The type inside all brackets of the field's type, if the schema has it.
     fn inner_type_def<'schema>(&self, schema: &'schema Schema) -> Option<&'schema ExtendedType>;
 }
 

@@ -19,8 +19,8 @@ use tree_operations::Selection;
 
 /// Calls that make a selection set by itself.
 pub trait FieldSetExt {
-    /// The selections that have a meaning under the type of that name, as a set on it, which is typed by its
-    /// place, and each way in which a rule of typing is broken in it.
+    /// A set on the type of that name, of the selections that have a meaning on it. The set is typed by its place. With
+    /// it comes each way in which a rule of typing is broken in it.
     fn from_ast(
         alloc: Global,
         schema: &Schema,

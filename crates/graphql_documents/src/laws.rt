@@ -14,9 +14,9 @@ use graphql_names::SourceSpan;
 use std::alloc::Global;
 use tree_definitions::Document;
 
-/// What is written of all that was added, and each way in which a rule of typing is broken in it. What is written is what
-/// is kept; where no rule is broken, it is all operations, one without a name first, and then all fragments, each as it
-/// was read.
+/// What is written of all that was added, and each way in which a rule of typing is broken in it. What is written is
+/// what is kept. If no rule is broken, it is all operations, one without a name first, and then all fragments, each as
+/// it was read.
 pub fn written_and_told(
     alloc: Global,
     builder: ExecutableDocumentBuilder<'_>,

@@ -2,7 +2,7 @@
 use document_typing::FieldLookupError;
 use std::alloc::AllocError;
 
-/// Why a selection set makes no field of a name.
+/// Why a selection set makes no field with a given name.
 #[derive(Clone, Copy)]
 pub enum NewFieldError<'schema> {
     /// The type of the set has no such field.

@@ -13,7 +13,7 @@ use std::fmt;
 
 /// What is wrong with a text, with a schema or with a document.
 pub enum Details {
-    /// The text is none of the grammar (appendix B).
+    /// The text does not match the grammar (appendix B).
     Syntax(SyntaxFaultKind),
     /// More brackets are open at once than the limit allows.
     Nesting,

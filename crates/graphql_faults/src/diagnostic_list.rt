@@ -118,7 +118,7 @@ impl DiagnosticList {
         self.diagnostics.is_empty()
     }
 
-    /// They, in order.
+    /// All of them, in order.
     pub fn iter(&self) -> slice::Iter<'_, (Option<SourceSpan>, Details)>
         ensures { map details_at (iter_rest result) ≡ diagnostics_of self.now }
     {

@@ -14,8 +14,8 @@ pub enum Ending {
     TakesNothing,
 }
 
-/// A reader or a writer that passes on at most a set number of bytes a call, and a set number in all. After
-/// these it ends as it is told. It counts its calls of `read` and `write`.
+/// A reader or a writer that passes on at most a set number of bytes a call, and a set number in all. Then it ends as
+/// its [`Ending`] says. It counts its calls of `read` and `write`.
 #[derive(Drop)]
 pub struct Cut<D> {
     pub(crate) inner: D,

@@ -27,8 +27,8 @@ impl<D> Device<D> {
         }
     }
 
-    /// Whether a call of `read` or `write` gave an error, an interruption too, or a write of some bytes
-    /// took none. Once true it stays so.
+    /// Whether a call of `read` or `write` has failed: it gave an error (an interruption is one too), or a write of
+    /// some bytes took none. Once true it stays so.
     pub fn failed(&self) -> bool
         ensures { result ≡ device_failed self.now }
     {
@@ -37,7 +37,7 @@ impl<D> Device<D> {
 }
 
 impl<R: Read> Device<R> {
-    /// One call of the reader's `read`, with its answer: how many bytes it put at the front of `buf`.
+    /// Calls the reader's `read` once. Answers how many bytes it put at the front of `buf`.
     pub fn read(&mut self, buf: &mut [u8]) -> io::Result<usize>
         ensures bound { ReadsAtMost result buf.new }
         ensures bytes { ReadConsumes (R.remaining (device_inner self.old))
@@ -53,7 +53,7 @@ impl<R: Read> Device<R> {
 }
 
 impl<W: Write> Device<W> {
-    /// One call of the writer's `write`, with its answer: how many bytes of the front of `buf` it took.
+    /// Calls the writer's `write` once. Answers how many bytes of the front of `buf` it took.
     pub fn write(&mut self, buf: &[u8]) -> io::Result<usize>
         ensures bound { WritesAtMost result buf.now }
         ensures bytes { WriteAppends (W.contents (device_inner self.old))
@@ -68,8 +68,8 @@ impl<W: Write> Device<W> {
         result
     }
 
-    /// Calls `write` until all bytes are out, or a call fails or takes none. Answers how many bytes are
-    /// out; where these are fewer than all, the device has failed.
+    /// Calls `write` until all bytes are out, or until a call fails or takes none. Answers how many bytes are out. If
+    /// these are not all, the device has failed.
     pub fn write_front(&mut self, bytes: &[u8]) -> usize
         ensures bound { result ≤ length bytes.now }
         ensures out { Appends (W.contents (device_inner self.old))

@@ -42,7 +42,8 @@ impl Files {
         Files { number }
     }
 
-    /// Gives the number and goes on to the next. Where the number is `u64::MAX` it answers `Spent` and stays.
+    /// Gives the next number, and counts on. If that is `u64::MAX` it is not given: the answer is `Spent`, then and
+    /// later.
     pub fn next(&mut self) -> Result<FileId, Spent>
         ensures given { IfOk result (λ id. id.0 ≡ self.old) }
         ensures not_built_in { IfOk result (λ id. id.0 ≢ 0) }

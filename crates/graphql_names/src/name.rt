@@ -116,7 +116,7 @@ impl Name {
         Ok(Name::new_static_unchecked(text))
     }
 
-    /// A name of a copy of `text`, which is a Name token, without a place.
+    /// A name of a copy of `text`, without a place. The text must be a Name token.
     pub fn new_unchecked(alloc: Global, text: &str) -> Result<Name, AllocError>
         requires { IsName text.now }
         ensures text { IfOk result (λ n. n.text ≡ text.now) }
@@ -126,7 +126,7 @@ impl Name {
         Ok(Name::from_arc_unchecked(RcStr::from_str(alloc, text)?))
     }
 
-    /// A name of a text of the program, which is a Name token, without a place. It takes no memory.
+    /// A name of a text of the program, without a place. The text must be a Name token. It takes no memory.
     pub fn new_static_unchecked(text: &'static str) -> Name
         requires { IsName text.now }
         ensures text { result.text ≡ text.now }
@@ -139,7 +139,7 @@ impl Name {
         }
     }
 
-    /// A name of a shared text, which is a Name token, without a place. It takes no memory.
+    /// A name of a shared text, without a place. The text must be a Name token. It takes no memory.
     pub fn from_arc_unchecked(text: RcStr) -> Name
         requires { IsName (rc_str_bytes text) }
         ensures text { result.text ≡ rc_str_bytes text }
@@ -152,8 +152,8 @@ impl Name {
         }
     }
 
-    /// A name of a part of a shared text, which is a Name token, as [`Name::is_valid_syntax`] tells of the
-    /// part's text, without a place. It takes no memory.
+    /// A name of a part of a shared text, without a place. The text of the part must be a Name token. It takes no
+    /// memory.
     pub fn from_part_unchecked(part: TextPart) -> Name
         requires { IsName (part_bytes part) }
         ensures text { result.text ≡ part_bytes part }
@@ -166,7 +166,7 @@ impl Name {
         }
     }
 
-    /// The same name, read from `place`, which is as long as the text.
+    /// The same name, with this place, which must be as long as the text.
     pub fn with_location(self, place: SourceSpan) -> Name
         requires { place.length ≡ length self.text }
         ensures text { result.text ≡ self.text }
@@ -216,8 +216,8 @@ impl Name {
         }
     }
 
-    /// The text as a shared one, where it is not one of the program. It is copied only where it is a part
-    /// of a longer text; else memory is refused only where the text is shared as often as can be counted.
+    /// The text as a shared one; `None` for a text of the program. It is copied only if it is a part of a longer text.
+    /// Otherwise memory is refused only if the text is shared as often as can be counted.
     pub fn to_cloned_arc(&self, alloc: Global) -> Result<Option<RcStr>, AllocError>
         ensures value { IfOk result (shared_answer self.now.is_static self.now.text) }
         ensures stat { IsTrue self.now.is_static → IsOk result }

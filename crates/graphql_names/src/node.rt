@@ -26,7 +26,7 @@ impl<T: Drop> Drop for Node<T> {
 
 /// Nodes of values.
 impl<T> Node<T> {
-    /// A node of `value` without a place. Where memory is refused the value comes back.
+    /// A node of `value` without a place. If memory is refused, the error has the value.
     pub fn new(alloc: Global, value: T) -> Result<Node<T>, AllocFailed<T>>
         ensures content { IfOk result (λ n. content n ≡ value) }
         ensures place { IfOk result (λ n. place n ≡ None) }
@@ -38,7 +38,7 @@ impl<T> Node<T> {
         })
     }
 
-    /// A node of `value` that was read from `location`. Where memory is refused the value comes back.
+    /// A node of `value` that was read from `location`. If memory is refused, the error has the value.
     pub fn new_parsed(
         alloc: Global,
         value: T,
@@ -54,7 +54,7 @@ impl<T> Node<T> {
         })
     }
 
-    /// A node of `value` with this place. Where memory is refused the value comes back.
+    /// A node of `value` with this place. If memory is refused, the error has the value.
     pub fn same_location<U>(&self, alloc: Global, value: U) -> Result<Node<U>, AllocFailed<U>>
         ensures content { IfOk result (λ n. content n ≡ value) }
         ensures place { IfOk result (λ n. place n ≡ place self.now) }
@@ -93,7 +93,7 @@ impl<T> Node<T> {
         self.shared.as_ref()
     }
 
-    /// The value to write to, where no other node shares it. The place stays.
+    /// Lends the value to write to, if no other node shares it. The place stays.
     pub fn get_mut(&mut self) -> Option<&mut T>
         ensures* writes_back { sem 𝓛 (LendsContent T.row self.entry result) }
         ensures value { IfSome result (λ x. x.now ≡ content self.old) }
@@ -101,9 +101,9 @@ impl<T> Node<T> {
         Rc::get_mut(&mut self.shared)
     }
 
-    /// The value to write to, copied first where another node shares it. The place stays, and no other
-    /// node changes. A copy of the value has to equal it. Where memory is refused the node has its place
-    /// and the value, or a copy of it.
+    /// Lends the value to write to. If another node shares the value, it is copied first, so that no other node
+    /// changes. The place stays. A copy of the value must equal it. If memory is refused, the node keeps its place, and
+    /// the value or a copy of it.
     pub fn make_mut(&mut self) -> Result<&mut T, AllocError>
     where
         T: Clone + PartialEq + Drop,

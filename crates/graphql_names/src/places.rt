@@ -4,8 +4,8 @@ ghost use Rattle.graphql_names.specs.Places.{Recomposes, RecomposesBoth};
 use crate::span::SourceSpan;
 
 impl SourceSpan {
-    /// The place from the beginning of `start` to the end of `end`. With one missing it is the other; in
-    /// different files it is `end`; where `end` ends before `start` begins it is `start`.
+    /// The place from the beginning of `start` to the end of `end`. If one is missing it is the other. If they are in
+    /// different files it is `end`. If `end` ends before `start` begins it is `start`.
     pub fn recompose(start: Option<SourceSpan>, end: Option<SourceSpan>) -> Option<SourceSpan>
         ensures { Recomposes start end result }
     {

@@ -10,7 +10,7 @@ impl FileId {
     pub const BUILT_IN: FileId = FileId(0);
 }
 
-/// A place in a file: where it begins and how long it is, both in bytes. Where it ends is a `usize` too.
+/// A place in a file: where it begins and how long it is, both in bytes. Its end is at most the largest `usize`.
 #[derive(Clone, Copy, PartialEq, Eq, Hash, Debug)]
 pub struct SourceSpan {
     /// The file.

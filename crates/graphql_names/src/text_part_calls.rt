@@ -9,9 +9,9 @@ use std::alloc::AllocError;
 use std::rc::RcStr;
 
 impl TextPart {
-    /// The part of `whole` from `start` up to `end`, in bytes: two places at which the text may be cut, as
-    /// `str::is_char_boundary` tells. No text is copied: memory is refused only where the text is shared as
-    /// often as can be counted.
+    /// The part of `whole` from byte `start` up to byte `end`, which is not before `start`. At both the text may be
+    /// cut, as `str::is_char_boundary` tells. No text is copied: memory is refused only if the text is shared as often
+    /// as can be counted.
     pub fn new(whole: &RcStr, start: usize, end: usize) -> Result<TextPart, AllocError>
         requires ordered { start ≤ end }
         requires begins { IsCharBoundary (rc_str_bytes whole.now) start }

@@ -81,8 +81,8 @@ fn sources(
     Ok(sources)
 }
 
-/// The document that a text is, with at most `nesting` brackets open at once. Its sources hold a copy of the text, without a
-/// path, and its names are parts of that copy.
+/// The document that is written in a text, with at most `nesting` brackets open at once. Its sources hold a copy of the
+/// text, without a path. Its names are parts of that copy.
 pub fn parse_document(
     alloc: Global,
     text: &str,

@@ -6,13 +6,13 @@ use thiserror::Error;
 /// What is wrong with the tokens of a text.
 #[derive(Clone, Copy, PartialEq, Eq, Debug, Error)]
 pub enum SyntaxFaultKind {
-    /// No token starts at the place, where the text goes on.
+    /// The text goes on at the place, but no token starts there.
     #[error("no token starts here")]
     NoToken,
-    /// The token at the place can't follow on those before.
+    /// The token at the place cannot follow those before it.
     #[error("unexpected token")]
     Unexpected,
-    /// The text ends at the place, where more has to follow.
+    /// The text ends at the place, but more has to follow.
     #[error("unexpected end of text")]
     End,
 }
@@ -28,10 +28,10 @@ pub struct SyntaxFault {
 /// Why a text is not read.
 #[derive(Clone, Copy, PartialEq, Eq, Debug, Error)]
 pub enum ReadFault {
-    /// The text is none of the symbol.
+    /// The text does not match the grammar (appendix B).
     #[error(transparent)]
     Syntax(SyntaxFault),
-    /// The bracket at this offset opens, and would be one too many open at once.
+    /// The bracket that opens at this offset is one too many open at once.
     #[error("too many open brackets at {offset}")]
     Nesting { offset: usize },
     /// Memory ran out.

@@ -1,14 +1,14 @@
 //! Reads GraphQL texts (October 2021, sections 2 and 3, appendix B).
 //!
-//! [`parse_document`], [`parse_type`] and [`parse_selections`] answer the tree of a text, or the fault of a text that is
-//! none of the symbol, or nests its brackets too deep. Each ensures:
+//! [`parse_document`], [`parse_type`] and [`parse_selections`] answer the tree of a text. If the text does not match the
+//! symbol, or nests its brackets too deep, they answer the fault. Each ensures:
 //! - `found`: the tree answered is the text's, and its brackets nest within the limit;
-//! - `sound`: that tree can be written, each schema definition in it names a root, and no node is built in, at any depth, where
-//!   the file is another than that of the built-in definitions;
-//! - `only`: where the text has a tree within the limit, that tree is answered, or that memory ran out;
+//! - `sound`: that tree can be written, each schema definition in it names a root, and no node at any depth is built in,
+//!   unless the file is that of the built-in definitions;
+//! - `only`: if the text has a tree within the limit, the answer is that tree, or that memory ran out;
 //! - `fault`: the fault answered is due, and is the earliest: some text of the symbol begins with the tokens before it;
 //! - `within`: it is in the text: `End` where that ends, each other fault before;
-//! - `bound`: a tree is answered only where no prefix of the text nests brackets deeper than the limit, `Nesting` only where one
+//! - `bound`: a tree is answered only if no prefix of the text nests brackets deeper than the limit, `Nesting` only if one
 //!   does.
 //!
 //! The one source of a document is its text, under the number of its file and without a path (`sources`).

@@ -33,7 +33,8 @@ fn whole_selections(
     Ok(found)
 }
 
-/// The selections that a text is, one or more and without braces round them, with at most `nesting` brackets open at once.
+/// The selections that are written in a text: one or more, without braces round them, with at most `nesting` brackets
+/// open at once.
 pub fn parse_selections(
     alloc: Global,
     text: &str,

@@ -34,7 +34,7 @@ fn whole_type(
     Ok(found)
 }
 
-/// The type that a text is, with at most `nesting` brackets open at once.
+/// The type that is written in a text, with at most `nesting` brackets open at once.
 pub fn parse_type(
     alloc: Global,
     text: &str,

@@ -33,10 +33,10 @@ fn nodes_of<D: Deref<Target = Node<Directive>> + Drop, I: IntoIterator<Item = D>
     Ok(nodes)
 }
 
-/// Tells the faults of the directives that are used at one place of a schema or a document (section 5.7), with an
-/// operation's variables or none: UniqueDirective, UndefinedDirective, UnsupportedLocation, and the rules on their
-/// arguments. Any iterator gives them, of references to nodes or of what else leads to one. Without a schema each of them
-/// is undefined. After a refusal the list begins as before.
+/// Tells the faults of the directives that are used at one place of a schema or a document (section 5.7):
+/// UniqueDirective, UndefinedDirective, UnsupportedLocation, and the rules on their arguments. `variables` are those of
+/// the operation, or none. Any iterator gives the directives: its items are references to nodes, or lead to nodes.
+/// Without a schema each directive is undefined. After a refusal the list begins as before.
 pub fn validate_directives<D: Deref<Target = Node<Directive>> + Drop, I: IntoIterator<Item = D>>(
     alloc: Global,
     list: &mut DiagnosticList,
@@ -56,8 +56,8 @@ pub fn validate_directives<D: Deref<Target = Node<Directive>> + Drop, I: IntoIte
     list.append_faults(faults)
 }
 
-/// Tells each argument that is given before (UniqueArgument, section 5.4.2), and each key that stands before in an object
-/// inside what is given (UniqueInputValue, section 5.6.3). After a refusal the list begins as before.
+/// Tells each argument whose name an earlier one has (UniqueArgument, section 5.4.2). Tells each key that an object
+/// inside an argument has before (UniqueInputValue, section 5.6.3). After a refusal the list begins as before.
 pub fn validate_arguments(
     alloc: Global,
     list: &mut DiagnosticList,
@@ -71,8 +71,9 @@ pub fn validate_arguments(
     list.append_faults(faults)
 }
 
-/// Whether what is given for an argument may stand there: false, and told, of a variable among `variables` whose type does
-/// not fit (DisallowedVariableUsage, section 5.8.5), else true. After a refusal the list is as before.
+/// Whether what is given for an argument may be given there. It may not if it is one of `variables` whose type does not
+/// fit (DisallowedVariableUsage, section 5.8.5): this is told, and the answer is false. After a refusal the list is as
+/// before.
 pub fn validate_variable_usage(
     list: &mut DiagnosticList,
     definition: &Node<InputValueDefinition>,

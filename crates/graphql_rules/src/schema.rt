@@ -21,15 +21,15 @@ use rule_types::check_types;
 use rule_uses::check_schema_directives;
 use std::alloc::{AllocError, Global};
 
-/// Tells every fault of the rules on schemas (sections 3 and 5), and then keeps of the types all but the built-in scalars
-/// to which no field, argument or input field refers; those of the five that are referred to and missing come last. The
-/// rest of the schema stays. Where memory is refused the schema is as before, and some faults may be told.
+/// Tells every fault of the rules on schemas (sections 3 and 5). Then it drops from the types each built-in scalar to
+/// which no field, argument or input field refers, and adds at the end those of the five that are referred to and
+/// missing. The rest of the schema stays. Where memory is refused the schema is as before, and some faults may be told.
 ///
-/// Where nothing is told, implementing is a strict order on interfaces (sections 3.6 and 3.7). And each input type of the
-/// schema that is left, non-null ones too, has a literal: a text of a value that may be given for it (sections 2.9, 3.4.2 and
-/// 5.6); this where the built-in scalars of the schema are among the five, and no enum value is `true`, `false` or `null`, as
-/// holds of what is read under other numbers than [`FileId::BUILT_IN`](graphql_names::FileId::BUILT_IN)
-/// (`laws::read_texts_meet_the_premises`).
+/// Where nothing is told, implementing is a strict order on interfaces (sections 3.6 and 3.7). And each input type of
+/// the schema that is left, non-null ones too, has a literal: a text of a value that may be given for it (sections 2.9,
+/// 3.4.2 and 5.6). That needs that the built-in scalars of the schema are among the five, and that no enum value is
+/// `true`, `false` or `null`; this holds of what is read under other numbers than
+/// [`FileId::BUILT_IN`](graphql_names::FileId::BUILT_IN) (`laws::read_texts_meet_the_premises`).
 pub fn validate_schema(
     alloc: Global,
     list: &mut DiagnosticList,

@@ -27,7 +27,7 @@ use schema_fold_lists::{BuildError, fold_list};
 use schema_writing::Document;
 use std::alloc::{AllocError, Global};
 
-/// Takes the definitions of documents, and builds the schema of them all after what is built in.
+/// Takes the definitions of documents, and builds one schema of them all. What is built in comes first.
 ///
 /// Contracts see it by `builder_value` alone: the definitions that were added, in order, with the number of the first
 /// extension, the sources, the settings, and whether memory or numbers ran out.
@@ -58,7 +58,8 @@ impl SchemaBuilder {
         }
     }
 
-    /// Lets it adopt extensions of types and of the schema that are not defined: they extend empty definitions.
+    /// Makes it adopt extensions of types that are not defined, and of a schema that is not: they extend empty
+    /// definitions.
     pub fn adopt_orphan_extensions(self) -> SchemaBuilder
         ensures { builder_value result ≡ record (builder_value self) { settings = record (builder_value self).settings { adopts = true } } }
     {
@@ -68,7 +69,7 @@ impl SchemaBuilder {
         }
     }
 
-    /// Lets it pass over definitions of built-in types.
+    /// Makes it pass over definitions of built-in types.
     pub fn ignore_builtin_redefinitions(self) -> SchemaBuilder
         ensures { builder_value result ≡ record (builder_value self) { settings = record (builder_value self).settings { ignores = true } } }
     {
@@ -80,7 +81,7 @@ impl SchemaBuilder {
 
     /// Adds the definitions and the sources of a document after the others.
     ///
-    /// Where memory or numbers run out it answers so, and from then on [`BuilderRefusal::Failed`].
+    /// If memory or numbers run out, the answer says so, and from then on it is [`BuilderRefusal::Failed`].
     pub fn add_ast(&mut self, document: &Document) -> Result<(), BuilderRefusal>
         ensures running { OnOk result ((builder_value self.old).failed ≡ false) }
         ensures added { OnOk result (builder_value self.new ≡ with_document (document_tree document.now) (sources_of document.now) (builder_value self.old)) }
@@ -98,8 +99,8 @@ impl SchemaBuilder {
         self.building.iter_orphan_extension_types()
     }
 
-    /// The schema that the definitions fold to, after what is built in, and each way in which a folding rule is
-    /// broken. Each thing of the schema is under its own name.
+    /// The schema that the definitions fold to, after what is built in. With it comes each way in which they break a
+    /// folding rule. Each thing of the schema is under its own name.
     pub fn build(self) -> Result<(Schema, Vec<(Option<SourceSpan>, BuildError)>), BuilderRefusal>
         ensures running { OnOk result ((builder_value self).failed ≡ false) }
         ensures schema { IfOk result (λ r. schema_tree r.0 ≡ folded (builder_value self)) }

@@ -24,9 +24,9 @@ pub enum FieldLookupError<'schema> {
 }
 
 impl Schema {
-    /// The field of that name of the type of that name: the one that its definition or an extension gives, or else the
-    /// meta-field, which is `__typename` of an object, an interface or a union, and `__schema` and `__type` of the root of
-    /// queries, if that is one of these (sections 2.5, 4.1 and 4.2).
+    /// The field of that name of the type of that name. The type's definition or an extension of it gives the field, or
+    /// else it is a meta-field: `__typename` of an object, an interface or a union, and `__schema` and `__type` of the
+    /// root of queries, if that is one of these (sections 2.5, 4.1 and 4.2).
     pub fn type_field(
         &self,
         type_name: &Name,

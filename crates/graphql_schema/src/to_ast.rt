@@ -10,8 +10,8 @@ use schema_writing::{Document, written_definitions};
 use std::alloc::{AllocError, Global};
 
 impl Schema {
-    /// The schema as a document: its definition unless it is implicit, directives and types, each with its
-    /// extensions, without what is built in. What the definitions hold is shared with the schema; the document has
+    /// The schema as a document: its definition unless it is implicit, its directives and its types, each with its
+    /// extensions. What is built in is left out. What the definitions hold is shared with the schema. The document has
     /// no sources.
     pub fn to_ast(&self, alloc: Global) -> Result<Document, AllocError>
         ensures definitions { IfOk result (λ d. document_tree d ≡ written (schema_tree self.now)) }

@@ -85,7 +85,8 @@ impl Schema {
         }
     }
 
-    /// Whether values of the type inside can be given (section 3.4.2, IsInputType); false if the type is missing.
+    /// Whether the type inside all brackets is an input type (section 3.4.2, IsInputType). False if the schema does not
+    /// have it.
     pub fn is_input_type(&self, ty: &Type) -> bool
         ensures { result ≡ inner_kind_is (schema_tree self.now) is_input_kind (type_tree ty.now) }
     {
@@ -95,7 +96,8 @@ impl Schema {
         }
     }
 
-    /// Whether fields can have the type inside (section 3.4.2, IsOutputType); false if the type is missing.
+    /// Whether the type inside all brackets is an output type (section 3.4.2, IsOutputType). False if the schema does
+    /// not have it.
     pub fn is_output_type(&self, ty: &Type) -> bool
         ensures { result ≡ inner_kind_is (schema_tree self.now) is_output_kind (type_tree ty.now) }
     {

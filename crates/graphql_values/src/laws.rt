@@ -20,7 +20,7 @@ use tree_operations::{
     VariableDefinition, get_named_mut,
 };
 
-/// `is_assignable_to` is reflexive, transitive, and antisymmetric but for places.
+/// `is_assignable_to` is reflexive, transitive, and antisymmetric apart from places.
 pub fn assignable_types_are_ordered(a: &Type, b: &Type, c: &Type)
     ensures reflexive { AreTypesCompatible (type_tree a.now) (type_tree a.now) }
     ensures transitive { AreCompatibleThrough (type_tree a.now) (type_tree b.now) (type_tree c.now) }
@@ -132,8 +132,8 @@ pub fn equal_fragments(a: &FragmentDefinition, b: &FragmentDefinition) -> bool
     *a == *b
 }
 
-/// What is written through `get_named_mut` stands where the directive of that name and position stood, and nothing else
-/// changes; without such a directive nothing changes. Answers whether there was one.
+/// What is written through `get_named_mut` replaces the directive of that name and position, and nothing else changes.
+/// If there is none, nothing changes. Answers whether there was one.
 pub fn named_directives_are_written(
     directives: &mut DirectiveList,
     name: &str,
