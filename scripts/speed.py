@@ -272,7 +272,17 @@ def document(selections):
     return "query All($first: Int = 5, $deep: Boolean! = true) {\n" + "".join(ten) + "}\n"
 
 
+def in_step(size):
+    """A schema and a document over all its types, of some number of bytes together, however small."""
+    count = max(size // 82, 1)
+    types = "".join(f"type T{i} {{ a: Int b(x: Int): String }} " for i in range(count))
+    fields = "".join(f"f{i}: T{i} " for i in range(count))
+    selected = "".join(f"f{i} {{ a b(x: {i}) }} " for i in range(count))
+    return f"type Query {{ {fields}}} {types}", f"{{ {selected}}}"
+
+
 CASES = [
+    *((f"{size:,} bytes in step", lambda size=size: in_step(size)) for size in (100, 1000, 10000, 100000, 1000000, 10000000)),
     ("1,000 types", lambda: (schema(1000), SMALL)),
     ("10,000 types", lambda: (schema(10000), SMALL)),
     ("100,000 types", lambda: (schema(100000), SMALL)),
