@@ -1,0 +1,5 @@
+pub mod Fitting
+pub mod Staying
+pub mod Passing
+pub mod Reasons
+pub mod Filtered
