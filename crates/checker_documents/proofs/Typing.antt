@@ -79,7 +79,7 @@ some_broken schema tree (fault ∷ faults) some right = let p = right fault (Con
 
 still_some : (faults more : List AnyFault) → faults ≢ [] → faults ++ more ≢ []
 still_some [] more some none = some refl
-still_some (fault ∷ faults) more some none = absurd cc
+still_some (fault ∷ faults) more some none = let e : [] ≡ fault ∷ (faults ++ more) = sym none in absurd cc
 
 -- some rule of typing is broken, and behind that stands what breaks rules that stay broken
 pub refuses_typing : (schema : SchemaTree Place) (tree : Tree) (document : MeantDocument Place) (found faults : List AnyFault) → TypesDocument schema tree document found → found ≢ []

@@ -1,8 +1,10 @@
 -- The faults of rules that stay broken pass by their variants.
-use Rattle.std.proofs.Common.{◌≡◌, true, ℕ, List, ap, inl, inr}
+use Rattle.std.proofs.Common.{◌≡◌, true, ℕ, List, [], ap, inl, inr}
 use Rattle.tree_literals.specs.ValueTree.{ValueTree, ItemTrees, EntryTrees, NullTree, EnumTree, VariableTree, StringTree, FloatTree, IntTree, BooleanTree, ListTree, ObjectTree, no_items, item_then, no_entries, entry_then}
 use Rattle.tree_directives.specs.DirectiveTree.{Arguments, Directives}
+use Rattle.tree_directives.specs.OperationQueries.{location_of_operation}
 use Rattle.tree_directives.specs.declared.directive_location.DirectiveLocation.{DirectiveLocation}
+use Rattle.tree_directives.specs.declared.directive_location.DirectiveLocation.TheVariants as location
 use Rattle.schema_types.specs.Addresses.{Address}
 use Rattle.schema_types.specs.Looks.{TypeLooks}
 use Rattle.document_meaning.specs.MeantTree.{MeantOperation, MeantDocument}
@@ -10,9 +12,11 @@ use Rattle.rule_definitions.specs.Faults.{FaultAt}
 use Rattle.rule_definitions.specs.GivenValues.{Wanted, Variables}
 use Rattle.rule_definitions.specs.Judged.{Judged}
 use Rattle.rule_definitions.specs.Values.{UniqueInputValueIn, UniqueInputValueInItems, UniqueInputValueInEntries, UndefinedVariableIn, UndefinedVariableInItems, UndefinedVariableInEntries, FormBreaks, TypeBreaks, TypeBreaksItems, TypeBreaksEntries, wanted_item}
-use Rattle.rule_definitions.specs.Uses.{Taker, GivenBreaks, TakerBreaks, UsesBreak}
+use Rattle.rule_definitions.specs.Uses.{Taker, directive_taker, GivenBreaks, TakerBreaks, UsesBreak}
 use Rattle.rule_document_definitions.specs.Places.{Places}
 use Rattle.rule_document_definitions.specs.DocumentFaults.{Broken}
+use Rattle.rule_document_definitions.specs.Selected.{selection_location, selection_directives}
+use Rattle.rule_document_definitions.specs.Selections.{field_taker}
 use Rattle.rule_document_definitions.specs.Defer.{DeferBreaks}
 use Rattle.rule_lasting.specs.Lasts.{fault_lasts, broken_lasts}
 use Rattle.rule_lasting.specs.LastingRules.{LastingVariablesBreak, LastingSelectionsBreak, LastingFragmentsBreak, LastingDataBreaks, LastingSubscriptionBreaks}
@@ -119,7 +123,7 @@ module _ {P E : Type 0} (fault : FaultAt P E) where
     uses_pass l ds (inr (i, (u, (is, inl (none, told))))) = ap fault_lasts told
     uses_pass l ds (inr (i, (u, (is, inr (inl (defined, (at, (elsewhere, told)))))))) = ap fault_lasts told
     uses_pass l ds (inr (i, (u, (is, inr (inr (inl h)))))) = given_passes u.it.arguments h
-    uses_pass l ds (inr (i, (u, (is, inr (inr (inr (defined, (at, h)))))))) = taker_passes _ h
+    uses_pass l ds (inr (i, (u, (is, inr (inr (inr (defined, (at, h)))))))) = taker_passes (directive_taker u defined.arguments) h
 
   -- ---- rules on documents
 
@@ -131,14 +135,14 @@ module _ {P E : Type 0} (fault : FaultAt P E) where
     variables_pass (inr (inr (inr (inl (i, (x, (is, (t, (at, (kind, told)))))))))) = ap fault_lasts told
     variables_pass (inr (inr (inr (inr (inl (i, (x, (is, (known, (v, (at, inl h))))))))))) = typed places.at s _ _ v.place v.it h
     variables_pass (inr (inr (inr (inr (inl (i, (x, (is, (known, (v, (at, inr h))))))))))) = undefined_in _ v.place v.it h
-    variables_pass (inr (inr (inr (inr (inr (i, (x, (is, h)))))))) = uses_pass places.at s _ _ x.it.directives h
+    variables_pass (inr (inr (inr (inr (inr (i, (x, (is, h)))))))) = uses_pass places.at s [] location.VariableDefinition x.it.directives h
 
     selections_pass : LastingSelectionsBreak places s d o fault → Passes
     selections_pass (inl (x, (r, (f, (is, inl h))))) = given_passes places.at s o.variables f.head.arguments h
-    selections_pass (inl (x, (r, (f, (is, inr h))))) = taker_passes places.at s o.variables _ h
-    selections_pass (inr (inl h)) = uses_pass places.at s o.variables _ o.directives h
-    selections_pass (inr (inr (inl (x, (r, h))))) = uses_pass places.at s o.variables _ _ h
-    selections_pass (inr (inr (inr (f, (r, h))))) = uses_pass places.at s o.variables _ f.directives h
+    selections_pass (inl (x, (r, (f, (is, inr h))))) = taker_passes places.at s o.variables (field_taker places f) h
+    selections_pass (inr (inl h)) = uses_pass places.at s o.variables (location_of_operation o.operation_type) o.directives h
+    selections_pass (inr (inr (inl (x, (r, h))))) = uses_pass places.at s o.variables (selection_location x.it) (selection_directives x.it) h
+    selections_pass (inr (inr (inr (f, (r, h))))) = uses_pass places.at s o.variables location.FragmentDefinition f.directives h
 
     fragments_pass : LastingFragmentsBreak places s d o fault → Passes
     fragments_pass (inl (inl (f, (r, (not, told))))) = ap fault_lasts told

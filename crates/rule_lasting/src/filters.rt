@@ -4,19 +4,18 @@ ghost use Rattle.std.specs.List.{filter};
 ghost use Rattle.fault_document_data.specs.DocumentBreachView.{document_breach_of};
 ghost use Rattle.fault_data.specs.DiagnosticView.{diagnostic_of};
 ghost use Rattle.fault_data.specs.FaultView.{faults_of};
-ghost use Rattle.rule_document_ground.specs.Broken.{brokens_of};
-ghost use Rattle.rule_lasting.specs.Lasts.{data_lasts, fault_lasts, breach_lasts, broken_lasts};
+ghost use Rattle.rule_lasting.specs.Lasts.{data_lasts, fault_lasts, breach_lasts};
 
 use fault_data::{DiagnosticData, Fault};
 use fault_document_data::BuildError;
 use graphql_names::SourceSpan;
 
 /// Whether nothing that is added to a document can take the fault away: not a use, a selection or a fragment that is missing.
-fn data_lasts(data: &DiagnosticData) -> bool
-    ensures { result ≡ data_lasts (diagnostic_of data.now) }
+fn data_lasts(diagnostic: &DiagnosticData) -> bool
+    ensures { result ≡ data_lasts (diagnostic_of diagnostic.now) }
 {
     !matches!(
-        data,
+        diagnostic,
         DiagnosticData::UnusedVariable { .. }
             | DiagnosticData::MissingSubselection { .. }
             | DiagnosticData::UndefinedFragment { .. }
@@ -47,7 +46,7 @@ pub fn keep_lasting_faults(faults: &mut Vec<Fault>)
 
 /// Keeps the breaches that last, in order. It takes no memory.
 pub fn keep_lasting_breaches(breaches: &mut Vec<(Option<SourceSpan>, BuildError)>)
-    ensures { brokens_of breaches.new ≡ filter broken_lasts (brokens_of breaches.old) }
+    ensures { breaches.new.items ≡ filter (λ b. breach_lasts (document_breach_of b.1)) breaches.old.items }
 {
     breaches.retain(|breach| breach_lasts(&breach.1));
 }

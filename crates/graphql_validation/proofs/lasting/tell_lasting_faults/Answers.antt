@@ -1,12 +1,13 @@
-use Rattle.std.proofs.Common.{false, sym, subst}
+use Rattle.std.proofs.Common.{false, map, ap, sym, subst, ◌∙◌}
 use Rattle.std.specs.List.{filter}
 use Rattle.std.proofs.lemmas.Result.{on_ok_weaker}
 use Rattle.document_typing.specs.DocumentView.{document_meant}
 use Rattle.fault_data.specs.FaultView.{faults_of}
 use Rattle.graphql_faults.specs.DetailsView.{diagnostics_of}
-use Rattle.rule_document_ground.specs.Broken.{brokens_of}
+use Rattle.rule_document_ground.specs.Broken.{broken_of, brokens_of}
 use Rattle.graphql_schema.specs.SchemaOf.{schema_tree}
-use Rattle.rule_lasting.specs.Lasts.{fault_lasts}
+use Rattle.rule_lasting.specs.Lasts.{fault_lasts, broken_lasts}
+use Rattle.rule_lasting.proofs.Filtered.{filter_view}
 use Rattle.graphql_validation.specs.Operations.{all_told}
 use Rattle.graphql_validation.specs.TellsLasting.{TellsLasting}
 use Rattle.rule_merging.proofs.Behind.{begins_same, refused_so}
@@ -34,7 +35,7 @@ returns-clause-told c =
       (
         h,
         subst (λ l. TellsLasting s d (all_told l left false)) (sym c.keep_lasting_faults.ensures)
-        (subst (λ l. TellsLasting s d (all_told (filter fault_lasts fs) l false)) (sym c.keep_lasting_breaches.ensures)
+        (subst (λ l. TellsLasting s d (all_told (filter fault_lasts fs) l false)) (sym (ap (map broken_of) c.keep_lasting_breaches.ensures ∙ filter_view broken_of broken_lasts c.in_ok-breaches.breaches.items))
         (tells_lasting s d fs bs (c.in_ok-faults.ensures (reaches_typed s d typed) (own_names s d typed)) (c.in_ok-breaches.ensures (own_names s d typed)))),
       ),
     ))
