@@ -1,11 +1,11 @@
 -- What typing and judging a document find, as lists of faults.
-use Rattle.std.proofs.Common.{◌≡◌, ◌≢◌, List, [], ◌∷◌, ◌++◌, map, Contains, refl, ap, subst, ◌∙◌, sym, inl, inr, true≢false}
+use Rattle.std.proofs.Common.{◌≡◌, ◌≢◌, List, [], ◌∷◌, ◌++◌, map, Contains, refl, ap, subst, ◌∙◌, sym, inl, inr}
 use Rattle.std.proofs.lemmas.List.Elements.{Contains-append_left, Contains-append_right, Contains-append_cases}
 use Rattle.std.specs.Prelude.{◌↔◌}
 use Rattle.graphql_names.specs.Placed.{Place}
 use Rattle.schema_types.specs.SchemaTree.{SchemaTree}
 use Rattle.schema_types.specs.Plain.{plain}
-use Rattle.document_meaning.specs.MeantTree.{MeantOperation, MeantDocument}
+use Rattle.document_meaning.specs.MeantTree.{MeantDocument}
 use Rattle.document_meaning.specs.Unplaced.{unplaced_document}
 use Rattle.document_typing.specs.Meanings.{meanings}
 use Rattle.document_typing.specs.KeptDocument.{kept_document}
@@ -14,19 +14,14 @@ use Rattle.document_typing.specs.TypingFaults as typing
 use Rattle.document_typing.specs.TypingFaults.{TypingFails}
 use Rattle.document_typing.specs.OutDoc.{written_document, out_doc}
 use Rattle.document_typing.specs.BuilderView.{DocumentBuilder}
-use Rattle.rule_definitions.specs.Judged.{judged}
 use Rattle.rule_definitions.proofs.Lists.{Contains-first}
-use Rattle.rule_document_definitions.specs.DocumentFaults.{Broken, OfData, OfDocument, OfLimit}
-use Rattle.rule_document_definitions.specs.Subscriptions.{SubscriptionUsesMultipleFieldsAt}
-use Rattle.rule_document_definitions.specs.Told.{PlacedDocumentFault, places_in, IsValidDocument}
+use Rattle.rule_document_definitions.specs.Told.{PlacedDocumentFault, IsValidDocument}
 use Rattle.rule_document_definitions.specs.Verdict.{WithinBounds}
 use Rattle.rule_document_definitions.proofs.Unplaced.{contains_map, contains_unmap}
-use Rattle.rule_lasting.specs.LastingRules.{LastingSubscriptionBreaks, LastingFails, LastingOrCycleFails}
-use Rattle.rule_lasting.specs.Lasts.{broken_lasts}
-use Rattle.rule_lasting.proofs.Passing.{subscription_passes}
-use Rattle.rule_lasting.proofs.Reasons.{of_variables}
-use Rattle.graphql_validation.specs.TellsDocument.{TellsDocument, DocumentTold}
+use Rattle.rule_lasting.specs.LastingRules.{LastingFails, LastingOrCycleFails}
+use Rattle.graphql_validation.specs.TellsDocument.{DocumentTold}
 use Rattle.graphql_validation.specs.TellsLasting.{TellsLasting}
+use Rattle.graphql_validation.proofs.Lasting.{lasting_told}
 use Rattle.graphql_faults.specs.DetailsTree.{of_typing, of_document}
 use Rattle.verdict_definitions.specs.Texts.{Tree}
 use Rattle.verdict_definitions.specs.Says.{AnyFault, TypingFailsOver}
@@ -98,25 +93,6 @@ refuses_typing schema tree document found faults types some added is tells = sub
 })
 
 -- ---- judging
-
--- a subscription that selects several fields breaks no rule that stays broken
-lasting_subscription : {R : Type 0} (d : MeantDocument Place) (o : MeantOperation Place) (b : Broken Place) → LastingSubscriptionBreaks d o b → SubscriptionUsesMultipleFieldsAt d o b → R
-lasting_subscription d o b h (fs, (are, (many, told))) = absurd (true≢false (sym (subscription_passes b d o h) ∙ ap broken_lasts told))
-
--- all that breaks a rule that stays broken is told
-lasting_told : (schema : SchemaTree Place) (document : MeantDocument Place) (added : List PlacedDocumentFault) → TellsDocument schema document added
-    → (f : PlacedDocumentFault) → LastingFails schema document f → Contains added f
-lasting_told schema d added tells (OfData f) (o, (c, inl h)) = tells.full (OfData f) (inl (o, (c, inl (of_variables (places_in schema) (judged schema) d o f h))))
-lasting_told schema d added tells (OfData f) (o, (c, inr (inl h))) = tells.full (OfData f) (inl (o, (c, inr (inl (inr h)))))
-lasting_told schema d added tells (OfData f) (o, (c, inr (inr h))) = tells.full (OfData f) (inl (o, (c, inr (inr (inr h)))))
-lasting_told schema d added tells (OfDocument b) (o, (c, inl h)) = tells.full (OfDocument b) (inl (o, (c, h)))
-lasting_told schema d added tells (OfDocument b) (o, (c, inr h)) =
-    let g = tells.subscriptions o c b (h.0, inr h.1) in
-    elim g.1.1 [
-      | inl e ↦ subst (λ v. Contains added (OfDocument v)) (sym e) g.1.0
-      | inr many ↦ lasting_subscription d o b h many.0
-    ]
-lasting_told schema d added tells (OfLimit place) h = absurd h
 
 -- some rule on documents or on merging is broken, or a bound is passed
 pub refuses_rules : (schema : SchemaTree Place) (document : MeantDocument Place) (old faults : List AnyFault) → old ≡ [] → DocumentTold schema document old faults

@@ -159,11 +159,11 @@ fn typed(schema: &CheckedSchema, tree: &Document) -> Result<ExecutableDocument, 
     ensures refused { IfErr result (RefusalOfTyping (schema_value schema.now).schema (document_tree tree.now)) }
 {
     let (document, mut faults) = build(schema, tree)?;
-    if faults.is_empty() {
-        return Ok(document);
+    if !faults.is_empty() {
+        tell_lasting_faults(schema.alloc, &mut faults, &schema.schema, &document)?;
+        return Err(Refusal::Faults(faults));
     }
-    tell_lasting_faults(schema.alloc, &mut faults, &schema.schema, &document)?;
-    Err(Refusal::Faults(faults))
+    Ok(document)
 }
 
 /// Whether every rule on documents and on merging holds of a document that is typed.

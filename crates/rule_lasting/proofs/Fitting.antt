@@ -115,9 +115,11 @@ module _ {P : Type 0} where
   field_is : (p q : Position) (t : List ℕ) (m n : MeantSelection P) → IsPartOfSelection m n → (f : StandingField P) → field_there p t m ≡ Some f
       → (u : MeantSet P) × (field_there q t n ≡ Some (record f { position = q; set = u }))
   field_is p q t (MeantField a d h s) n (u, (is, part)) f e =
-      let here : StandingField P = record { position = p; parent = t; place = a; definition = d; head = h; set = s } in
-      (u, subst (λ v. field_there q t v ≡ Some (record f { position = q; set = u })) (sym is)
-      (ap (λ (g : StandingField P). Some (record g { position = q; set = u })) (same_Some here f e)))
+      let here : StandingField P = record { position = p; parent = t; place = a; definition = d; head = h; set = s } in (
+        u,
+        subst (λ v. field_there q t v ≡ Some (record f { position = q; set = u })) (sym is)
+            (ap (λ (g : StandingField P). Some (record g { position = q; set = u })) (same_Some here f e)),
+      )
   field_is p q t (MeantSpread a l ds) n part f e = absurd (true≢false (sym (ap is_some e)))
   field_is p q t (MeantInline a l ds s) n part f e = absurd (true≢false (sym (ap is_some e)))
 

@@ -3,3 +3,4 @@ pub mod Staying
 pub mod Passing
 pub mod Reasons
 pub mod Filtered
+pub mod Kept

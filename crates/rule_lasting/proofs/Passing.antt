@@ -16,6 +16,7 @@ use Rattle.rule_definitions.specs.Uses.{Taker, directive_taker, GivenBreaks, Tak
 use Rattle.rule_document_definitions.specs.Places.{Places}
 use Rattle.rule_document_definitions.specs.DocumentFaults.{Broken}
 use Rattle.rule_document_definitions.specs.Selected.{selection_location, selection_directives}
+use Rattle.rule_document_definitions.specs.UsedVariables.{wanted_by}
 use Rattle.rule_document_definitions.specs.Selections.{field_taker}
 use Rattle.rule_document_definitions.specs.Defer.{DeferBreaks}
 use Rattle.rule_lasting.specs.Lasts.{fault_lasts, broken_lasts}
@@ -133,8 +134,8 @@ module _ {P E : Type 0} (fault : FaultAt P E) where
     variables_pass (inr (inl (i, (x, (is, (v, (at, h))))))) = unique_in v.it h
     variables_pass (inr (inr (inl (i, (x, (is, (none, told))))))) = ap fault_lasts told
     variables_pass (inr (inr (inr (inl (i, (x, (is, (t, (at, (kind, told)))))))))) = ap fault_lasts told
-    variables_pass (inr (inr (inr (inr (inl (i, (x, (is, (known, (v, (at, inl h))))))))))) = typed places.at s _ _ v.place v.it h
-    variables_pass (inr (inr (inr (inr (inl (i, (x, (is, (known, (v, (at, inr h))))))))))) = undefined_in _ v.place v.it h
+    variables_pass (inr (inr (inr (inr (inl (i, (x, (is, (known, (v, (at, inl h))))))))))) = typed places.at s [] (wanted_by x.it) v.place v.it h
+    variables_pass (inr (inr (inr (inr (inl (i, (x, (is, (known, (v, (at, inr h))))))))))) = undefined_in [] v.place v.it h
     variables_pass (inr (inr (inr (inr (inr (i, (x, (is, h)))))))) = uses_pass places.at s [] location.VariableDefinition x.it.directives h
 
     selections_pass : LastingSelectionsBreak places s d o fault → Passes

@@ -41,8 +41,7 @@ module _ {P : Type 0} (d e : MeantDocument P) (part : IsPartOf d e) where
   refers n by to (f, (named, (x, (c, (is, (leads, (g, (there, one)))))))) =
       let f' = part.fragments n f named in
       let g' = part.fragments to g there in
-      let w = all_fits (InFragment n) (InFragment n) f.set f'.1.1.0 f'.1.1.1.1 x c in
-      (
+      let w = all_fits (InFragment n) (InFragment n) f.set f'.1.1.0 f'.1.1.1.1 x c in (
         record f { set = f'.1.1.0 },
         (
           subst (λ v. fragment_named e n ≡ Some v) f'.1.1.1.0 f'.1.0,
@@ -109,9 +108,9 @@ module _ {P : Type 0} (d e : MeantDocument P) (part : IsPartOf d e) where
       cycles_stay : RecursiveFragmentDefinitionAt d fault places o → RecursiveFragmentDefinitionAt e fault places (record o { set = t })
       cycles_stay h =
           let On : MeantDocument P → MeantFragment P → Type 0 = λ w f. (by : Placed P SpreadTree) × ((rest : List (Placed P SpreadTree)) × (
-              Leads (RefersBySpread w) f.name.it (by ∷ rest) f.name.it
-              × ((head : P) × (places.Spans f.place f.name.place head
-              × (fault ≡ wrong f.place (RecursiveFragmentDefinition head f.name.it (reverse (by ∷ rest)))))))) in
+          Leads (RefersBySpread w) f.name.it (by ∷ rest) f.name.it
+          × ((head : P) × (places.Spans f.place f.name.place head
+          × (fault ≡ wrong f.place (RecursiveFragmentDefinition head f.name.it (reverse (by ∷ rest)))))))) in
           at_reached_fragment d e part o t more (On d) (On e) (λ f u q. (q.0, (q.1.0, (leads f.name.it f.name.it (q.0 ∷ q.1.0) q.1.1.0, q.1.1.1)))) h
 
       data_stay : LastingDataBreaks places s d o fault → LastingDataBreaks places s e (record o { set = t }) fault
@@ -138,16 +137,35 @@ module _ {P : Type 0} (d e : MeantDocument P) (part : IsPartOf d e) where
       defers_stay : DeferBreaks d o fault → DeferBreaks e (record o { set = t }) fault
       defers_stay (inl (other, (x, (r, (none, at))))) =
           let p = root_fits d e part o t more x r in
-          inl (other, (p.0, (p.1.0, (no_field_fits x p.0 p.1.1 none,
-          standing_fits (λ l m. AtSomeIndex (filter (directive_has_name (codes "defer")) (selection_directives m)) (λ i u.
-          fault ≡ broken u.place (DeferOnRootMutationOrSubscriptionField o.operation_type)))
-          (λ l p k i a b g. g) (λ l p k i a b g. g) x p.0 p.1.1 at))))
+          inl (
+            other,
+            (
+              p.0,
+              (
+                p.1.0,
+                (
+                  no_field_fits x p.0 p.1.1 none,
+                  standing_fits (λ l m. AtSomeIndex (filter (directive_has_name (codes "defer")) (selection_directives m)) (λ i u.
+                      fault ≡ broken u.place (DeferOnRootMutationOrSubscriptionField o.operation_type)))
+                      (λ l p k i a b g. g) (λ l p k i a b g. g) x p.0 p.1.1 at,
+                ),
+              ),
+            ),
+          )
       defers_stay (inr (subscribes, (x, (r, at)))) =
           let p = always_fits x r in
-          inr (subscribes, (p.0, (p.1.0,
-          standing_fits (λ l m. AtSomeIndex (filter (directive_has_name (codes "defer")) (selection_directives m)) (λ i u.
-          (IsConditional u → ⊥) × (fault ≡ broken u.place DeferInSubscriptionMustBeConditional)))
-          (λ l p k i a b g. g) (λ l p k i a b g. g) x p.0 p.1.1 at)))
+          inr (
+            subscribes,
+            (
+              p.0,
+              (
+                p.1.0,
+                standing_fits (λ l m. AtSomeIndex (filter (directive_has_name (codes "defer")) (selection_directives m)) (λ i u.
+                    (IsConditional u → ⊥) × (fault ≡ broken u.place DeferInSubscriptionMustBeConditional)))
+                    (λ l p k i a b g. g) (λ l p k i a b g. g) x p.0 p.1.1 at,
+              ),
+            ),
+          )
 
       subscriptions_stay : LastingSubscriptionBreaks d o fault → LastingSubscriptionBreaks e (record o { set = t }) fault
       subscriptions_stay (subscribes, inl (f, ((x, (r, is)), told))) =
@@ -155,11 +173,18 @@ module _ {P : Type 0} (d e : MeantDocument P) (part : IsPartOf d e) where
           let g = as_field_fits x p.0 p.1.1 f is in
           (subscribes, inl (record f { position = g.0; set = g.1.0 }, ((p.0, (p.1.0, g.1.1)), told)))
       subscriptions_stay (subscribes, inr (x, (r, at))) =
-          let p = root_fits d e part o t more x r in
-          (subscribes, inr (p.0, (p.1.0,
-          standing_fits (λ l m. AtSomeIndex (selection_directives m) (λ i u. Contains (codes "skip" ∷ codes "include" ∷ []) (directive_name u)
-          × (fault ≡ broken u.place (SubscriptionUsesConditionalSelection (operation_name o)))))
-          (λ l p k i a b g. g) (λ l p k i a b g. g) x p.0 p.1.1 at)))
+          let p = root_fits d e part o t more x r in (
+            subscribes,
+            inr (
+              p.0,
+              (
+                p.1.0,
+                standing_fits (λ l m. AtSomeIndex (selection_directives m) (λ i u. Contains (codes "skip" ∷ codes "include" ∷ []) (directive_name u)
+                    × (fault ≡ broken u.place (SubscriptionUsesConditionalSelection (operation_name o)))))
+                    (λ l p k i a b g. g) (λ l p k i a b g. g) x p.0 p.1.1 at,
+              ),
+            ),
+          )
 
       document_stays : DeferBreaks d o fault ⊎ LastingSubscriptionBreaks d o fault → DeferBreaks e (record o { set = t }) fault ⊎ LastingSubscriptionBreaks e (record o { set = t }) fault
       document_stays (inl h) = inl (defers_stay h)

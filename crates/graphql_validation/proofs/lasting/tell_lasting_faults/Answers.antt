@@ -35,8 +35,8 @@ returns-clause-told c =
       (
         h,
         subst (λ l. TellsLasting s d (all_told l left false)) (sym c.keep_lasting_faults.ensures)
-        (subst (λ l. TellsLasting s d (all_told (filter fault_lasts fs) l false)) (sym (ap (map broken_of) c.keep_lasting_breaches.ensures ∙ filter_view broken_of broken_lasts c.in_ok-breaches.breaches.items))
-        (tells_lasting s d fs bs (c.in_ok-faults.ensures (reaches_typed s d typed) (own_names s d typed)) (c.in_ok-breaches.ensures (own_names s d typed)))),
+            (subst (λ l. TellsLasting s d (all_told (filter fault_lasts fs) l false)) (sym (ap (map broken_of) c.keep_lasting_breaches.ensures ∙ filter_view broken_of broken_lasts c.in_ok-breaches.breaches.items))
+            (tells_lasting s d fs bs (c.in_ok-faults.ensures (reaches_typed s d typed) (own_names s d typed)) (c.in_ok-breaches.ensures (own_names s d typed)))),
       ),
     ))
     c.append_all.ensures.added
