@@ -21,7 +21,7 @@ use Rattle.rule_document_definitions.proofs.Unplaced.{contains_map, contains_unm
 use Rattle.rule_lasting.specs.LastingRules.{LastingFails, LastingOrCycleFails}
 use Rattle.graphql_validation.specs.TellsDocument.{DocumentTold}
 use Rattle.graphql_validation.specs.TellsLasting.{TellsLasting}
-use Rattle.graphql_validation.proofs.Lasting.{lasting_told}
+use Rattle.graphql_validation.proofs.StandingFaults.{lasting_told}
 use Rattle.graphql_faults.specs.DetailsTree.{of_typing, of_document}
 use Rattle.verdict_definitions.specs.Texts.{Tree}
 use Rattle.verdict_definitions.specs.Says.{AnyFault, TypingFailsOver}

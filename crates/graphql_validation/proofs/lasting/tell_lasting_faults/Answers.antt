@@ -12,7 +12,7 @@ use Rattle.graphql_validation.specs.Operations.{all_told}
 use Rattle.graphql_validation.specs.TellsLasting.{TellsLasting}
 use Rattle.rule_merging.proofs.Behind.{begins_same, refused_so}
 use Rattle.graphql_validation.proofs.WholeDocuments.{own_names, reaches_typed}
-use Rattle.graphql_validation.proofs.Lasting.{tells_lasting}
+use Rattle.graphql_validation.proofs.StandingFaults.{tells_lasting}
 use Rattle.graphql_validation.proofs.lasting.tell_lasting_faults.Goals as goal
 
 pub returns-in_err-faults-clause-begins : goal.returns-in_err-faults-clause-begins
