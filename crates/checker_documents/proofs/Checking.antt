@@ -6,7 +6,6 @@ use Rattle.document_meaning.specs.MeantTree.{MeantDocument}
 use Rattle.document_typed_operations.specs.TypedDocument.{TypedDocumentTree}
 use Rattle.document_typed_operations.specs.ToAst.{ast_document}
 use Rattle.document_typing.specs.DocumentView.{meant_document}
-use Rattle.document_typing.specs.TypingFaults as typing
 use Rattle.document_typing.proofs.WrittenMeant.{document-written}
 use Rattle.rule_definitions.proofs.Lists.{not_in_nil, only}
 use Rattle.document_meaning.specs.Unplaced.{unplaced_document}
@@ -14,23 +13,25 @@ use Rattle.rule_definitions.specs.Judged.{judged}
 use Rattle.rule_document_definitions.specs.DocumentFaults.{OfData, OfDocument, OfLimit}
 use Rattle.rule_document_definitions.specs.Told.{PlacedDocumentFault, places_in, IsValidDocument}
 use Rattle.rule_document_definitions.specs.Verdict.{WithinBounds}
+use Rattle.rule_lasting.specs.LastingRules.{LastingFails}
+use Rattle.rule_lasting.proofs.Reasons.{lasting_is_fault, cycle_is_fault}
 use Rattle.graphql_faults.specs.DetailsTree.{of_typing}
 use Rattle.graphql_faults.specs.DetailsView.{diagnostics_of}
 use Rattle.graphql_validation.specs.TellsDocument.{FailsBesides, SomeFails}
 use Rattle.verdict_definitions.specs.Texts.{SourceText, Tree}
 use Rattle.verdict_definitions.specs.Meaning.{document_over}
 use Rattle.verdict_definitions.specs.Judge.{IsDocumentCertain}
-use Rattle.verdict_definitions.specs.Says.{AnyFault, UnreadFault, TypingFailsOver, RuleFailsBeside}
+use Rattle.verdict_definitions.specs.Says.{AnyFault, UnreadFault, TypingFailsOver, RuleFailsBeside, DocumentFailsOver}
 use Rattle.verdict_definitions.specs.Out.{Layout, layout_text}
 use Rattle.verdict_definitions.specs.Answer.{UnreadAlone, RefusesDocument, WritesDocument}
 use Rattle.checker_schemas.specs.CheckedSchemaValue.{CheckedSchemaValue}
 use Rattle.checker_documents.specs.CheckerValue.{IsCheckedDocumentOf}
-use Rattle.checker_documents.specs.DocumentRefusals.{RefusalOfDocument}
+use Rattle.checker_documents.specs.DocumentRefusals.{RefusalOfDocument, TypingOrLastingFails, RefusalWithLasting}
 use Rattle.checker_texts.specs.TellsOnly.{TellsOnly}
 use Rattle.checker_documents.specs.Checking.{IsReadDocument, IsUnreadDocument, TypesDocument, RefusalOfTyping, RefusalOfRules}
 use Rattle.checker_texts.specs.declared.refusal.Refusal.{Refusal}
 use Rattle.checker_texts.specs.declared.refusal.Refusal.TheVariants.{Faults, Memory, Failed}
-use Rattle.checker_texts.proofs.Deciding.{one_tree, none_told, unread_not_read, is_read}
+use Rattle.checker_texts.proofs.Deciding.{one_tree, unread_not_read, is_read}
 
 -- what is told in full, in the words of the rules on documents
 besides : (schema : SchemaTree Place) (document : MeantDocument Place) (fault : PlacedDocumentFault) → RuleFailsBeside (places_in schema) (judged schema) document fault → FailsBesides schema document fault
@@ -66,6 +67,14 @@ module _ (schema : CheckedSchemaValue) (text : SourceText) where
   unread_refusal Memory unread = tt
   unread_refusal Failed unread = unread
 
+  pub unread_lasting : (refusal : Refusal) → IsUnreadDocument schema text refusal → RefusalWithLasting schema text refusal
+  unread_lasting (Faults list) (here, (is, unread)) = record {
+    full = λ within tree read fault fails. absurd (unread_not_read schema.nesting schema.number text here unread (is_read schema.nesting schema.number text tree read within));
+    only = λ within tree read f fails fault c. absurd (unread_not_read schema.nesting schema.number text here unread (is_read schema.nesting schema.number text tree read within));
+  }
+  unread_lasting Memory unread = tt
+  unread_lasting Failed unread = unread
+
   pub unread_certain : (refusal : Refusal) → IsUnreadDocument schema text refusal → IsDocumentCertain schema.schema schema.nesting schema.number text → refusal ≡ Memory
   unread_certain (Faults list) (here, (is, unread)) certain =
       absurd (unread_not_read schema.nesting schema.number text here unread (is_read schema.nesting schema.number text certain.0.judged.tree certain.0.judged.read certain.0.within))
@@ -83,21 +92,36 @@ module _ (schema : CheckedSchemaValue) (text : SourceText) where
     pub typing_refusal : (refusal : Refusal) → RefusalOfTyping schema.schema tree refusal → RefusalOfDocument schema text refusal
     typing_refusal (Faults list) h = record {
       some = h.some;
-      says = λ fault c. inr (tree, (read.0, inl (h.right fault c)));
+      says = λ fault c. inr (tree, (read.0, lasting_says fault (h.right fault c)));
       alone = inr (is_read schema.nesting schema.number text tree read.0 read.1);
       full = λ within other reads fault fails. h.full fault (subst (λ t. TypingFailsOver schema.schema t fault) (same other (reads, within)) fails);
       rules = λ within other reads typed fault fails.
-          absurd (none_told (λ told. (f : typing.TypingFault Place) × ((told ≡ of_typing f) × TypingFailsOver schema.schema tree f)) (diagnostics_of list) h.some h.right (λ told (f, (is, broken)).
-          typed f (subst (λ t. TypingFailsOver schema.schema t f) (sym (same other (reads, within))) broken)));
+          absurd (typed h.broken.0 (subst (λ t. TypingFailsOver schema.schema t h.broken.0) (sym (same other (reads, within))) h.broken.1));
     }
+      where
+        lasting_says : (fault : AnyFault) → TypingOrLastingFails schema.schema tree fault → DocumentFailsOver schema.schema tree fault
+        lasting_says fault (inl p) = inl p
+        lasting_says fault (inr (f, (is, inl fails))) =
+            inr (f, (is, inl (lasting_is_fault (places_in schema.schema) (judged schema.schema) (document_over schema.schema tree) f fails)))
+        lasting_says fault (inr (f, (is, inr fails))) =
+            inr (f, (is, inl (cycle_is_fault (places_in schema.schema) (judged schema.schema) (document_over schema.schema tree) f fails)))
     typing_refusal Memory h = tt
     typing_refusal Failed h = h
 
     pub typing_certain : (refusal : Refusal) → RefusalOfTyping schema.schema tree refusal → IsDocumentCertain schema.schema schema.nesting schema.number text → refusal ≡ Memory
-    typing_certain (Faults list) h certain = absurd (none_told (λ fault. (f : typing.TypingFault Place) × ((fault ≡ of_typing f) × TypingFailsOver schema.schema tree f)) (diagnostics_of list) h.some h.right (λ fault (f, (is, fails)).
-        certain.0.judged.typed f (subst (λ t. TypingFailsOver schema.schema t f) (sym (same certain.0.judged.tree (certain.0.judged.read, certain.0.within))) fails)))
+    typing_certain (Faults list) h certain = absurd (certain.0.judged.typed h.broken.0
+        (subst (λ t. TypingFailsOver schema.schema t h.broken.0) (sym (same certain.0.judged.tree (certain.0.judged.read, certain.0.within))) h.broken.1))
     typing_certain Memory h certain = refl
     typing_certain Failed h certain = absurd h
+
+    -- and nothing else is told but what stays broken
+    pub typing_lasting : (refusal : Refusal) → RefusalOfTyping schema.schema tree refusal → RefusalWithLasting schema text refusal
+    typing_lasting (Faults list) h = record {
+      full = λ within other reads fault fails. h.lasting fault (subst (λ t. LastingFails schema.schema (document_over schema.schema t) fault) (same other (reads, within)) fails);
+      only = λ within other reads f fails fault c. subst (λ t. TypingOrLastingFails schema.schema t fault) (sym (same other (reads, within))) (h.right fault c);
+    }
+    typing_lasting Memory h = tt
+    typing_lasting Failed h = h
 
     -- ---- a document that is typed
 
@@ -115,6 +139,17 @@ module _ (schema : CheckedSchemaValue) (text : SourceText) where
       }
       rules_refusal Memory h = tt
       rules_refusal Failed h = h
+
+      pub rules_lasting : (refusal : Refusal) → RefusalOfRules schema.schema document refusal → RefusalWithLasting schema text refusal
+      rules_lasting (Faults list) h = record {
+        full = λ within other reads fault fails.
+            let e : document_over schema.schema other ≡ document = ap (document_over schema.schema) (same other (reads, within)) ∙ sym typed.is in
+            h.lasting fault (subst (λ d. LastingFails schema.schema d fault) e fails);
+        only = λ within other reads f fails fault c.
+            absurd (not_in_nil (of_typing f) (typed.full f (subst (λ t. TypingFailsOver schema.schema t f) (same other (reads, within)) fails)));
+      }
+      rules_lasting Memory h = tt
+      rules_lasting Failed h = h
 
       pub rules_certain : (refusal : Refusal) → RefusalOfRules schema.schema document refusal → IsDocumentCertain schema.schema schema.nesting schema.number text → refusal ≡ Memory
       rules_certain (Faults list) h certain =

@@ -12,6 +12,7 @@ use Rattle.document_typed_operations.specs.declared.document.ExecutableDocument.
 use Rattle.schema_building.specs.SourcesView.{sources_view}
 use Rattle.rule_document_definitions.specs.Told.{PlacedDocumentFault, IsValidDocument}
 use Rattle.rule_document_definitions.specs.Verdict.{WithinBounds}
+use Rattle.rule_lasting.specs.LastingRules.{LastingFails}
 use Rattle.document_meaning.specs.Unplaced.{unplaced_document}
 use Rattle.graphql_faults.specs.DetailsTree.{of_typing, of_document}
 use Rattle.graphql_faults.specs.DetailsView.{diagnostics_of}
@@ -23,6 +24,7 @@ use Rattle.verdict_definitions.specs.Answer.{UnreadAlone}
 use Rattle.checker_texts.specs.TextSources.{text_sources}
 use Rattle.checker_schemas.specs.CheckedSchemaValue.{CheckedSchemaValue}
 use Rattle.checker_documents.specs.CheckerValue.{IsCheckedDocumentOf}
+use Rattle.checker_documents.specs.DocumentRefusals.{TypingOrLastingFails}
 use Rattle.checker_texts.specs.declared.refusal.Refusal.{Refusal}
 use Rattle.checker_texts.specs.declared.refusal.Refusal.TheVariants.{Faults, Memory, Failed}
 
@@ -48,11 +50,13 @@ pub record TypesDocument (schema : SchemaTree Place) (tree : Tree) (document : M
   pub right : (fault : AnyFault) → Contains faults fault → (f : typing.TypingFault Place) × ((fault ≡ of_typing f) × TypingFailsOver schema tree f)
   pub full : (f : typing.TypingFault Place) → TypingFailsOver schema tree f → Contains faults (of_typing f)
 
--- rules of typing are broken, and all that breaks them is told
+-- a rule of typing is broken, and all that breaks those rules is told, and all that breaks a rule on documents that stays broken
 pub record RefusesTyping (schema : SchemaTree Place) (tree : Tree) (faults : List AnyFault) : Type 0 where
+  pub broken : (f : typing.TypingFault Place) × TypingFailsOver schema tree f
   pub some : faults ≢ []
-  pub right : (fault : AnyFault) → Contains faults fault → (f : typing.TypingFault Place) × ((fault ≡ of_typing f) × TypingFailsOver schema tree f)
+  pub right : (fault : AnyFault) → Contains faults fault → TypingOrLastingFails schema tree fault
   pub full : (f : typing.TypingFault Place) → TypingFailsOver schema tree f → Contains faults (of_typing f)
+  pub lasting : (f : PlacedDocumentFault) → LastingFails schema (document_over schema tree) f → Contains faults (of_document f)
 
 abbrev pub RefusalOfTyping : SchemaTree Place → Tree → Refusal → Type 0
 RefusalOfTyping schema tree (Faults list) = RefusesTyping schema tree (diagnostics_of list)
@@ -67,6 +71,7 @@ pub record RefusesRules (schema : SchemaTree Place) (document : MeantDocument Pl
   pub some : faults ≢ []
   pub right : (fault : AnyFault) → Contains faults fault → (f : PlacedDocumentFault) × ((fault ≡ of_document f) × SomeFails schema document f)
   pub full : (f : PlacedDocumentFault) → FailsBesides schema document f → Contains faults (of_document f)
+  pub lasting : (f : PlacedDocumentFault) → LastingFails schema document f → Contains faults (of_document f)
   pub bounds : IsValidDocument schema document → WithinBounds (unplaced_document document) → ⊥
 
 abbrev pub RefusalOfRules : SchemaTree Place → MeantDocument Place → Refusal → Type 0

@@ -1,6 +1,15 @@
 -- What the refusals of a document say of it.
+use Rattle.std.specs.Prelude.{◌≡◌, ◌⊎◌, ℕ, List, Contains}
+use Rattle.graphql_names.specs.Placed.{Place}
+use Rattle.schema_types.specs.SchemaTree.{SchemaTree}
+use Rattle.document_typing.specs.TypingFaults as typing
+use Rattle.rule_document_definitions.specs.Told.{PlacedDocumentFault}
+use Rattle.rule_lasting.specs.LastingRules.{LastingFails, LastingOrCycleFails}
+use Rattle.graphql_faults.specs.DetailsTree.{of_typing, of_document}
 use Rattle.graphql_faults.specs.DetailsView.{diagnostics_of}
-use Rattle.verdict_definitions.specs.Texts.{SourceText}
+use Rattle.verdict_definitions.specs.Texts.{SourceText, Tree, ReadsText, IsWithin}
+use Rattle.verdict_definitions.specs.Meaning.{document_over}
+use Rattle.verdict_definitions.specs.Says.{AnyFault, TypingFailsOver}
 use Rattle.verdict_definitions.specs.Answer.{RefusesDocument}
 use Rattle.checker_schemas.specs.CheckedSchemaValue.{CheckedSchemaValue}
 use Rattle.checker_texts.specs.declared.refusal.Refusal.{Refusal}
@@ -11,3 +20,25 @@ abbrev pub RefusalOfDocument : CheckedSchemaValue → SourceText → Refusal →
 RefusalOfDocument schema document (Faults list) = RefusesDocument schema.schema schema.nesting schema.number document (diagnostics_of list)
 RefusalOfDocument schema document Memory = Unit {0}
 RefusalOfDocument schema document Failed = ⊥
+
+-- ---- what is told beside the faults of typing
+
+-- a rule of typing is broken so; or one on documents that stays broken whatever is added to what is kept of the document
+abbrev pub TypingOrLastingFails : SchemaTree Place → Tree → AnyFault → Type 0
+TypingOrLastingFails schema tree fault =
+    ((f : typing.TypingFault Place) × ((fault ≡ of_typing f) × TypingFailsOver schema tree f))
+    ⊎ ((f : PlacedDocumentFault) × ((fault ≡ of_document f) × LastingOrCycleFails schema (document_over schema tree) f))
+
+-- Of a document that is read each breach of a rule that stays broken is told, be it typed or not. Where a rule of typing is
+-- broken, nothing else is told of rules on documents, but that fragments reach themselves: nothing of which what typing left
+-- out may be the cause.
+pub record TellsLastingFaults (schema : SchemaTree Place) (nesting number : ℕ) (document : SourceText) (faults : List AnyFault) : Type 0 where
+  pub full : IsWithin nesting number document → (tree : Tree) → ReadsText number document tree
+      → (fault : PlacedDocumentFault) → LastingFails schema (document_over schema tree) fault → Contains faults (of_document fault)
+  pub only : IsWithin nesting number document → (tree : Tree) → ReadsText number document tree
+      → (f : typing.TypingFault Place) → TypingFailsOver schema tree f → (fault : AnyFault) → Contains faults fault → TypingOrLastingFails schema tree fault
+
+abbrev pub RefusalWithLasting : CheckedSchemaValue → SourceText → Refusal → Type 0
+RefusalWithLasting schema document (Faults list) = TellsLastingFaults schema.schema schema.nesting schema.number document (diagnostics_of list)
+RefusalWithLasting schema document Memory = Unit {0}
+RefusalWithLasting schema document Failed = ⊥

@@ -18,7 +18,7 @@ ghost use Rattle.checker_schemas.specs.CheckedSchemaValue.{IsOfAcceptedTexts};
 ghost use Rattle.checker_documents.specs.CheckerValue.{IsCheckedDocumentOf};
 ghost use Rattle.rule_document_definitions.specs.Told.{IsValidDocument};
 ghost use Rattle.graphql_validation.specs.TellsDocument.{IsTypedUnder};
-ghost use Rattle.checker_documents.specs.DocumentRefusals.{RefusalOfDocument};
+ghost use Rattle.checker_documents.specs.DocumentRefusals.{RefusalOfDocument, RefusalWithLasting};
 ghost use Rattle.checker_documents.specs.Checking.{IsReadDocument, IsUnreadDocument, TypesDocument, RefusalOfTyping, RefusalOfRules};
 ghost use Rattle.checker_texts.specs.declared.refusal.Refusal.TheVariants.{Memory};
 
@@ -31,7 +31,7 @@ use document_typing::{BuilderRefusal, ExecutableDocumentBuilder};
 use graphql_faults::{Details, DiagnosticList};
 use graphql_names::FileId;
 use graphql_schema::Schema;
-use graphql_validation::validate_executable_document;
+use graphql_validation::{tell_lasting_faults, validate_executable_document};
 use std::alloc::{AllocError, Global};
 use std::marker::Model;
 use tree_definitions::Document;
@@ -80,14 +80,16 @@ impl CheckedSchema {
     /// The document, if it is accepted over the schema: it is read, every rule holds of it, and no bound is
     /// passed. Its number is the one after those of the schema texts. The schema stays as it is.
     ///
-    /// Otherwise it tells what is wrong: a fault, alone, where the text is not read; else each rule of typing that is broken;
-    /// where none is, the rules on documents that are; and where none is, the fields that do not merge. It never answers
+    /// Otherwise it tells what is wrong: a fault, alone, where the text is not read; else each rule of typing that is broken,
+    /// and of what typing keeps what breaks the rules on documents that stay broken whatever is added; where none of typing is
+    /// broken, the rules on documents that are; and where none is, the fields that do not merge. It never answers
     /// [`Refusal::Failed`].
     pub fn check(&self, text: &str) -> Result<CheckedDocument<'_>, Refusal>
         ensures schema { IfOk result (λ d. d.schema ≡ self.now) }
         ensures text { IfOk result (λ d. d.text ≡ text.now) }
         ensures accepted { IfOk result (λ d. IsCheckedDocumentOf (schema_value self.now) text.now (document_value d).document) }
         ensures refused { IfErr result (RefusalOfDocument (schema_value self.now) text.now) }
+        ensures lasting { IfErr result (RefusalWithLasting (schema_value self.now) text.now) }
         ensures complete { IfErr result (λ refusal.
             IsDocumentCertain (schema_value self.now).schema self.now.nesting self.now.number text.now → refusal ≡ Memory) }
     {
@@ -148,15 +150,17 @@ fn build(
     }
 }
 
-/// What is kept of the definitions over the schema, where no rule of typing is broken.
+/// What is kept of the definitions over the schema, where no rule of typing is broken. Where one is, what breaks rules that
+/// stay broken whatever is added to what is kept is told, too.
 fn typed(schema: &CheckedSchema, tree: &Document) -> Result<ExecutableDocument, Refusal>
     ensures typed { IfOk result (λ d. TypesDocument (schema_value schema.now).schema (document_tree tree.now) (meant_document (typed_document_tree d)) []) }
     ensures sources { IfOk result (λ d. sources_view d.sources ≡ with_sources [] (sources_of tree.now)) }
     ensures defined { IfOk result (λ d. IsDefinedDocument (Some (schema_value schema.now).schema) (typed_document_tree d)) }
     ensures refused { IfErr result (RefusalOfTyping (schema_value schema.now).schema (document_tree tree.now)) }
 {
-    let (document, faults) = build(schema, tree)?;
+    let (document, mut faults) = build(schema, tree)?;
     if !faults.is_empty() {
+        tell_lasting_faults(schema.alloc, &mut faults, &schema.schema, &document)?;
         return Err(Refusal::Faults(faults));
     }
     Ok(document)

@@ -10,3 +10,4 @@ pub mod FieldSets
 pub mod Telling
 pub mod MergedOperations
 pub mod WholeDocuments
+pub mod StandingFaults

@@ -1,3 +1,4 @@
 pub mod Operations
 pub mod Told
 pub mod TellsDocument
+pub mod TellsLasting

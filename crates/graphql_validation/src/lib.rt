@@ -7,13 +7,14 @@
 //! The rules are in inner crates side by side: `rule_variables`, `rule_selections`, `rule_fragments` and
 //! `rule_subscriptions`; what an operation reaches is found once, by `rule_document_ground`. Fields are merged
 //! by `rule_merging`, operation by operation; a field where it is selected is a `FieldSelection`, of `rule_document_ground`.
-//! Begin with `document.rt`, `field_set.rt` and `standalone.rt`.
+//! Begin with `document.rt`, `field_set.rt` and `standalone.rt`; `lasting.rt` judges what typing left of a document.
 #![tactic(auto)]
 
 mod alone;
 mod document;
 mod field_set;
 mod found;
+mod lasting;
 pub mod laws;
 mod standalone;
 mod told;
@@ -21,6 +22,7 @@ mod under_schema;
 
 pub use document::validate_executable_document;
 pub use field_set::validate_field_set;
+pub use lasting::tell_lasting_faults;
 pub use rule_document_ground::FieldSelection;
 pub use rule_merging::FieldsInSetCanMerge;
 pub use standalone::validate_standalone_executable;

@@ -1,0 +1,80 @@
+-- What is kept of the faults of a document are those that last.
+use Rattle.std.proofs.Common.{inl, inr, true, false, List, sym, subst, Contains, true≢false}
+use Rattle.std.specs.List.{filter}
+use Rattle.graphql_names.specs.Placed.{Place}
+use Rattle.schema_types.specs.SchemaTree.{SchemaTree}
+use Rattle.document_meaning.specs.MeantTree.{MeantOperation, MeantDocument}
+use Rattle.rule_definitions.specs.Judged.{judged}
+use Rattle.rule_definitions.specs.Told.{PlacedFault}
+use Rattle.rule_document_definitions.specs.DocumentFaults.{Broken, OfData, OfDocument, OfLimit}
+use Rattle.rule_document_definitions.specs.Selected.{operations}
+use Rattle.rule_document_definitions.specs.Told.{PlacedDocumentFault, places_in}
+use Rattle.rule_lasting.specs.LastingRules.{LastingDataBreaks, LastingSubscriptionBreaks, LastingFails, LastingOrCycleFails}
+use Rattle.rule_lasting.specs.Lasts.{fault_lasts, broken_lasts}
+use Rattle.rule_lasting.proofs.Filtered.{filtered, passing}
+use Rattle.rule_lasting.proofs.Passing.{data_passes, defer_passes, subscription_passes}
+use Rattle.rule_lasting.proofs.Kept.{data_right, broken_right, not_many}
+use Rattle.rule_lasting.proofs.Reasons.{of_variables}
+use Rattle.graphql_validation.specs.Operations.{TellsData, AllUnder, OperationFails, TellsBreaches, all_told}
+use Rattle.graphql_validation.specs.TellsDocument.{TellsDocument}
+use Rattle.graphql_validation.specs.TellsLasting.{TellsLasting}
+use Rattle.graphql_validation.proofs.Telling.{data_in, broken_in, told_cases, bound_is}
+
+module _ (s : SchemaTree Place) (d : MeantDocument Place) where
+  module _ (faults : List PlacedFault) (breaches : List (Broken Place)) (parts : TellsData d (AllUnder s d) (λ o. OperationFails d o s) faults) (told : TellsBreaches d breaches) where
+    abbrev kept_faults : List PlacedFault
+    kept_faults = filter fault_lasts faults
+
+    abbrev kept_breaches : List (Broken Place)
+    kept_breaches = filter broken_lasts breaches
+
+    right : (f : PlacedDocumentFault) → Contains (all_told kept_faults kept_breaches false) f → LastingOrCycleFails s d f
+    right f c = elim (told_cases kept_faults kept_breaches false f c) [
+      | inl g ↦ let p = filtered fault_lasts faults g.0 g.1.0 in subst (LastingOrCycleFails s d) g.1.1 (data_right s d g.0 p.1 (parts.right g.0 p.0))
+      | inr r ↦ elim r [
+        | inl b ↦ let p = filtered broken_lasts breaches b.0 b.1.0 in subst (LastingOrCycleFails s d) b.1.1 (broken_right s d b.0 p.1 (told.right b.0 p.0))
+        | inr k ↦ absurd (true≢false (sym (bound_is false f k).0))
+      ]
+    ]
+
+    -- ---- and all of that is told
+
+    subscription_told : (o : MeantOperation Place) (b : Broken Place) → Contains (operations d) o → LastingSubscriptionBreaks d o b → Contains breaches b
+    subscription_told o b c h =
+        let g = told.subscriptions o c b (h.0, inr h.1) in
+        elim g.1.1 [
+          | inl e ↦ subst (λ v. Contains breaches v) (sym e) g.1.0
+          | inr many ↦ not_many s d o b h many.0
+        ]
+
+    full : (f : PlacedDocumentFault) → LastingFails s d f → Contains (all_told kept_faults kept_breaches false) f
+    full (OfData g) (o, (c, h)) = data_in kept_faults kept_breaches false g
+        (passing fault_lasts faults g (parts.full g (inl (o, (c, fails h)))) (data_passes g (places_in s) (judged s) d o h))
+      where
+        fails : LastingDataBreaks (places_in s) (judged s) d o g → OperationFails d o s g
+        fails (inl v) = inl (of_variables (places_in s) (judged s) d o g v)
+        fails (inr (inl v)) = inr (inl (inr v))
+        fails (inr (inr v)) = inr (inr (inr v))
+    full (OfDocument b) (o, (c, inl h)) = broken_in kept_faults kept_breaches false b
+        (passing broken_lasts breaches b (told.deferred b (inl (o, (c, h)))) (defer_passes b d o h))
+    full (OfDocument b) (o, (c, inr h)) = broken_in kept_faults kept_breaches false b
+        (passing broken_lasts breaches b (subscription_told o b c h) (subscription_passes b d o h))
+    full (OfLimit place) h = absurd h
+
+    pub tells_lasting : TellsLasting s d (all_told kept_faults kept_breaches false)
+    tells_lasting = record { right = right; full = full }
+
+  -- ---- where all rules are judged, all of that is told, too
+
+  pub lasting_told : (added : List PlacedDocumentFault) → TellsDocument s d added → (f : PlacedDocumentFault) → LastingFails s d f → Contains added f
+  lasting_told added tells (OfData f) (o, (c, inl h)) = tells.full (OfData f) (inl (o, (c, inl (of_variables (places_in s) (judged s) d o f h))))
+  lasting_told added tells (OfData f) (o, (c, inr (inl h))) = tells.full (OfData f) (inl (o, (c, inr (inl (inr h)))))
+  lasting_told added tells (OfData f) (o, (c, inr (inr h))) = tells.full (OfData f) (inl (o, (c, inr (inr (inr h)))))
+  lasting_told added tells (OfDocument b) (o, (c, inl h)) = tells.full (OfDocument b) (inl (o, (c, h)))
+  lasting_told added tells (OfDocument b) (o, (c, inr h)) =
+      let g = tells.subscriptions o c b (h.0, inr h.1) in
+      elim g.1.1 [
+        | inl e ↦ subst (λ v. Contains added (OfDocument v)) (sym e) g.1.0
+        | inr many ↦ not_many s d o b h many.0
+      ]
+  lasting_told added tells (OfLimit place) h = absurd h

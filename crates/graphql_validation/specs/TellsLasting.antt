@@ -1,0 +1,20 @@
+-- What is told of a document of which something may be left out.
+use Rattle.std.specs.Prelude.{◌≡◌, ◌++◌, List, map, Contains}
+use Rattle.graphql_names.specs.Placed.{Place}
+use Rattle.schema_types.specs.SchemaTree.{SchemaTree}
+use Rattle.document_meaning.specs.MeantTree.{MeantDocument}
+use Rattle.rule_document_definitions.specs.Told.{PlacedDocumentFault}
+use Rattle.rule_lasting.specs.LastingRules.{LastingFails, LastingOrCycleFails}
+use Rattle.graphql_faults.specs.DetailsTree.{of_document, Telling}
+use Rattle.graphql_validation.specs.TellsDocument.{IsTypedUnder}
+
+module _ (s : SchemaTree Place) (d : MeantDocument Place) where
+  -- these tell what breaks rules that stay broken whatever is added to the document, all of it, and of fragments that reach
+  -- themselves some
+  pub record TellsLasting (told : List PlacedDocumentFault) : Type 0 where
+    pub right : (f : PlacedDocumentFault) → Contains told f → LastingOrCycleFails s d f
+    pub full : (f : PlacedDocumentFault) → LastingFails s d f → Contains told f
+
+  -- behind what was told stands this, of a document that is typed
+  abbrev pub TypedLastingTold : Telling → Telling → Type 0
+  TypedLastingTold old new = IsTypedUnder s d → (added : List PlacedDocumentFault) × ((new ≡ old ++ map of_document added) × TellsLasting added)

@@ -1,0 +1,34 @@
+//! The rules that stay broken whatever is added to a document.
+ghost use Rattle.std.specs.Prelude.{OnErr, OnOk};
+ghost use Rattle.graphql_schema.specs.SchemaOf.{schema_tree};
+ghost use Rattle.document_typing.specs.DocumentView.{document_meant};
+ghost use Rattle.graphql_faults.specs.DetailsView.{diagnostics_of, BeginsAs};
+ghost use Rattle.graphql_validation.specs.TellsLasting.{TypedLastingTold};
+
+use crate::told::append_all;
+use crate::under_schema::{breaches_under, faults_under};
+use document_typed_operations::ExecutableDocument;
+use graphql_faults::DiagnosticList;
+use graphql_schema::Schema;
+use rule_lasting::{keep_lasting_breaches, keep_lasting_faults};
+use std::alloc::{AllocError, Global};
+
+/// Tells of a document of which something may be left out, as typing does, what is wrong with it whatever that was: what
+/// breaks rules under a schema that stay broken whatever is added to the document (section 5, from 5.2.3 on, and the rules on
+/// `@defer`). Those are all rules on documents but UnusedVariable, MissingSubselection, UndefinedFragment, UnusedFragment,
+/// SubscriptionUsesMultipleFields and those on labels and on merging. Where memory is refused the list begins as before.
+pub fn tell_lasting_faults(
+    alloc: Global,
+    list: &mut DiagnosticList,
+    schema: &Schema,
+    document: &ExecutableDocument,
+) -> Result<(), AllocError>
+    ensures told { OnOk result (TypedLastingTold (schema_tree schema.now) (document_meant document.now) (diagnostics_of list.old) (diagnostics_of list.new)) }
+    ensures begins { OnErr result (BeginsAs (diagnostics_of list.old) (diagnostics_of list.new)) }
+{
+    let mut faults = faults_under(alloc, schema, document)?;
+    keep_lasting_faults(&mut faults);
+    let mut breaches = breaches_under(alloc, document)?;
+    keep_lasting_breaches(&mut breaches);
+    append_all(list, faults, breaches, false)
+}

@@ -1,0 +1,4 @@
+pub mod Parts
+pub mod LastingRules
+pub mod Lasts
+pub mod Laws
