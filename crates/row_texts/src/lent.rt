@@ -52,13 +52,15 @@ fn push_field(set: &SelectionSet, field: &Node<Field>, answer: &mut Answer) {
 
 /// The number, counted from 1, of the first field of the set that says the same as this one. Without one it is 0.
 fn first_alike(set: &SelectionSet, selection: &FieldSelection<'_>) -> usize {
-    for (index, field) in set.fields().enumerate() {
+    let mut number = 0_usize;
+    for field in set.fields() {
         let other = FieldSelection {
             parent_type: &set.ty,
             field,
         };
+        number = number.saturating_add(1);
         if are_alike(&other, selection) {
-            return index.saturating_add(1);
+            return number;
         }
     }
     0
