@@ -19,18 +19,13 @@ pub(crate) fn push_around(
     };
     match schema.check(first) {
         Ok(checked) => {
-            push_each(schema, documents, asked, answer);
+            for document in documents {
+                push_check(schema, document, asked, answer);
+                answer.status.put(", ");
+            }
             push_accepted(schema, &checked, asked, answer);
         }
         Err(refusal) => push_refusal(&refusal, answer),
-    }
-}
-
-/// Adds the answer to each document, and a comma to its status.
-fn push_each(schema: &CheckedSchema, documents: &[&str], asked: Asked, answer: &mut Answer) {
-    for document in documents {
-        push_check(schema, document, asked, answer);
-        answer.status.put(", ");
     }
 }
 
