@@ -1,3 +1,4 @@
 pub mod Devices
 pub mod ReadFaults
 pub mod ExitStatus
+pub mod Refusals

@@ -14,7 +14,8 @@ use Rattle.checker_schemas.specs.CheckedSchemaValue.{CheckedSchemaValue, IsCheck
 use Rattle.checker_documents.specs.CheckerValue.{IsCheckedDocumentOf}
 use Rattle.checker_schemas.specs.Refusals.{RefusalOfSchemas}
 use Rattle.checker_documents.specs.DocumentRefusals.{RefusalOfDocument}
-use Rattle.graphql_checked.specs.Run.{BytesOf, IsAnswerTo, AcceptsOrFails, IsWrittenAnswer, IsAnswerOfRefusal}
+use Rattle.graphql_checked.specs.Run.{BytesOf, IsAnswerTo, AcceptsOrFails, IsWrittenAnswer}
+use Rattle.checker_answers.specs.Refusals.{IsAnswerOfRefusal}
 use Rattle.checker_texts.specs.declared.refusal.Refusal.{Refusal}
 use Rattle.checker_texts.specs.declared.refusal.Refusal.TheVariants.{Faults, Memory, Failed}
 use Rattle.graphql_checked.proofs.Verdicts.{accepted_pair, yes_pair, refused_pair}

@@ -18,7 +18,8 @@ use Rattle.checker_documents.specs.CheckerValue.{CheckerValue, IsCheckedDocument
 use Rattle.checker_documents.specs.CheckerAnswers.{IsCheckerAddRefusal, IsFinishRefusal}
 use Rattle.checker_schemas.specs.Refusals.{RefusalOfSchemas}
 use Rattle.checker_documents.specs.DocumentRefusals.{RefusalOfDocument}
-use Rattle.graphql_checked.specs.Verdicts.{IsVerdict, refusal_verdict}
+use Rattle.graphql_checked.specs.Verdicts.{IsVerdict}
+use Rattle.checker_answers.specs.Refusals.{refusal_verdict}
 use Rattle.checker_texts.specs.declared.refusal.Refusal.{Refusal}
 use Rattle.checker_texts.specs.declared.refusal.Refusal.TheVariants.{Faults, Memory, Failed}
 use Rattle.checker_answers.specs.declared.verdict.Verdict.{Verdict}

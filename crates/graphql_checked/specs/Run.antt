@@ -1,14 +1,13 @@
 -- What `run` reads and puts out.
-use Rattle.std.specs.Prelude.{◌≡◌, ℕ, ◌+◌, ◌<◌, ◌++◌, true, List, length, take, flat_map, codes, Option, ◌⊎◌, Result, Ok, Err, Vec, IsUtf8}
+use Rattle.std.specs.Prelude.{◌≡◌, ℕ, ◌+◌, ◌<◌, ◌++◌, true, List, length, take, codes, Option, ◌⊎◌, Result, Ok, Err, Vec, IsUtf8}
 use Rattle.std.specs.List.{All, AllZip}
 use Rattle.std.specs.Io.KnownBytes.{Appends}
 use Rattle.graphql_names.specs.declared.device.Device.{Device}
 use Rattle.graphql_names.specs.Device.{device_inner, device_failed}
-use Rattle.graphql_faults.specs.DetailsView.{diagnostics_of}
 use Rattle.verdict_definitions.specs.Texts.{SourceText, Terms}
 use Rattle.verdict_definitions.specs.Judge.{IsCertain}
 use Rattle.verdict_definitions.specs.Out.{Layout, layout_text, as_lines}
-use Rattle.verdict_definitions.specs.Answer.{WritesDocument, AcceptedBytes, RefusedBytes, Answer, fault_line}
+use Rattle.verdict_definitions.specs.Answer.{WritesDocument, AcceptedBytes, RefusedBytes, Answer}
 use Rattle.book_validity.specs.Yes.{IsYes}
 use Rattle.checker_answers.specs.Devices.{IsTextOf, TellsText, AreTextsOf, IsReadToEnd, AreReadToEnd, IsNotUtf8Of, IsNotUtf8At, HasFailedAt}
 use Rattle.checker_answers.specs.declared.run_fault.Outcome.{Outcome}
@@ -16,8 +15,6 @@ use Rattle.checker_answers.specs.declared.run_fault.Outcome.TheVariants.{Accepte
 use Rattle.checker_answers.specs.declared.run_fault.RunFault.{RunFault}
 use Rattle.checker_answers.specs.declared.run_fault.RunFault.TheVariants.{Memory, Reader, NotUtf8, Writer}
 use Rattle.checker_schemas.specs.CheckedSchemaValue.{CheckedSchemaValue}
-use Rattle.checker_texts.specs.declared.refusal.Refusal.{Refusal}
-use Rattle.checker_texts.specs.declared.refusal.Refusal.TheVariants as refusal
 
 -- the bytes that go with an outcome for these texts
 abbrev pub BytesOf : Terms → Layout → Outcome → List SourceText → SourceText → List ℕ → Type 0
@@ -92,10 +89,3 @@ pub record IsWrittenAnswer (layout : Layout) (schema : CheckedSchemaValue) (text
   pub written_document : List ℕ
   pub writes_document : WritesDocument layout schema.number text written_document
   pub is : bytes ≡ codes "accepted\n" ++ as_lines layout (layout_text layout schema.written) ++ as_lines layout written_document
-
--- the refusal of some texts, with the bytes that go with it; none says that a checker has failed
-abbrev pub IsAnswerOfRefusal : {Z : Type 0} → Refusal → Result (Outcome × Vec ℕ Z) RunFault → Type 0
-IsAnswerOfRefusal (refusal.Faults list) (Ok (outcome, bytes)) = (outcome ≡ Refused) × (bytes.items ≡ codes "refused\n" ++ flat_map fault_line (diagnostics_of list))
-IsAnswerOfRefusal (refusal.Faults list) (Err fault) = fault ≡ Memory
-IsAnswerOfRefusal refusal.Memory answer = answer ≡ Err Memory
-IsAnswerOfRefusal refusal.Failed answer = ⊥

@@ -1,15 +1,11 @@
 -- What the verdict on whole texts says.
-use Rattle.std.specs.Prelude.{ℕ, List, Result, Ok, Err}
+use Rattle.std.specs.Prelude.{ℕ, List}
 use Rattle.graphql_faults.specs.DetailsView.{diagnostics_of}
 use Rattle.verdict_definitions.specs.Texts.{SourceText, Terms}
 use Rattle.verdict_definitions.specs.Answer.{Refuses}
 use Rattle.book_validity.specs.Yes.{IsYes}
-use Rattle.checker_texts.specs.declared.refusal.Refusal.{Refusal}
-use Rattle.checker_texts.specs.declared.refusal.Refusal.TheVariants as refusal
 use Rattle.checker_answers.specs.declared.verdict.Verdict.{Verdict}
 use Rattle.checker_answers.specs.declared.verdict.Verdict.TheVariants.{Accepted, Refused}
-use Rattle.checker_answers.specs.declared.verdict.CheckError.{CheckError}
-use Rattle.checker_answers.specs.declared.verdict.CheckError.TheVariants.{Memory}
 
 -- texts and extensions are counted from 1
 abbrev pub first_terms : ℕ → Terms
@@ -19,9 +15,3 @@ first_terms nesting = record { nesting = nesting; first_text = 1; first_extensio
 abbrev pub IsVerdict : Terms → List SourceText → SourceText → Verdict → Type 0
 IsVerdict terms schemas document Accepted = IsYes terms schemas document
 IsVerdict terms schemas document (Refused list) = Refuses terms schemas document (diagnostics_of list)
-
--- the verdict of a refusal; of texts none says that a checker has failed
-abbrev pub refusal_verdict : Refusal → Result Verdict CheckError
-refusal_verdict (refusal.Faults list) = Ok (Refused list)
-refusal_verdict refusal.Memory = Err Memory
-refusal_verdict refusal.Failed = Err Memory

@@ -1,6 +1,6 @@
 //! Reads texts, judges them, and puts the answer out.
 
-ghost use Rattle.std.specs.Prelude.{◌≡◌, ◌≢◌, false, OnOk, IfOk, IfErr, map, string_bytes};
+ghost use Rattle.std.specs.Prelude.{◌≡◌, false, OnOk, IfOk, IfErr, map, string_bytes};
 ghost use Rattle.std.specs.Option.{option_copied};
 ghost use Rattle.graphql_names.specs.Device.{device_failed};
 ghost use Rattle.checker_answers.specs.Devices.{HaveNotFailed};
@@ -8,16 +8,16 @@ ghost use Rattle.checker_layouts.specs.Layouts.{prefix_of};
 ghost use Rattle.verdict_definitions.specs.Judge.{IsCertain};
 ghost use Rattle.checker_documents.specs.CheckedView.{schema_value, document_value};
 ghost use Rattle.checker_schemas.specs.CheckedSchemaValue.{IsCheckedSchemaOf};
-ghost use Rattle.graphql_checked.specs.Run.{TellCertain, AreAllRead, IsAnswerToCertain, IsAnswerTo, AcceptsOrFails, IsWrittenAnswer, IsAnswerOfRefusal};
-ghost use Rattle.checker_texts.specs.declared.refusal.Refusal.TheVariants.{Failed};
+ghost use Rattle.graphql_checked.specs.Run.{TellCertain, AreAllRead, IsAnswerToCertain, IsAnswerTo, AcceptsOrFails, IsWrittenAnswer};
 ghost use Rattle.graphql_checked.specs.Called.{IsAnswered, Arises};
 ghost use Rattle.graphql_checked.specs.Verdicts.{first_terms};
 
 use crate::verdict::schema_of;
-use checker_answers::{Outcome, RunFault, accepted, numbered, put, read_text, read_texts, refused};
+use checker_answers::{
+    Outcome, RunFault, accepted, numbered, put, read_text, read_texts, refusal_answer,
+};
 use checker_documents::{CheckedDocument, CheckedSchema, Limits};
 use checker_layouts::Layout;
-use checker_texts::Refusal;
 use graphql_names::Device;
 use std::alloc::{AllocError, Global};
 use std::io::{Read, Write};
@@ -108,17 +108,5 @@ fn prefix(layout: Layout<'_>) -> Option<&str>
     match layout {
         Layout::OneLine => None,
         Layout::Indented(prefix) => Some(prefix),
-    }
-}
-
-/// The outcome of a refusal of texts, and the bytes that go with it.
-fn refusal_answer(alloc: Global, refusal: Refusal) -> Result<(Outcome, Vec<u8>), RunFault>
-    requires { refusal ≢ Failed }
-    ensures { IsAnswerOfRefusal refusal result }
-{
-    match refusal {
-        Refusal::Faults(list) => Ok((Outcome::Refused, refused(alloc, &list)?)),
-        Refusal::Memory => Err(RunFault::Memory),
-        Refusal::Failed => unreachable!(),
     }
 }

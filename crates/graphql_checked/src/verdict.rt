@@ -1,20 +1,18 @@
 //! The verdict on whole texts.
 
-ghost use Rattle.std.specs.Prelude.{◌≡◌, ◌≢◌, ◌⊎◌, Ok, Err, map, IfOk, IfErr};
+ghost use Rattle.std.specs.Prelude.{◌≡◌, ◌⊎◌, Ok, Err, map, IfOk, IfErr};
 ghost use Rattle.verdict_definitions.specs.Judge.{AreSchemasCertain, IsCertain};
 ghost use Rattle.checker_documents.specs.CheckedView.{schema_value};
 ghost use Rattle.checker_schemas.specs.CheckedSchemaValue.{IsCheckedSchemaOf};
 ghost use Rattle.checker_schemas.specs.Refusals.{RefusalOfSchemas};
-ghost use Rattle.graphql_checked.specs.Verdicts.{first_terms, IsVerdict, refusal_verdict};
+ghost use Rattle.graphql_checked.specs.Verdicts.{first_terms, IsVerdict};
 ghost use Rattle.checker_texts.specs.declared.refusal.Refusal.TheVariants as refusal;
-ghost use Rattle.checker_texts.specs.declared.refusal.Refusal.TheVariants.{Failed};
 ghost use Rattle.checker_answers.specs.declared.verdict.Verdict.TheVariants.{Accepted};
 ghost use Rattle.checker_answers.specs.declared.verdict.CheckError.TheVariants.{Memory};
 
-use checker_answers::{CheckError, Verdict};
+use checker_answers::{CheckError, Verdict, verdict_of};
 use checker_documents::{CheckedSchema, Checker, Limits};
 use checker_texts::Refusal;
-use graphql_faults::DiagnosticList;
 use std::alloc::Global;
 use std::convert::AsStr;
 
@@ -54,16 +52,4 @@ pub(crate) fn schema_of<T: AsStr>(
         checker.add_schema(text.as_str())?;
     }
     checker.finish()
-}
-
-/// The verdict of a refusal of texts.
-fn verdict_of(refusal: Refusal) -> Result<Verdict, CheckError>
-    requires { refusal ≢ Failed }
-    ensures { result ≡ refusal_verdict refusal }
-{
-    match refusal {
-        Refusal::Faults(list) => Ok(Verdict::Refused(list)),
-        Refusal::Memory => Err(CheckError::Memory),
-        Refusal::Failed => unreachable!(),
-    }
 }
