@@ -29,26 +29,22 @@ pub(crate) fn push_around(
     }
 }
 
-/// The checker that the row asks for.
-fn checker_of(alloc: Global, asked: Asked) -> Checker {
-    let limits = Limits {
-        nesting: asked.nesting,
-    };
-    if asked.text < 2 && asked.extension < 2 {
-        return Checker::new(alloc, limits);
-    }
-    let files = Files::starting_at(asked.text.max(1));
-    let extensions = Extensions::starting_at(asked.extension.max(1));
-    Checker::with_numbers(alloc, limits, files, extensions)
-}
-
-/// The schema of the texts, by a checker.
+/// The schema of the texts, by a checker with the numbers that the row asks for.
 pub(crate) fn schema_of(
     alloc: Global,
     schemas: &[&str],
     asked: Asked,
 ) -> Result<CheckedSchema, Refusal> {
-    let mut checker = checker_of(alloc, asked);
+    let limits = Limits {
+        nesting: asked.nesting,
+    };
+    let mut checker = if asked.text < 2 && asked.extension < 2 {
+        Checker::new(alloc, limits)
+    } else {
+        let files = Files::starting_at(asked.text.max(1));
+        let extensions = Extensions::starting_at(asked.extension.max(1));
+        Checker::with_numbers(alloc, limits, files, extensions)
+    };
     for text in schemas {
         checker.add_schema(text)?;
     }

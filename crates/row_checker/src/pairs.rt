@@ -1,6 +1,6 @@
 //! Accepted pairs as they are written.
 
-use graphql_checked::{CheckedDocument, CheckedSchema, Layout, Refusal};
+use graphql_checked::{CheckedDocument, CheckedSchema, Refusal};
 use row_texts::{Pair, layouts};
 use std::alloc::AllocError;
 
@@ -19,24 +19,13 @@ pub(crate) fn push_checked(
 /// Adds what the document and its schema are written as under each layout.
 fn push_written(document: &CheckedDocument<'_>, pairs: &mut Vec<Pair>) -> Result<(), AllocError> {
     for (name, layout) in layouts() {
-        push_pair(document, name, layout, pairs)?;
+        let schema = document.schema().written(layout)?;
+        let document = document.written(layout)?;
+        pairs.push(Pair {
+            name,
+            schema,
+            document,
+        })?;
     }
-    Ok(())
-}
-
-/// Adds what the document and its schema are written as under the layout.
-fn push_pair(
-    document: &CheckedDocument<'_>,
-    name: &'static str,
-    layout: Layout<'_>,
-    pairs: &mut Vec<Pair>,
-) -> Result<(), AllocError> {
-    let schema = document.schema().written(layout)?;
-    let document = document.written(layout)?;
-    pairs.push(Pair {
-        name,
-        schema,
-        document,
-    })?;
     Ok(())
 }
