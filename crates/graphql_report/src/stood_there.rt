@@ -1,0 +1,42 @@
+//! What stands where a text is not read.
+
+use graphql_read::{NextToken, next_token};
+use std::alloc::{AllocError, Global};
+
+/// What stands at the place, with a word for what is usual.
+pub(crate) fn stood_there(
+    alloc: Global,
+    text: &str,
+    offset: usize,
+) -> Result<Option<String>, AllocError> {
+    let rest = text.get(offset..).unwrap_or("");
+    if let Some(words) = usual(rest, text.get(..offset).unwrap_or("")) {
+        return Ok(Some(String::from_str(alloc, words)?));
+    }
+    match next_token(rest, 0) {
+        NextToken::Token(token) => {
+            let stands = token.text;
+            Ok(Some(format!(in alloc; "`{stands}` stands here")?))
+        }
+        NextToken::End | NextToken::NoToken(_) => Ok(None),
+    }
+}
+
+/// Words for what often stands where no token can.
+fn usual(rest: &str, head: &str) -> Option<&'static str> {
+    if rest.starts_with('\'') {
+        Some("a string stands in double quotes")
+    } else if rest.starts_with("//") {
+        Some("a comment begins with `#`")
+    } else if rest.starts_with("\"\"\"") {
+        Some("the block string does not end")
+    } else if rest.starts_with('"') && head.trim() == "{" {
+        Some("this is JSON: a document is the text under its key `query`")
+    } else if rest.starts_with('"') {
+        Some("the string does not end in its line")
+    } else if rest.starts_with(';') {
+        Some("nothing has to stand between definitions or fields")
+    } else {
+        None
+    }
+}

@@ -1,0 +1,18 @@
+//! What is told of a fault, in the forms that people and jobs read.
+//!
+//! For the layer above: `Entry` has what is told, and each form is what `specs/Forms.antt` says. Of texts of others no control
+//! character goes into the forms that are written to terminals and logs; the form for programs is one line of JSON.
+//!
+//! Begin with `entry.rt`; a form has a file of its own.
+#![tactic(auto)]
+
+mod entry;
+mod escapes;
+mod github_form;
+mod json_form;
+mod push_line;
+mod short_form;
+mod text_form;
+
+pub use entry::{Entry, Excerpt, Field, Place, Related};
+pub use report_lines::{Lines, Position, shown};
