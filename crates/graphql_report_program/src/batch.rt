@@ -1,6 +1,6 @@
 //! Documents as lines of JSON.
 
-use crate::files::{Stop, unread};
+use crate::files::{Stop, put, unread};
 use crate::telling::Telling;
 use graphql_checked::{CheckedSchema, Layout};
 use graphql_report::Report;
@@ -25,7 +25,7 @@ pub(crate) fn check_batch(
             Err(error) if error.kind() == io::ErrorKind::InvalidData => no_answer(alloc, tally)?,
             Err(error) => return Err(unread(rt, "-", error)?),
         };
-        print!(rt; "{answer}").map_err(|_| Stop::Output)?;
+        put(rt, &answer)?;
     }
     Ok(())
 }

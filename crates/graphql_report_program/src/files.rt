@@ -1,4 +1,4 @@
-//! Files that are read, and why the program stops before its end.
+//! Files that are read, what is written, and why the program stops before its end.
 
 use graphql_report::shown;
 use std::alloc::{AllocError, AllocFailed};
@@ -75,4 +75,12 @@ pub(crate) fn read_files(rt: &HostRuntime, paths: &[String]) -> Result<Vec<Strin
         texts.push(read_file(rt, path)?)?;
     }
     Ok(texts)
+}
+
+/// Writes the text to standard output.
+pub(crate) fn put(rt: &HostRuntime, text: &str) -> Result<(), Stop> {
+    match print!(rt; "{text}") {
+        Ok(()) => Ok(()),
+        Err(_) => Err(Stop::Output),
+    }
 }

@@ -105,15 +105,23 @@ fn check(rt: &HostRuntime, settings: &Settings, tally: &mut Tally) -> Result<(),
     }
 }
 
-/// Checks what the settings say, tells last how much was found, and gives the status.
+/// Checks what the settings say, and tells last how much was found.
+fn check_and_count(
+    rt: &HostRuntime,
+    settings: &Settings,
+    tally: &mut Tally,
+) -> Result<(), Stop> {
+    check(rt, settings, tally)?;
+    let words = tally.words(rt.alloc())?;
+    let _ = eprintln!(rt; "{words}");
+    Ok(())
+}
+
+/// Checks what the settings say, and gives the status.
 fn status(rt: &HostRuntime, settings: &Settings) -> u8 {
     let mut tally = Tally::new(settings.documents.is_empty() && !settings.batch);
-    let checked = check(rt, settings, &mut tally);
-    match checked.and_then(|_| Ok(tally.words(rt.alloc())?)) {
-        Ok(words) => {
-            let _ = eprintln!(rt; "{words}");
-            tally.status()
-        }
+    match check_and_count(rt, settings, &mut tally) {
+        Ok(()) => tally.status(),
         Err(stop) => stop.tell(rt),
     }
 }

@@ -1,6 +1,6 @@
 //! Telling faults in the form that is asked for.
 
-use crate::files::Stop;
+use crate::files::{Stop, put};
 use graphql_checked::{CheckedSchema, DiagnosticList, Refusal};
 use graphql_report::{Entry, Lines, Report, Source};
 use report_calls::{Format, Settings, Tally};
@@ -73,16 +73,17 @@ impl Telling<'_> {
     /// Prints a fault in its form.
     fn print_entry(&self, rt: &HostRuntime, entry: &Entry) -> Result<(), Stop> {
         let text = formed(rt.alloc(), self.settings.format, entry)?;
-        print!(rt; "{text}").map_err(|_| Stop::Output)
+        put(rt, &text)
     }
 }
 
 /// Says how many faults are left out.
 fn print_rest(rt: &HostRuntime, left_out: usize) -> Result<(), Stop> {
-    if left_out > 0 {
-        return println!(rt; "and {left_out} more").map_err(|_| Stop::Output);
+    if left_out == 0 {
+        return Ok(());
     }
-    Ok(())
+    let text = format!(in rt.alloc(); "and {left_out} more\n")?;
+    put(rt, &text)
 }
 
 /// The faults of the refusal.

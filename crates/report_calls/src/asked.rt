@@ -1,6 +1,6 @@
 //! What a line of a batch asks for.
 
-ghost use Rattle.std.specs.Prelude.{◌≡◌, IfOk, option_map, string_bytes};
+ghost use Rattle.std.specs.Prelude.{◌≡◌, IfOk, is_some, option_map, string_bytes};
 ghost use Rattle.report_calls.specs.Asked.{asked_by, asked_of, id_text};
 ghost use Rattle.serde_json.specs.View.{view};
 ghost use Rattle.report_calls.specs.declared.asked.Request.{Request};
@@ -51,11 +51,18 @@ fn request_in(alloc: Global, value: &Value) -> Result<Option<Request>, AllocErro
 
 /// The text or whole number, as JSON.
 fn id_text(alloc: Global, id: &Value) -> Result<Option<String>, AllocError>
-    ensures value { IfOk result (λ text. option_map string_bytes text ≡ id_text (view id.now)) }
+    ensures { IfOk result (λ text. option_map string_bytes text ≡ id_text (view id.now)) }
 {
-    let is_id = id.is_string() || id.is_i64() || id.is_u64();
-    if !is_id {
+    if !is_id(id) {
         return Ok(None);
     }
-    Ok(Some(id.to_string(alloc)?))
+    let text = id.to_string(alloc)?;
+    Ok(Some(text))
+}
+
+/// Whether the value is a text or a whole number.
+fn is_id(value: &Value) -> bool
+    ensures { result ≡ is_some (id_text (view value.now)) }
+{
+    value.is_string() || (value.is_number() && !value.is_f64())
 }
