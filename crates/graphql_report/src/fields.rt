@@ -9,7 +9,7 @@ use std::alloc::{AllocError, Global};
 use std::fmt::Display;
 
 /// The names and types that belong to the fault.
-pub(crate) fn fields(alloc: Global, details: &Details) -> Result<Vec<Field>, AllocError> {
+pub(crate) fn fields_of(alloc: Global, details: &Details) -> Result<Vec<Field>, AllocError> {
     let mut fields = Vec::new(alloc);
     match details {
         Details::Data(data) => push_of_data(alloc, &mut fields, data)?,

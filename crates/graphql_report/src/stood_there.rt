@@ -1,9 +1,9 @@
-//! What stands where a text is not read.
+//! What is there where a text is not read.
 
-use graphql_read::{NextToken, next_token};
+use read_tokens::{NextToken, next_token};
 use std::alloc::{AllocError, Global};
 
-/// What stands at the place, with a word for what is usual.
+/// What is at the place, with a word for what is usual.
 pub(crate) fn stood_there(
     alloc: Global,
     text: &str,
@@ -15,17 +15,17 @@ pub(crate) fn stood_there(
     }
     match next_token(rest, 0) {
         NextToken::Token(token) => {
-            let stands = token.text;
-            Ok(Some(format!(in alloc; "`{stands}` stands here")?))
+            let given = token.text;
+            Ok(Some(format!(in alloc; "`{given}` is here")?))
         }
         NextToken::End | NextToken::NoToken(_) => Ok(None),
     }
 }
 
-/// Words for what often stands where no token can.
+/// Words for what is often there where no token can.
 fn usual(rest: &str, head: &str) -> Option<&'static str> {
     if rest.starts_with('\'') {
-        Some("a string stands in double quotes")
+        Some("a string is written in double quotes")
     } else if rest.starts_with("//") {
         Some("a comment begins with `#`")
     } else if rest.starts_with("\"\"\"") {
@@ -35,7 +35,7 @@ fn usual(rest: &str, head: &str) -> Option<&'static str> {
     } else if rest.starts_with('"') {
         Some("the string does not end in its line")
     } else if rest.starts_with(';') {
-        Some("nothing has to stand between definitions or fields")
+        Some("nothing is needed between definitions or fields")
     } else {
         None
     }

@@ -2,7 +2,7 @@
 
 use crate::files::{Stop, put};
 use graphql_checked::{CheckedSchema, DiagnosticList, Refusal};
-use graphql_report::{Entry, Lines, Report, Source};
+use graphql_report::{Entry, Lines, Printed, Report, Source};
 use report_calls::{Format, Settings, Tally};
 use std::alloc::{AllocError, Global};
 
@@ -60,14 +60,15 @@ impl Telling<'_> {
             }
             return Ok(());
         }
-        let folded = report.folded(rt.alloc())?;
-        for index in folded.printed.iter().take(self.settings.max_faults) {
-            if let Some(entry) = entries.get(*index) {
+        let printed = report.folded(rt.alloc())?;
+        let (told, rest) = printed.split_at(printed.len().min(self.settings.max_faults));
+        for one in told {
+            if let Some(entry) = entries.get(one.index) {
                 self.print_entry(rt, entry)?;
             }
+            print_more(rt, one.more)?;
         }
-        let printed = folded.printed.len().min(self.settings.max_faults);
-        print_rest(rt, entries.len().saturating_sub(printed))
+        print_more(rt, faults_in(rest))
     }
 
     /// Prints a fault in its form.
@@ -77,13 +78,22 @@ impl Telling<'_> {
     }
 }
 
-/// Says how many faults are left out.
-fn print_rest(rt: &HostRuntime, left_out: usize) -> Result<(), Stop> {
-    if left_out == 0 {
+/// Says how many faults are left out, if any are.
+fn print_more(rt: &HostRuntime, more: usize) -> Result<(), Stop> {
+    if more == 0 {
         return Ok(());
     }
-    let text = format!(in rt.alloc(); "and {left_out} more\n")?;
+    let text = format!(in rt.alloc(); "and {more} more\n")?;
     put(rt, &text)
+}
+
+/// How many faults these are, with those that each stands for.
+fn faults_in(printed: &[Printed]) -> usize {
+    let mut faults = 0usize;
+    for one in printed {
+        faults = faults.saturating_add(1).saturating_add(one.more);
+    }
+    faults
 }
 
 /// The faults of the refusal.

@@ -1,2 +1,6 @@
 pub mod Escapes
 pub mod Forms
+pub mod Places
+pub mod Order
+pub mod Noted
+pub mod Folding

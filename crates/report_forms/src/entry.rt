@@ -3,7 +3,7 @@
 use report_lines::Position;
 
 /// Where in a text a fault stands.
-#[derive(Clone, Copy, Debug, PartialEq, Eq)]
+#[derive(Clone, Copy)]
 pub struct Place {
     /// Where it begins.
     pub start: Position,

@@ -6,13 +6,26 @@
 //! Begin with `entry.rt`; a form has a file of its own.
 #![tactic(auto)]
 
+mod closest;
 mod entry;
 mod escapes;
+mod excerpt;
+mod folding;
 mod github_form;
 mod json_form;
+mod located;
+mod noted;
+mod order;
 mod push_line;
 mod short_form;
+mod source;
 mod text_form;
 
+pub use closest::Closest;
 pub use entry::{Entry, Excerpt, Field, Place, Related};
+pub use excerpt::excerpt_at;
+pub use folding::{Printed, folded};
+pub use noted::{Noted, related};
+pub use order::{Rank, order_of};
 pub use report_lines::{Lines, Position, shown};
+pub use source::{Source, path_at, place_at, source_at};

@@ -1,8 +1,7 @@
 use Rattle.std.proofs.Common.{map, take}
 use Rattle.graphql_faults.specs.DetailsView.{details_at}
-use Rattle.graphql_report.specs.declared.order.Rank.{Rank}
 use Rattle.graphql_report.specs.Reports.{AreTold}
 use Rattle.graphql_report.proofs.report.Report.new.Given as goal
 
 abbrev pub invariant-loop-rank : goal.invariant-loop-rank
-invariant-loop-rank l = AreTold (map details_at l.told) (map (λ (r : Rank). r.told) (take l.rank-index l.ranks.items)) l.entries.items
+invariant-loop-rank l = AreTold l.sources l.path.now (map details_at l.told) (take l.rank-index l.ranks.items) l.entries.items

@@ -1,36 +1,46 @@
-//! Parts of lines.
+//! The line of a fault.
 
-use crate::source::Source;
+use crate::entry::Excerpt;
+use crate::source::{Source, source_at};
 use graphql_names::SourceSpan;
-use report_forms::Excerpt;
 use std::alloc::{AllocError, Global};
 
-/// How many characters of a line are taken before a place, in it and behind it.
+/// How many characters of a line are taken before a place, in it and after it.
 const MOST: usize = 80;
 
-/// The line in which the place begins, as far as it is near the place.
-pub(crate) fn excerpt(
+/// The line in which the place begins, as far as it is near the place. None where it is in no text of these.
+pub fn excerpt_at(
     alloc: Global,
-    source: Source<'_>,
-    place: SourceSpan,
-) -> Result<Excerpt, AllocError> {
-    let text = source.lines.text();
-    let (head, rest) = split_at(text, place.offset);
-    let (marked, behind) = split_at(rest, place.length);
-    let shown = first_of_line(marked);
-    let after = if shown == marked {
+    sources: &[Source<'_>],
+    place: Option<SourceSpan>,
+) -> Result<Option<Excerpt>, AllocError> {
+    let Some(span) = place else {
+        return Ok(None);
+    };
+    match source_at(sources, span) {
+        None => Ok(None),
+        Some(source) => Ok(Some(excerpt(alloc, source.lines.text(), span)?)),
+    }
+}
+
+/// The same of a place in this text.
+fn excerpt(alloc: Global, text: &str, span: SourceSpan) -> Result<Excerpt, AllocError> {
+    let (head, rest) = split_at(text, span.offset);
+    let (inside, behind) = split_at(rest, span.length);
+    let marked = first_of_line(inside);
+    let after = if marked.len() == inside.len() {
         first_of_line(behind)
     } else {
         ""
     };
     Ok(Excerpt {
         before: String::from_str(alloc, last_of_line(head))?,
-        marked: String::from_str(alloc, shown)?,
+        marked: String::from_str(alloc, marked)?,
         after: String::from_str(alloc, after)?,
     })
 }
 
-/// The text before and behind so many bytes; all before, where it can't be cut there.
+/// The text before and after so many bytes; all before, where it can't be cut there.
 fn split_at(text: &str, bytes: usize) -> (&str, &str) {
     match (text.get(..bytes), text.get(bytes..)) {
         (Some(head), Some(rest)) => (head, rest),
