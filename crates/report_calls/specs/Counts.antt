@@ -14,6 +14,10 @@ counted_words number word = decimal number ++ codes " " ++ word ++ (if number ==
 abbrev pub scope_words : Tally → List ℕ
 scope_words t = if t.is_of_schema then codes " in the schema" else codes " in " ++ decimal t.refused ++ codes " of " ++ counted_words t.documents (codes "document")
 
+-- how many were not read, if any were not
+abbrev pub unread_words : ℕ → List ℕ
+unread_words unread = if nat_lt 0 unread then codes ", " ++ decimal unread ++ codes " not read" else []
+
 -- `3 faults in 2 of 40 documents`, and how many were not read
 abbrev pub words_of : Tally → List ℕ
-words_of t = counted_words t.faults (codes "fault") ++ scope_words t ++ (if nat_lt 0 t.unread then codes ", " ++ decimal t.unread ++ codes " not read" else [])
+words_of t = counted_words t.faults (codes "fault") ++ scope_words t ++ unread_words t.unread

@@ -1,7 +1,7 @@
 //! How much was found.
 
 ghost use Rattle.std.specs.Prelude.{◌≡◌, ◌<◌, true, IfOk, string_bytes};
-ghost use Rattle.report_calls.specs.Counts.{added, counted_words, words_of};
+ghost use Rattle.report_calls.specs.Counts.{added, counted_words, scope_words, unread_words, words_of};
 
 use std::alloc::{AllocError, Global};
 
@@ -95,18 +95,33 @@ impl Tally {
         ensures { IfOk result (λ words. string_bytes words ≡ words_of self) }
     {
         let faults = counted(alloc, self.faults, "fault")?;
-        let documents = counted(alloc, self.documents, "document")?;
-        let refused = self.refused;
-        let mut words = if self.is_of_schema {
-            format!(in alloc; "{faults} in the schema")?
-        } else {
-            format!(in alloc; "{faults} in {refused} of {documents}")?
-        };
-        if self.unread > 0 {
-            let unread = self.unread;
-            words.push_str(&format!(in alloc; ", {unread} not read")?)?;
+        let scope = self.scope(alloc)?;
+        let unread = self.unread_words(alloc)?;
+        format!(in alloc; "{faults}{scope}{unread}")
+    }
+
+    /// What the faults are in.
+    fn scope(self, alloc: Global) -> Result<String, AllocError>
+        ensures { IfOk result (λ words. string_bytes words ≡ scope_words self) }
+    {
+        if self.is_of_schema {
+            return String::from_str(alloc, " in the schema");
         }
-        Ok(words)
+        let refused = self.refused;
+        let documents = counted(alloc, self.documents, "document")?;
+        format!(in alloc; " in {refused} of {documents}")
+    }
+
+    /// How many were not read, if any were not.
+    fn unread_words(self, alloc: Global) -> Result<String, AllocError>
+        ensures { IfOk result (λ words. string_bytes words ≡ unread_words self.unread) }
+    {
+        let unread = self.unread;
+        if unread > 0 {
+            format!(in alloc; ", {unread} not read")
+        } else {
+            Ok(String::new(alloc))
+        }
     }
 }
 
