@@ -64,9 +64,12 @@ fn answer(
 /// The answer to a document that has these faults, of which so many are told at the most.
 fn refused(alloc: Global, id: &str, report: &Report, most: usize) -> Result<String, Stop> {
     let entries = report.entries();
-    let mut faults = Vec::new(alloc);
-    for entry in entries.iter().take(most) {
-        faults.push(entry.object(alloc)?)?;
+    let mut faults = String::new(alloc);
+    for (index, entry) in entries.iter().take(most).enumerate() {
+        if index > 0 {
+            faults.push(',')?;
+        }
+        faults.push_str(&entry.object(alloc)?)?;
     }
     let left_out = entries.len().saturating_sub(most);
     Ok(refused_line(alloc, id, &faults, left_out)?)

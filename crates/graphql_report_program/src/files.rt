@@ -50,9 +50,7 @@ pub(crate) fn unread(rt: &HostRuntime, path: &str, error: io::Error) -> Result<S
         return Ok(Stop::Memory);
     }
     let path = shown(rt.alloc(), path)?;
-    Ok(Stop::Unread(
-        format!(in rt.alloc(); "{path}: cannot be read: {error}")?,
-    ))
+    Ok(Stop::Unread(format!(in rt.alloc(); "{path}: cannot be read: {error}")?))
 }
 
 /// The text of the file of this name; of standard input where that is `-`. The file is closed then.

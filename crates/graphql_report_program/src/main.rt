@@ -106,11 +106,7 @@ fn check(rt: &HostRuntime, settings: &Settings, tally: &mut Tally) -> Result<(),
 }
 
 /// Checks what the settings say, and tells last how much was found.
-fn check_and_count(
-    rt: &HostRuntime,
-    settings: &Settings,
-    tally: &mut Tally,
-) -> Result<(), Stop> {
+fn check_and_count(rt: &HostRuntime, settings: &Settings, tally: &mut Tally) -> Result<(), Stop> {
     check(rt, settings, tally)?;
     let words = tally.words(rt.alloc())?;
     let _ = eprintln!(rt; "{words}");

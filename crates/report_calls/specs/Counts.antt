@@ -8,7 +8,7 @@ added count more = min (count + more) (2 ^ 64 - 1)
 
 -- a number with its word, which ends in `s` but after 1
 abbrev pub counted_words : ℕ → List ℕ → List ℕ
-counted_words number word = decimal number ++ codes " " ++ word ++ (if number == 1 then [] else codes "s")
+counted_words number word = if number == 1 then decimal number ++ codes " " ++ word else decimal number ++ codes " " ++ word ++ codes "s"
 
 -- what the faults are in
 abbrev pub scope_words : Tally → List ℕ

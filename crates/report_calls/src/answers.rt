@@ -1,8 +1,8 @@
 //! The lines that answer a batch.
 
-ghost use Rattle.std.specs.Prelude.{◌≡◌, IfOk, map, string_bytes};
+ghost use Rattle.std.specs.Prelude.{◌≡◌, IfOk, string_bytes};
 ghost use Rattle.json.specs.Print.{quoted};
-ghost use Rattle.report_calls.specs.Answers.{accepted_text, listed, refused_text};
+ghost use Rattle.report_calls.specs.Answers.{accepted_text, refused_text};
 
 use serde_json::Value;
 use std::alloc::{AllocError, Global};
@@ -12,35 +12,33 @@ pub fn accepted_line(alloc: Global, id: &str, written: &str) -> Result<String, A
     ensures { IfOk result (λ line. string_bytes line ≡ accepted_text id.now written.now) }
 {
     let written = quoted(alloc, written)?;
-    format!(in alloc; "{{\"id\":{id},\"accepted\":true,\"written\":{written}}}\n")
+    let mut line = String::from_str(alloc, "{\"id\":")?;
+    line.push_str(id)?;
+    line.push_str(",\"accepted\":true,\"written\":")?;
+    line.push_str(&written)?;
+    line.push_str("}\n")?;
+    Ok(line)
 }
 
-/// The answer to a document that is refused: `{"id":ID,"accepted":false,"faults":[FAULT,..],"left_out":N}`. The id and the faults
-/// are JSON; so many faults more are left out.
+/// The answer to a document that is refused: `{"id":ID,"accepted":false,"faults":[FAULTS],"left_out":N}`. The id is JSON, and so
+/// are the faults, with a comma between each two; so many more are left out.
 pub fn refused_line(
     alloc: Global,
     id: &str,
-    faults: &[String],
+    faults: &str,
     left_out: usize,
 ) -> Result<String, AllocError>
-    ensures { IfOk result (λ line. string_bytes line ≡ refused_text id.now (map string_bytes faults.now) left_out) }
+    ensures { IfOk result (λ line. string_bytes line ≡ refused_text id.now faults.now left_out) }
 {
-    let faults = listed(alloc, faults)?;
-    format!(in alloc; "{{\"id\":{id},\"accepted\":false,\"faults\":[{faults}],\"left_out\":{left_out}}}\n")
-}
-
-/// The items, with a comma between each two.
-fn listed(alloc: Global, items: &[String]) -> Result<String, AllocError>
-    ensures { IfOk result (λ list. string_bytes list ≡ listed (map string_bytes items.now)) }
-{
-    let mut list = String::new(alloc);
-    for (index, item) in items.iter().enumerate() {
-        if index > 0 {
-            list.push(',')?;
-        }
-        list.push_str(item)?;
-    }
-    Ok(list)
+    let left_out = left_out.to_string(alloc)?;
+    let mut line = String::from_str(alloc, "{\"id\":")?;
+    line.push_str(id)?;
+    line.push_str(",\"accepted\":false,\"faults\":[")?;
+    line.push_str(faults)?;
+    line.push_str("],\"left_out\":")?;
+    line.push_str(&left_out)?;
+    line.push_str("}\n")?;
+    Ok(line)
 }
 
 /// The text as JSON.

@@ -94,10 +94,12 @@ impl Tally {
     pub fn words(self, alloc: Global) -> Result<String, AllocError>
         ensures { IfOk result (λ words. string_bytes words ≡ words_of self) }
     {
-        let faults = counted(alloc, self.faults, "fault")?;
         let scope = self.scope(alloc)?;
         let unread = self.unread_words(alloc)?;
-        format!(in alloc; "{faults}{scope}{unread}")
+        let mut words = counted(alloc, self.faults, "fault")?;
+        words.push_str(&scope)?;
+        words.push_str(&unread)?;
+        Ok(words)
     }
 
     /// What the faults are in.
@@ -107,9 +109,13 @@ impl Tally {
         if self.is_of_schema {
             return String::from_str(alloc, " in the schema");
         }
-        let refused = self.refused;
+        let refused = self.refused.to_string(alloc)?;
         let documents = counted(alloc, self.documents, "document")?;
-        format!(in alloc; " in {refused} of {documents}")
+        let mut words = String::from_str(alloc, " in ")?;
+        words.push_str(&refused)?;
+        words.push_str(" of ")?;
+        words.push_str(&documents)?;
+        Ok(words)
     }
 
     /// How many were not read, if any were not.
@@ -129,6 +135,12 @@ impl Tally {
 fn counted(alloc: Global, number: usize, word: &str) -> Result<String, AllocError>
     ensures { IfOk result (λ words. string_bytes words ≡ counted_words number word.now) }
 {
-    let ending = if number == 1 { "" } else { "s" };
-    format!(in alloc; "{number} {word}{ending}")
+    let mut words = number.to_string(alloc)?;
+    words.push_str(" ")?;
+    words.push_str(word)?;
+    if number == 1 {
+        return Ok(words);
+    }
+    words.push_str("s")?;
+    Ok(words)
 }
