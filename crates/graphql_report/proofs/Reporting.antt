@@ -2,7 +2,7 @@
 use Rattle.std.proofs.Common.{◌≡◌, ℕ, suc, ◌+◌, ◌<◌, ◌≤◌, List, [], ◌∷◌, ◌++◌, length, map, get_or, take, All, refl, sym, ◌∙◌, ap, subst, arith}
 use Rattle.std.specs.Prelude.{IsSomeAnd, slice_get, Option, None, Some}
 use Rattle.std.specs.Option.{option_map}
-use Rattle.std.proofs.lemmas.List.{take_more}
+use Rattle.std.proofs.lemmas.List.{take_more, length-map}
 use Rattle.std.proofs.lemmas.List.Sorted.{All-permutation}
 use Rattle.std.proofs.lemmas.List.Elements.{All-cons, All-nil}
 use Rattle.std.proofs.lemmas.Option.{slice_get-map, slice_get_read}
@@ -26,10 +26,12 @@ all_below n top (p ∷ ps) le =
     All-cons (λ (r : Rank). r.told < top) (rank_of p n) (ranks_from (suc n) ps) (omega (arith, le, told_of p n)) (all_below (suc n) top ps (omega (arith, le)))
 
 -- a rank is that of a fault
-pub rank_within : (places : List Place) (ranks : List Rank) (k : ℕ) (r : Rank) → IsOrder places ranks → k < length ranks → r ≡ get_or ranks k r → r.told < length places
-rank_within places ranks k r order less is =
-    let all = All-permutation (λ (i : Rank). i.told < length places) (ranks_from 0 places) ranks order.all (all_below 0 (length places) places (omega arith)) in
-    subst (λ (i : Rank). i.told < length places) (sym is) (all k r less)
+pub rank_within : (told : List (Place × Details)) (ranks : List Rank) (k : ℕ) (d : Rank) → IsOrder (map (λ (t : Place × Details). t.0) told) ranks → k < length ranks
+    → (get_or ranks k d).told < length told
+rank_within told ranks k d order less =
+    let places : List Place = map (λ (t : Place × Details). t.0) told in
+    let all = All-permutation (λ (r : Rank). r.told < length places) (ranks_from 0 places) ranks order.all (all_below 0 (length places) places (omega arith)) in
+    omega (arith, all k d less, length-map told (λ (t : Place × Details). t.0))
 
 module _ (sources : List Source) (name : List ℕ) where
   told_more : (faults : List (DetailsAt Place (List Place))) (rs : List Rank) (es : List Entry) (r : Rank) (e : Entry)
@@ -45,13 +47,13 @@ module _ (sources : List Source) (name : List ℕ) where
       subst (λ o. IsSomeAnd o (λ f. Tells sources name f e)) (sym (slice_get-map details_at told i ∙ ap (option_map details_at) (slice_get_read told (length told) i fault refl less is))) t
 
   -- one more entry
-  pub entries_more : (told : List (Place × Details)) (ranks : List Rank) (k : ℕ) (r : Rank) (fault : Place × Details) (old new : List Entry) (e : Entry)
-      → k < length ranks → r ≡ get_or ranks k r → r.told < length told → fault ≡ get_or told r.told fault → Tells sources name (details_at fault) e → new ≡ old ++ e ∷ []
+  pub entries_more : (told : List (Place × Details)) (ranks : List Rank) (k : ℕ) (d : Rank) (fault : Place × Details) (old new : List Entry) (e : Entry)
+      → k < length ranks → (get_or ranks k d).told < length told → fault ≡ get_or told (get_or ranks k d).told fault → Tells sources name (details_at fault) e → new ≡ old ++ e ∷ []
       → AreTold sources name (map details_at told) (take k ranks) old → AreTold sources name (map details_at told) (take (k + 1) ranks) new
-  entries_more told ranks k r fault old new e less is within at t grown h =
-      let more : take (k + 1) ranks ≡ take k ranks ++ r ∷ [] = take_more ranks k r less ∙ ap (λ (x : Rank). take k ranks ++ x ∷ []) (sym is) in
+  entries_more told ranks k d fault old new e less within at t grown h =
+      let r = get_or ranks k d in
       subst (λ (l : List Entry). AreTold sources name (map details_at told) (take (k + 1) ranks) l) (sym grown)
-      (subst (λ (l : List Rank). AreTold sources name (map details_at told) l (old ++ e ∷ [])) (sym more)
+      (subst (λ (l : List Rank). AreTold sources name (map details_at told) l (old ++ e ∷ [])) (sym (take_more ranks k d less))
       (told_more (map details_at told) (take k ranks) old r e h (tells_at told r.told fault e within at t)))
 
   places_are : (told : List (Place × Details)) → map (λ t. t.0) told ≡ map (λ (f : DetailsAt Place (List Place)). f.place) (map details_at told)

@@ -27,10 +27,12 @@ pub(crate) fn hint_of(
         let text = source.lines.text();
         match details {
             Details::Syntax(_) => return stood_there(alloc, text, span.offset),
-            Details::Data(DiagnosticData::UndefinedVariable { name }) =>
-                return name_after(alloc, text, "$", name),
-            Details::Data(DiagnosticData::UndefinedFragment { name }) =>
-                return name_after(alloc, text, "fragment", name),
+            Details::Data(DiagnosticData::UndefinedVariable { name }) => return name_after(
+                alloc, text, "$", name,
+            ),
+            Details::Data(DiagnosticData::UndefinedFragment { name }) => return name_after(
+                alloc, text, "fragment", name,
+            ),
             _ => {}
         }
     }
@@ -56,8 +58,12 @@ fn typing_hint(
             field_name,
         } => member_hint(alloc, schema, type_name, field_name),
         BuildError::UndefinedTypeInNamedFragmentTypeCondition { type_name }
-        | BuildError::UndefinedTypeInInlineFragmentTypeCondition { type_name } =>
-            closest_key(alloc, &schema.types, type_name, ""),
+        | BuildError::UndefinedTypeInInlineFragmentTypeCondition { type_name } => closest_key(
+            alloc,
+            &schema.types,
+            type_name,
+            "",
+        ),
         _ => Ok(None),
     }
 }
@@ -70,8 +76,12 @@ fn schema_hint(
 ) -> Result<Option<String>, AllocError> {
     match data {
         DiagnosticData::UndefinedDefinition { name } => closest_key(alloc, &schema.types, name, ""),
-        DiagnosticData::UndefinedDirective { name } =>
-            closest_key(alloc, &schema.directive_definitions, name, "@"),
+        DiagnosticData::UndefinedDirective { name } => closest_key(
+            alloc,
+            &schema.directive_definitions,
+            name,
+            "@",
+        ),
         DiagnosticData::UndefinedArgument {
             name,
             coordinate,
@@ -99,14 +109,30 @@ fn member_hint(
     given: &Name,
 ) -> Result<Option<String>, AllocError> {
     match schema.type_named(type_name) {
-        Some(ExtendedType::Object(object)) =>
-            closest_key(alloc, &object.content().fields, given, ""),
-        Some(ExtendedType::Interface(interface)) =>
-            closest_key(alloc, &interface.content().fields, given, ""),
-        Some(ExtendedType::Enum(definition)) =>
-            closest_key(alloc, &definition.content().values, given, ""),
-        Some(ExtendedType::InputObject(definition)) =>
-            closest_key(alloc, &definition.content().fields, given, ""),
+        Some(ExtendedType::Object(object)) => closest_key(
+            alloc,
+            &object.content().fields,
+            given,
+            "",
+        ),
+        Some(ExtendedType::Interface(interface)) => closest_key(
+            alloc,
+            &interface.content().fields,
+            given,
+            "",
+        ),
+        Some(ExtendedType::Enum(definition)) => closest_key(
+            alloc,
+            &definition.content().values,
+            given,
+            "",
+        ),
+        Some(ExtendedType::InputObject(definition)) => closest_key(
+            alloc,
+            &definition.content().fields,
+            given,
+            "",
+        ),
         _ => Ok(None),
     }
 }
@@ -143,9 +169,11 @@ fn closest_argument(
     arguments: &[Node<InputValueDefinition>],
     given: &Name,
 ) -> Result<Option<String>, AllocError> {
-    let mut closest = Closest::new(alloc, given.as_str());
+    let given = given.as_str();
+    let mut closest = Closest::new(alloc, given);
     for argument in arguments {
-        closest.see(argument.content().name.as_str())?;
+        let name = argument.content().name.as_str();
+        closest.see(name)?;
     }
     closest.hint("")
 }
@@ -157,9 +185,11 @@ fn closest_key<V>(
     given: &Name,
     sign: &str,
 ) -> Result<Option<String>, AllocError> {
-    let mut closest = Closest::new(alloc, given.as_str());
+    let given = given.as_str();
+    let mut closest = Closest::new(alloc, given);
     for (name, _) in named.iter() {
-        closest.see(name.as_str())?;
+        let name = name.as_str();
+        closest.see(name)?;
     }
     closest.hint(sign)
 }
@@ -171,7 +201,8 @@ fn name_after(
     before: &str,
     given: &Name,
 ) -> Result<Option<String>, AllocError> {
-    let mut closest = Closest::new(alloc, given.as_str());
+    let given = given.as_str();
+    let mut closest = Closest::new(alloc, given);
     let mut last = "";
     let mut rest = text;
     for _ in 0..text.len() {

@@ -15,6 +15,4 @@ mod stood_there;
 mod told_places;
 
 pub use report::Report;
-pub use report_forms::{
-    Entry, Excerpt, Field, Lines, Place, Position, Printed, Related, Source, shown,
-};
+pub use report_forms::{Entry, Excerpt, Field, Lines, Place, Position, Related, Source, shown};

@@ -7,7 +7,7 @@ ghost use Rattle.graphql_report.specs.Reports.{IsReport};
 use crate::entries::entry_of;
 use graphql_faults::DiagnosticList;
 use graphql_schema::Schema;
-use report_forms::{Entry, Printed, Source, folded, order_of};
+use report_forms::{Entry, Source, order_of};
 use std::alloc::{AllocError, Global};
 use std::marker::Model;
 
@@ -33,6 +33,7 @@ impl Model for Report {
 impl Report {
     /// The report of the faults. Text `n` is the `n`-th source; `path` is the name of what has no place. Names that may be meant
     /// are taken from the schema, if there is one.
+    #[tactic(auto, using(crate::proofs::Reporting::rank_within, crate::proofs::Reporting::entries_more, crate::proofs::Reporting::all_reported))]
     pub fn new(
         alloc: Global,
         faults: &DiagnosticList,
@@ -58,10 +59,5 @@ impl Report {
         ensures { result.now ≡ self.now }
     {
         &self.entries
-    }
-
-    /// What is printed of it, as `folded` says.
-    pub fn folded(&self, alloc: Global) -> Result<Vec<Printed>, AllocError> {
-        folded(alloc, &self.entries)
     }
 }

@@ -5,7 +5,7 @@ ghost use Rattle.graphql_names.specs.Node.{place};
 ghost use Rattle.fault_data.specs.DiagnosticView.{diagnostic_of};
 ghost use Rattle.fault_document_data.specs.DocumentBreachView.{document_breach_of};
 ghost use Rattle.graphql_faults.specs.DetailsView.{details_of};
-ghost use Rattle.graphql_report.specs.ToldPlaces.{plain, first_of_data, more_of_data, first_of_document, first_of, places_of, extended, in_cycle};
+ghost use Rattle.graphql_report.specs.ToldPlaces.{plain, first_of_data, more_of_data, first_of_document, first_of, more_of, places_of, extended, in_cycle};
 
 use fault_data::DiagnosticData;
 use fault_document_data::BuildError;
@@ -20,9 +20,7 @@ pub(crate) fn places_of(alloc: Global, details: &Details) -> Result<Vec<Noted>, 
     ensures { IfOk result (λ noted. map plain noted.items ≡ places_of (details_of details.now)) }
 {
     let mut noted = vec![in alloc; first_of(details)]?;
-    if let Details::Data(data) = details {
-        push_more(&mut noted, data)?;
-    }
+    push_more(&mut noted, details)?;
     Ok(noted)
 }
 
@@ -138,10 +136,7 @@ fn first_of_data(data: &DiagnosticData) -> Noted
         | DiagnosticData::InvalidImplementationFieldArgumentType {
             interface_argument_location,
             ..
-        } => noted(
-            *interface_argument_location,
-            "the interface's argument",
-        ),
+        } => noted(*interface_argument_location, "the interface's argument"),
         DiagnosticData::UnsupportedLocation {
             definition_location,
             ..
@@ -206,8 +201,24 @@ fn first_of_data(data: &DiagnosticData) -> Noted
     }
 }
 
+/// Adds the further places.
+fn push_more(all: &mut Vec<Noted>, details: &Details) -> Result<(), AllocError>
+    ensures { OnOk result (map plain all.new.items ≡ map plain all.old.items ++ more_of (details_of details.now)) }
+{
+    match details {
+        Details::Data(data) => push_more_of_data(all, data),
+        Details::Syntax(_)
+        | Details::Nesting
+        | Details::Spent
+        | Details::SchemaBuild(_)
+        | Details::DocumentBuild(_)
+        | Details::RecursionLimitError => Ok(()),
+    }
+}
+
 /// Adds the further places of a fault of schemas, uses, values or documents.
-fn push_more(all: &mut Vec<Noted>, data: &DiagnosticData) -> Result<(), AllocError>
+#[tactic(auto, using(crate::proofs::Cycles::inputs_in_cycle, crate::proofs::Cycles::directives_in_cycle, crate::proofs::Cycles::spreads_in_cycle))]
+fn push_more_of_data(all: &mut Vec<Noted>, data: &DiagnosticData) -> Result<(), AllocError>
     ensures { OnOk result (map plain all.new.items ≡ map plain all.old.items ++ more_of_data (diagnostic_of data.now)) }
 {
     match data {

@@ -2,8 +2,9 @@
 
 use crate::files::{Stop, put};
 use graphql_checked::{CheckedSchema, DiagnosticList, Refusal};
-use graphql_report::{Entry, Lines, Printed, Report, Source};
+use graphql_report::{Entry, Lines, Report, Source};
 use report_calls::{Format, Settings, Tally};
+use report_folding::{Printed, folded};
 use std::alloc::{AllocError, Global};
 
 /// What is asked for, and the texts of the schema.
@@ -60,7 +61,7 @@ impl Telling<'_> {
             }
             return Ok(());
         }
-        let printed = report.folded(rt.alloc())?;
+        let printed = folded(rt.alloc(), entries)?;
         let (told, rest) = printed.split_at(printed.len().min(self.settings.max_faults));
         for one in told {
             if let Some(entry) = entries.get(one.index) {

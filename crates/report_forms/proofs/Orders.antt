@@ -3,6 +3,7 @@ use Rattle.std.proofs.Common.{◌≡◌, ℕ, suc, ◌+◌, ◌<◌, List, [], �
 use Rattle.std.specs.Prelude.{Option}
 use Rattle.std.specs.List.Sorted.{IsPermutation}
 use Rattle.std.proofs.lemmas.List.{take_more, map-append, length-map, length-take-le}
+use Rattle.std.proofs.Math.Seq.{take-length}
 use Rattle.graphql_names.specs.declared.span.SourceSpan.{SourceSpan}
 use Rattle.report_forms.specs.declared.order.Rank.{Rank}
 use Rattle.report_forms.specs.Order.{rank_of, ranks_from}
@@ -25,5 +26,6 @@ module _ {T : Type 0} (told : List (Option SourceSpan × T)) where
       n ∙ ap (λ l. l ++ r ∷ []) o ∙ ap (λ x. ranks_from 0 (places (take k told)) ++ x ∷ []) (e ∙ ap (rank_of one.0) (sym size))
       ∙ sym (ap (ranks_from 0) more ∙ ranks_push 0 (places (take k told)) one.0)
 
-  pub all_ranks : (k : ℕ) (old sorted : List Rank) → old ≡ ranks_from 0 (places (take k told)) → take k told ≡ told → IsPermutation old sorted → IsPermutation (ranks_from 0 (places told)) sorted
-  all_ranks k old sorted o whole p = subst (λ (l : List Rank). IsPermutation l sorted) (o ∙ ap (λ l. ranks_from 0 (places l)) whole) p
+  pub all_ranks : (k : ℕ) (old sorted : List Rank) → old ≡ ranks_from 0 (places (take k told)) → k ≡ length told → IsPermutation old sorted → IsPermutation (ranks_from 0 (places told)) sorted
+  all_ranks k old sorted o whole p =
+      subst (λ (l : List Rank). IsPermutation l sorted) (o ∙ ap (λ l. ranks_from 0 (places l)) (ap (λ n. take n told) whole ∙ take-length told)) p

@@ -1,5 +1,5 @@
 -- Places that belong to a fault, one after another.
-use Rattle.std.proofs.Common.{◌≡◌, ℕ, ◌+◌, ◌<◌, Bool, true, false, cond, List, [], ◌∷◌, ◌++◌, length, get_or, take, refl, sym, ◌∙◌, ap, subst}
+use Rattle.std.proofs.Common.{◌≡◌, ℕ, ◌+◌, ◌<◌, Bool, true, false, cond, append-nil, List, [], ◌∷◌, ◌++◌, length, get_or, take, refl, sym, ◌∙◌, ap, subst}
 use Rattle.std.specs.Prelude.{Option}
 use Rattle.std.proofs.lemmas.List.Elements.{filter_more}
 use Rattle.graphql_names.specs.declared.span.SourceSpan.{SourceSpan}
@@ -24,5 +24,5 @@ related_more sources own noted k d old new l h a =
 pub adds_one : (sources : List Source) (own : Option SourceSpan) (n : Noted) (old new : List Related) (r : Related) → is_other own n.place ≡ true → new ≡ old ++ r ∷ [] → IsRelated sources n r → AddsOther sources own n old new
 adds_one sources own n old new r b e h = record { part = r ∷ []; adds = e; each = subst (λ (t : Bool). AreRelated sources (cond t (n ∷ []) []) (r ∷ [])) (sym b) (h, tt) }
 
-pub adds_none : (sources : List Source) (own : Option SourceSpan) (n : Noted) (old new : List Related) → is_other own n.place ≡ false → new ≡ old ++ [] → AddsOther sources own n old new
-adds_none sources own n old new b e = record { part = []; adds = e; each = subst (λ (t : Bool). AreRelated sources (cond t (n ∷ []) []) []) (sym b) tt }
+pub adds_none : (sources : List Source) (own : Option SourceSpan) (n : Noted) (old new : List Related) → is_other own n.place ≡ false → new ≡ old → AddsOther sources own n old new
+adds_none sources own n old new b e = record { part = []; adds = e ∙ sym (append-nil old); each = subst (λ (t : Bool). AreRelated sources (cond t (n ∷ []) []) []) (sym b) tt }

@@ -3,4 +3,3 @@ pub mod Forms
 pub mod Places
 pub mod Order
 pub mod Noted
-pub mod Folding

@@ -1,6 +1,5 @@
 -- Where faults are: the text that a place is in, and its lines and columns.
 use Rattle.std.specs.Prelude.{◌≡◌, ℕ, ◌+◌, ◌-◌, ◌==◌, List, codes, string_bytes, Option, None, Some, slice_get, if◌then◌else◌, ⊤}
-use Rattle.std.specs.Option.{option_map_or}
 use Rattle.graphql_names.specs.declared.span.SourceSpan.{SourceSpan}
 use Rattle.report_lines.specs.Positions.{IsPosition}
 use Rattle.report_forms.specs.declared.entry.Entry.{Entry}
@@ -11,10 +10,15 @@ use Rattle.report_forms.specs.declared.source.Source.{Source}
 abbrev pub source_at : List Source → SourceSpan → Option Source
 source_at sources span = if span.file_id.0 == 0 then None else slice_get sources (span.file_id.0 - 1)
 
--- its name; another one where there is no place
+-- its name
+abbrev pub path_of : Option Source → List ℕ
+path_of None = codes "<built in>"
+path_of (Some source) = source.path.now
+
+-- the name of the text that a place is in; another one where there is no place
 abbrev pub path_at : List Source → List ℕ → Option SourceSpan → List ℕ
 path_at sources name None = name
-path_at sources name (Some span) = option_map_or (λ (s : Source). s.path.now) (source_at sources span) (codes "<built in>")
+path_at sources name (Some span) = path_of (source_at sources span)
 
 -- the place in a text, in lines and columns
 pub record IsPlaceIn (text : List ℕ) (span : SourceSpan) (place : Place) : Type 0 where
@@ -35,6 +39,5 @@ IsPlaceAt sources None place = place ≡ None
 IsPlaceAt sources (Some span) place = IsPlaceInSource (source_at sources span) span place
 
 -- an entry under the name of the text that the place is in, at the place
-pub record IsLocated (sources : List Source) (name : List ℕ) (place : Option SourceSpan) (e : Entry) : Type 0 where
-  pub path : string_bytes e.path ≡ path_at sources name place
-  pub place : IsPlaceAt sources place e.place
+abbrev pub IsLocated : List Source → List ℕ → Option SourceSpan → Entry → Type 0
+IsLocated sources name at e = (string_bytes e.path ≡ path_at sources name at) × IsPlaceAt sources at e.place

@@ -4,7 +4,7 @@ ghost use Rattle.std.specs.Prelude.{◌≡◌, IfOk, OnOk};
 ghost use Rattle.report_forms.specs.Noted.{is_other, others, AreRelated, AddsOther, IsRelated};
 
 use crate::entry::Related;
-use crate::source::{Source, path_at, place_at};
+use crate::source::{Source, path_of, place_at};
 use graphql_names::SourceSpan;
 use std::alloc::{AllocError, Global};
 
@@ -16,6 +16,7 @@ pub struct Noted {
 }
 
 /// The places that belong to a fault in lines and columns, without its own and without those that are none.
+#[tactic(auto, using(crate::proofs::RelatedPlaces::related_more))]
 pub fn related(
     alloc: Global,
     sources: &[Source<'_>],
@@ -32,6 +33,7 @@ pub fn related(
 }
 
 /// Adds the place, if there is one that is not the fault's own.
+#[tactic(auto, using(crate::proofs::RelatedPlaces::adds_one, crate::proofs::RelatedPlaces::adds_none))]
 fn push_related(
     alloc: Global,
     all: &mut Vec<Related>,
@@ -39,7 +41,7 @@ fn push_related(
     own: Option<SourceSpan>,
     noted: Noted,
 ) -> Result<(), AllocError>
-    ensures { OnOk result (AddsOther sources.now own noted.entry all.old.items all.new.items) }
+    ensures { OnOk result (AddsOther sources.now own noted all.old.items all.new.items) }
 {
     if !is_other(own, noted.place) {
         return Ok(());
@@ -62,10 +64,15 @@ fn is_other(own: Option<SourceSpan>, place: Option<SourceSpan>) -> bool
 
 /// The place in lines and columns.
 fn related_at(alloc: Global, sources: &[Source<'_>], noted: Noted) -> Result<Related, AllocError>
-    ensures { IfOk result (λ related. IsRelated sources.now noted.entry related) }
+    ensures { IfOk result (λ related. IsRelated sources.now noted related) }
 {
-    let path = path_at(sources, "", noted.place);
-    let path = String::from_str(alloc, path)?;
+    let path = match noted.place {
+        None => String::new(alloc),
+        Some(span) => {
+            let path = path_of(sources, span);
+            String::from_str(alloc, path)?
+        }
+    };
     let words = String::from_str(alloc, noted.words)?;
     let start = match place_at(sources, noted.place) {
         None => None,

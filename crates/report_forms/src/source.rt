@@ -1,7 +1,7 @@
 //! Texts under the names that the caller has for them, and where places are in them.
 
 ghost use Rattle.std.specs.Prelude.{◌≡◌, IfSome, IfNone, option_map};
-ghost use Rattle.report_forms.specs.Places.{source_at, path_at, IsPlaceIn, IsPlaceAt};
+ghost use Rattle.report_forms.specs.Places.{source_at, path_of, path_at, IsPlaceIn, IsPlaceAt};
 
 use crate::entry::Place;
 use graphql_names::{FileId, SourceSpan};
@@ -35,10 +35,17 @@ pub fn path_at<'a>(sources: &[Source<'a>], name: &'a str, place: Option<SourceSp
 {
     match place {
         None => name,
-        Some(span) => match source_at(sources, span) {
-            None => BUILT_IN,
-            Some(source) => source.path,
-        },
+        Some(span) => path_of(sources, span),
+    }
+}
+
+/// The name of the text that the place is in.
+pub(crate) fn path_of<'a>(sources: &[Source<'a>], span: SourceSpan) -> &'a str
+    ensures { result.now ≡ path_of (source_at sources.now span) }
+{
+    match source_at(sources, span) {
+        None => BUILT_IN,
+        Some(source) => source.path,
     }
 }
 

@@ -7,7 +7,7 @@ use Rattle.std.specs.HashMap.{HashMap, get_by}
 use Rattle.report_lines.specs.declared.position.Position.{Position}
 use Rattle.report_forms.specs.declared.entry.Place.{Place}
 use Rattle.report_forms.specs.declared.entry.Entry.{Entry}
-use Rattle.report_forms.specs.declared.folding.Printed.{Printed}
+use Rattle.report_folding.specs.declared.folding.Printed.{Printed}
 
 -- a value fault that ends where the last usage of a variable does that is told: it is left out
 abbrev pub repeats_at : Option Position → Option Place → List ℕ → Bool

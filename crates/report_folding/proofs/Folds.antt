@@ -1,5 +1,5 @@
 -- The laws of what is printed of many faults.
-use Rattle.std.proofs.Common.{◌≡◌, ℕ, zero, suc, ◌+◌, ◌-◌, ◌<◌, ◌≤◌, Bool, true, false, cond, List, [], ◌∷◌, ◌++◌, length, take, get_or, map, min, refl, sym, ◌∙◌, ap, arith, inl, inr, add-one, zero-add, unwrap_or}
+use Rattle.std.proofs.Common.{◌≡◌, ℕ, zero, suc, ◌+◌, ◌-◌, ◌<◌, ◌≤◌, Bool, true, false, cond, List, [], ◌∷◌, ◌++◌, length, take, get_or, map, min, refl, sym, ◌∙◌, ap, arith, inl, inr, add-one, add_comm, zero-add, unwrap_or}
 use Rattle.std.specs.Prelude.{nat_lt, nat_le, ◌==◌, sum_by, Option, None, Some, slice_get}
 use Rattle.std.specs.Borrow.{Bor}
 use Rattle.std.specs.Str.{bytes_eq}
@@ -10,17 +10,20 @@ use Rattle.std.proofs.lemmas.Bool.Decides.{leb_tells, eqb_tells}
 use Rattle.std.proofs.lemmas.List.{take_more, map-append, length-map, get_or-map, take-map}
 use Rattle.std.proofs.lemmas.List.Sums.{count_by_more_yes, count_by_more_no, sum_by-append}
 use Rattle.std.proofs.lemmas.Option.{unwrap_or-slice_get}
-use Rattle.report_forms.specs.declared.folding.Printed.{Printed}
-use Rattle.report_forms.specs.Folding.{cause_text, is_cause, count_of, cause_at, before_of, more_after, printed_when, printed_at, printed_up_to, has_cause, printed_of, more_of, IsFolded}
+use Rattle.report_folding.specs.declared.folding.Printed.{Printed}
+use Rattle.report_folding.specs.Folding.{cause_text, is_cause, count_of, cause_at, before_of, more_after, printed_when, printed_at, printed_up_to, has_cause, printed_of, more_of, IsFolded}
 
 -- what five leave
 abbrev rest : ℕ → ℕ → ℕ
 rest x total = cond (nat_le 5 x) (total - 5) 0
 
-capped : (x : ℕ) → cond (nat_lt x 5) 1 0 + min 5 x ≡ min 5 (x + 1)
+abbrev pub one_if : Bool → ℕ
+one_if b = cond b 1 0
+
+capped : (x : ℕ) → one_if (nat_lt x 5) + min 5 x ≡ min 5 (x + 1)
 capped x = elim (leb_tells (suc x) 5) [
-  | inl h ↦ let one : cond (nat_lt x 5) 1 0 ≡ 1 = ap (λ b. cond b 1 0) h.0 in omega (arith, one, h.1)
-  | inr h ↦ let none : cond (nat_lt x 5) 1 0 ≡ 0 = ap (λ b. cond b 1 0) h.0 in omega (arith, none, h.1)
+  | inl h ↦ let one : one_if (nat_lt x 5) ≡ 1 = ap one_if h.0 in omega (arith, one, h.1)
+  | inr h ↦ let none : one_if (nat_lt x 5) ≡ 0 = ap one_if h.0 in omega (arith, none, h.1)
 ]
 
 rest_more : (x total : ℕ) → cond (nat_lt x 5) (more_after x total) 0 + rest x total ≡ rest (x + 1) total
@@ -55,7 +58,10 @@ sum_of_one : (f : Printed → ℕ) (t : Bool) (p : Printed) → sum_by f (cond t
 sum_of_one f true p = zero-add (f p)
 sum_of_one f false p = refl
 
-neither : (t : Bool) → cond t 0 0 ≡ 0
+abbrev none_if : Bool → ℕ
+none_if t = cond t 0 0
+
+neither : (t : Bool) → none_if t ≡ 0
 neither true = refl
 neither false = refl
 
@@ -95,7 +101,7 @@ module _ (cs : List (Option (List ℕ))) (m : List ℕ) where
     | true ↦ λ t.
         let at = ap (is_cause m) e ∙ t in
         let same : count_of c (take n cs) ≡ so_far n = ap (λ q. count_of q (take n cs)) (sym ((bytes_decides m c).0 t)) in
-        ap (λ x. x + min 5 (so_far n)) (one_of (λ p. 1) n c at ∙ ap (λ x. cond (nat_lt x 5) 1 0) same) ∙ capped (so_far n) ∙ ap (λ x. min 5 x) (sym (counts_yes n l at))
+        ap (λ x. x + min 5 (so_far n)) (one_of (λ p. 1) n c at ∙ ap (λ x. one_if (nat_lt x 5)) same) ∙ capped (so_far n) ∙ ap (λ x. min 5 x) (sym (counts_yes n l at))
     | false ↦ λ f.
         let at = ap (is_cause m) e ∙ f in
         ap (λ x. x + min 5 (so_far n)) (none_of (λ p. 1) n c at) ∙ zero-add (min 5 (so_far n)) ∙ ap (λ x. min 5 x) (sym (counts_no n l at))
@@ -119,12 +125,16 @@ module _ (cs : List (Option (List ℕ))) (m : List ℕ) where
   five_up_to : (n : ℕ) → n ≤ length cs → printed_of cs m (printed_up_to cs n) ≡ min 5 (so_far n)
   five_up_to zero l = refl
   five_up_to (suc n) l =
-      omega (arith, sum_by-append (λ (p : Printed). cond (has_cause cs m p) 1 0) (printed_up_to cs n) (printed_at cs n (cause_at cs n)), five_up_to n (omega (arith, l)), five_step n (cause_at cs n) refl (omega (arith, l)))
+      let part = printed_at cs n (cause_at cs n) in
+      sum_by-append (λ (p : Printed). cond (has_cause cs m p) 1 0) (printed_up_to cs n) part ∙ ap (λ x. x + printed_of cs m part) (five_up_to n (omega (arith, l)))
+      ∙ add_comm (min 5 (so_far n)) (printed_of cs m part) ∙ five_step n (cause_at cs n) refl (omega (arith, l))
 
   others_up_to : (n : ℕ) → n ≤ length cs → more_of cs m (printed_up_to cs n) ≡ rest (so_far n) (count_of m cs)
   others_up_to zero l = refl
   others_up_to (suc n) l =
-      omega (arith, sum_by-append (λ (p : Printed). cond (has_cause cs m p) p.more 0) (printed_up_to cs n) (printed_at cs n (cause_at cs n)), others_up_to n (omega (arith, l)), others_step n (cause_at cs n) refl (omega (arith, l)))
+      let part = printed_at cs n (cause_at cs n) in
+      sum_by-append (λ (p : Printed). cond (has_cause cs m p) p.more 0) (printed_up_to cs n) part ∙ ap (λ x. x + more_of cs m part) (others_up_to n (omega (arith, l)))
+      ∙ add_comm (rest (so_far n) (count_of m cs)) (more_of cs m part) ∙ others_step n (cause_at cs n) refl (omega (arith, l))
 
 pub is_folded : (cs : List (Option (List ℕ))) (given : List (Option (Bor (List ℕ)))) (printed : List Printed)
     → map cause_text given ≡ cs → printed ≡ printed_up_to (map cause_text given) (length given) → IsFolded cs printed
@@ -136,17 +146,21 @@ is_folded cs given printed e h =
     record {
       first = first;
       five = five;
-      others = λ m. omega (arith, five m, more m, whole (count_of m cs));
+      others = λ m. ap (λ x. x + more_of cs m printed) (five m) ∙ ap (λ x. min 5 (count_of m cs) + x) (more m) ∙ whole (count_of m cs);
     }
 
 -- one more message is counted
 pub counted_more : (given : List (Option (Bor (List ℕ)))) (k : ℕ) (d : Option (Bor (List ℕ))) (q : List ℕ) → k < length given
-    → count_of q (map cause_text (take (k + 1) given)) ≡ count_of q (map cause_text (take k given)) + cond (is_cause q (cause_text (get_or given k d))) 1 0
+    → count_of q (map cause_text (take (k + 1) given)) ≡ count_of q (map cause_text (take k given)) + one_if (is_cause q (cause_text (get_or given k d)))
 counted_more given k d q l =
     let parts : map cause_text (take (k + 1) given) ≡ map cause_text (take k given) ++ cause_text (get_or given k d) ∷ [] =
     ap (map cause_text) (take_more given k d l) ∙ map-append cause_text (take k given) (get_or given k d ∷ []) in
     ap (count_of q) parts ∙ sum_by-append (λ c. cond (is_cause q c) 1 0) (map cause_text (take k given)) (cause_text (get_or given k d) ∷ [])
-    ∙ ap (λ x. count_of q (map cause_text (take k given)) + x) (zero-add (cond (is_cause q (cause_text (get_or given k d))) 1 0))
+    ∙ ap (λ x. count_of q (map cause_text (take k given)) + x) (zero-add (one_if (is_cause q (cause_text (get_or given k d)))))
+
+pub counted_step : (given : List (Option (Bor (List ℕ)))) (k : ℕ) (d : Option (Bor (List ℕ))) (q : List ℕ) (old new : ℕ) → k < length given
+    → old ≡ count_of q (map cause_text (take k given)) → new ≡ old + one_if (is_cause q (cause_text (get_or given k d))) → new ≡ count_of q (map cause_text (take (k + 1) given))
+counted_step given k d q old new l o n = n ∙ ap (λ x. x + one_if (is_cause q (cause_text (get_or given k d)))) o ∙ sym (counted_more given k d q l)
 
 same_before : (f g : List ℕ → ℕ) → ((q : List ℕ) → f q ≡ g q) → (cause : Option (List ℕ)) → before_of f cause ≡ before_of g cause
 same_before f g h None = refl

@@ -1,6 +1,6 @@
 use Rattle.std.proofs.Common.{◌≡◌, ℕ, List, map, take}
-use Rattle.report_forms.specs.Folding.{cause_text, count_of, noted, printed_up_to}
-use Rattle.report_forms.proofs.folding.folded_causes.Given as goal
+use Rattle.report_folding.specs.Folding.{cause_text, count_of, noted, printed_up_to}
+use Rattle.report_folding.proofs.folding.folded_causes.Given as goal
 
 abbrev pub invariant-loop-index : goal.invariant-loop-index
 invariant-loop-index l =

@@ -1,10 +1,9 @@
 //! What is printed of many faults.
 
 ghost use Rattle.std.specs.Prelude.{◌≡◌, ◌+◌, ◌++◌, ◌<◌, ◌^◌, ℕ, List, length, map, IfOk, OnOk, if◌then◌else◌};
-ghost use Rattle.report_forms.specs.Folding.{repeats, causes_after, usage_after, cause_text, is_cause, count_of, before_of, printed_when, printed_up_to, IsFolded, noted};
+ghost use Rattle.report_folding.specs.Folding.{repeats, causes_after, usage_after, cause_text, is_cause, count_of, before_of, printed_when, printed_up_to, IsFolded, noted};
 
-use crate::entry::Entry;
-use report_lines::Position;
+use report_forms::{Entry, Position};
 use std::alloc::{AllocError, Global};
 use std::collections::HashMap;
 
