@@ -25,7 +25,8 @@ pub(crate) fn entry_of(
     ensures { IfOk result (Tells sources.now path.now (details_at (place, details.now))) }
 {
     let message = details.to_string(alloc)?;
-    let mut entry = Entry::at(alloc, sources, path, place, details.name(), message)?;
+    let rule = details.name();
+    let mut entry = Entry::at(alloc, sources, path, place, rule, message)?;
     entry.related = related_of(alloc, sources, place, details)?;
     entry.hint = hint_of(alloc, sources, schema, place, details)?;
     entry.fields = fields_of(alloc, details)?;

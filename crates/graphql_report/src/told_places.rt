@@ -36,7 +36,7 @@ fn first_of(details: &Details) -> Noted
     ensures { plain result ≡ first_of (details_of details.now) }
 {
     match details {
-        Details::Data(data) => first_of_data(data),
+        Details::Data(diagnostic) => first_of_data(diagnostic),
         Details::DocumentBuild(error) => first_of_document(error),
         Details::Syntax(_)
         | Details::Nesting
@@ -87,10 +87,10 @@ fn first_of_document(error: &BuildError) -> Noted
 }
 
 /// The first place of a fault of schemas, uses, values or documents.
-fn first_of_data(data: &DiagnosticData) -> Noted
-    ensures { plain result ≡ first_of_data (diagnostic_of data.now) }
+fn first_of_data(diagnostic: &DiagnosticData) -> Noted
+    ensures { plain result ≡ first_of_data (diagnostic_of diagnostic.now) }
 {
-    match data {
+    match diagnostic {
         DiagnosticData::DuplicateRootOperationType {
             original_definition,
             ..
@@ -206,7 +206,7 @@ fn push_more(all: &mut Vec<Noted>, details: &Details) -> Result<(), AllocError>
     ensures { OnOk result (map plain all.new.items ≡ map plain all.old.items ++ more_of (details_of details.now)) }
 {
     match details {
-        Details::Data(data) => push_more_of_data(all, data),
+        Details::Data(diagnostic) => push_more_of_data(all, diagnostic),
         Details::Syntax(_)
         | Details::Nesting
         | Details::Spent
@@ -218,10 +218,10 @@ fn push_more(all: &mut Vec<Noted>, details: &Details) -> Result<(), AllocError>
 
 /// Adds the further places of a fault of schemas, uses, values or documents.
 #[tactic(auto, using(crate::proofs::Cycles::inputs_in_cycle, crate::proofs::Cycles::directives_in_cycle, crate::proofs::Cycles::spreads_in_cycle))]
-fn push_more_of_data(all: &mut Vec<Noted>, data: &DiagnosticData) -> Result<(), AllocError>
-    ensures { OnOk result (map plain all.new.items ≡ map plain all.old.items ++ more_of_data (diagnostic_of data.now)) }
+fn push_more_of_data(all: &mut Vec<Noted>, diagnostic: &DiagnosticData) -> Result<(), AllocError>
+    ensures { OnOk result (map plain all.new.items ≡ map plain all.old.items ++ more_of_data (diagnostic_of diagnostic.now)) }
 {
-    match data {
+    match diagnostic {
         DiagnosticData::EmptyFieldSet {
             extensions_locations,
             ..
