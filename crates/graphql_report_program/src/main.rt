@@ -1,25 +1,24 @@
-//! Checks documents over a schema, and reports faults as people and jobs read them.
+//! Checks documents over a schema, and tells each fault at its line and column.
 //!
 //! `graphql-report [--format text|short|json|github] [--nesting N] [--max-faults N] --schema FILE [--schema FILE].. [DOCUMENT..]`
 //! checks the schema once, and then each document by itself; `-` is standard input. With `--batch` documents come from standard
 //! input, a JSON object a line.
 //!
-//! Begin with `run`, and see how `schema_of` and `CheckedSchema::check` are called: the libraries do the work.
+//! Begin with `check`: `schema_of` and `check_document` are the calls of the library.
 #![tactic(auto)]
 
 mod batch;
 mod files;
-mod settings;
-mod tally;
 mod telling;
+mod words;
 
 use crate::batch::check_batch;
-use crate::files::{read_file, read_files};
-use crate::settings::{Settings, told_of_words, words};
-use crate::tally::{Stop, Tally};
+use crate::files::{Stop, read_file, read_files};
 use crate::telling::Telling;
+use crate::words::{told_of_words, words};
 use graphql_checked::{CheckedSchema, Checker, Limits, Refusal};
 use graphql_report::{Lines, Source};
+use report_calls::{Settings, Tally};
 use std::alloc::Global;
 use std::process::ExitCode;
 
@@ -30,6 +29,47 @@ fn schema_of(alloc: Global, texts: &[String], nesting: usize) -> Result<CheckedS
         checker.add_schema(text)?;
     }
     checker.finish()
+}
+
+/// Checks the document in a file, and tells its faults.
+fn check_document(
+    rt: &HostRuntime,
+    telling: &Telling<'_>,
+    schema: &CheckedSchema,
+    path: &str,
+    tally: &mut Tally,
+) -> Result<(), Stop> {
+    let text = match read_file(rt, path) {
+        Ok(text) => text,
+        Err(Stop::Unread(why)) => {
+            let _ = eprintln!(rt; "{why}");
+            tally.add_unread();
+            return Ok(());
+        }
+        Err(stop) => return Err(stop),
+    };
+    match schema.check(&text) {
+        Ok(_) => tally.add_accepted(),
+        Err(refusal) => {
+            let report = telling.report(rt.alloc(), schema, path, &text, &refusal)?;
+            tally.add_refused(report.entries().len());
+            telling.print(rt, &report)?;
+        }
+    }
+    Ok(())
+}
+
+/// Checks each document by itself.
+fn check_documents(
+    rt: &HostRuntime,
+    telling: &Telling<'_>,
+    schema: &CheckedSchema,
+    tally: &mut Tally,
+) -> Result<(), Stop> {
+    for path in &telling.settings.documents {
+        check_document(rt, telling, schema, path, tally)?;
+    }
+    Ok(())
 }
 
 /// The texts under their paths.
@@ -46,7 +86,7 @@ fn sources_of<'a>(
 }
 
 /// Checks the schema, and then what is asked for.
-fn run(rt: &HostRuntime, settings: &Settings, tally: &mut Tally) -> Result<(), Stop> {
+fn check(rt: &HostRuntime, settings: &Settings, tally: &mut Tally) -> Result<(), Stop> {
     let alloc = rt.alloc();
     let texts = read_files(rt, &settings.schemas)?;
     let mut lines = Vec::new(alloc);
@@ -65,32 +105,19 @@ fn run(rt: &HostRuntime, settings: &Settings, tally: &mut Tally) -> Result<(), S
     }
 }
 
-/// Checks each document by itself.
-fn check_documents(
-    rt: &HostRuntime,
-    telling: &Telling<'_>,
-    schema: &CheckedSchema,
-    tally: &mut Tally,
-) -> Result<(), Stop> {
-    for path in &telling.settings.documents {
-        let text = read_file(rt, path)?;
-        tally.documents = tally.documents.saturating_add(1);
-        if let Err(refusal) = schema.check(&text) {
-            telling.tell_document(rt, schema, path, &text, &refusal, tally)?;
-        }
-    }
+/// Checks what the settings say, and tells last how much was found.
+fn check_and_count(rt: &HostRuntime, settings: &Settings, tally: &mut Tally) -> Result<(), Stop> {
+    check(rt, settings, tally)?;
+    let words = tally.words(rt.alloc())?;
+    let _ = eprintln!(rt; "{words}");
     Ok(())
 }
 
-/// Runs by the settings, tells last how much was found, and gives the status.
+/// Checks what the settings say, and gives the status.
 fn status(rt: &HostRuntime, settings: &Settings) -> u8 {
-    let mut tally = Tally::new();
-    let stopped = run(rt, settings, &mut tally);
-    match stopped {
-        Ok(()) => {
-            tally.tell(rt);
-            tally.status()
-        }
+    let mut tally = Tally::new(settings.documents.is_empty() && !settings.batch);
+    match check_and_count(rt, settings, &mut tally) {
+        Ok(()) => tally.status(),
         Err(stop) => stop.tell(rt),
     }
 }

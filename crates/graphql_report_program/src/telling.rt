@@ -1,24 +1,17 @@
 //! Telling faults in the form that is asked for.
 
-use crate::settings::{Format, Settings};
-use crate::tally::{Stop, Tally};
+use crate::files::{Stop, put};
 use graphql_checked::{CheckedSchema, DiagnosticList, Refusal};
 use graphql_report::{Entry, Lines, Report, Source};
+use report_calls::{Format, Settings, Tally};
+use report_folding::{Printed, folded};
 use std::alloc::{AllocError, Global};
 
 /// What is asked for, and the texts of the schema.
+#[derive(Clone, Copy)]
 pub(crate) struct Telling<'a> {
     pub(crate) settings: &'a Settings,
     pub(crate) schemas: &'a [Source<'a>],
-}
-
-impl Drop for Telling<'_> {
-    fn drop(self) {
-        let Telling {
-            settings: _,
-            schemas: _,
-        } = self;
-    }
 }
 
 impl Telling<'_> {
@@ -29,29 +22,14 @@ impl Telling<'_> {
         refusal: &Refusal,
         tally: &mut Tally,
     ) -> Result<(), Stop> {
-        tally.is_schema_refused = true;
         let faults = faults_of(refusal)?;
         let report = Report::new(rt.alloc(), faults, self.schemas, None, "schema")?;
-        self.print(rt, &report, tally)
-    }
-
-    /// Tells why the document is refused.
-    pub(crate) fn tell_document(
-        &self,
-        rt: &HostRuntime,
-        schema: &CheckedSchema,
-        path: &str,
-        text: &str,
-        refusal: &Refusal,
-        tally: &mut Tally,
-    ) -> Result<(), Stop> {
-        tally.refused = tally.refused.saturating_add(1);
-        let report = self.document_report(rt.alloc(), schema, path, text, refusal)?;
-        self.print(rt, &report, tally)
+        tally.add_schema(report.entries().len());
+        self.print(rt, &report)
     }
 
     /// The report of a document's faults.
-    pub(crate) fn document_report(
+    pub(crate) fn report(
         &self,
         alloc: Global,
         schema: &CheckedSchema,
@@ -73,44 +51,61 @@ impl Telling<'_> {
         Ok(report)
     }
 
-    /// Prints what is told, as far as it is asked for.
-    fn print(&self, rt: &HostRuntime, report: &Report, tally: &mut Tally) -> Result<(), Stop> {
+    /// Prints the report, as far as it is asked for. Lines of JSON are for programs, which fold what they like: there each fault
+    /// has its line.
+    pub(crate) fn print(&self, rt: &HostRuntime, report: &Report) -> Result<(), Stop> {
         let entries = report.entries();
-        tally.faults = tally.faults.saturating_add(entries.len());
-        let folded = report.folded(rt.alloc())?;
-        let mut left_out = folded.left_out;
-        for (printed, index) in folded.printed.iter().enumerate() {
-            if printed >= self.settings.max_faults {
-                left_out = left_out.saturating_add(1);
-            } else if let Some(entry) = entries.get(*index) {
-                let text = formed(rt.alloc(), self.settings.format, entry)?;
-                if print!(rt; "{text}").is_err() {
-                    return Err(Stop::Output);
-                }
+        if matches!(self.settings.format, Format::Json) {
+            for entry in entries.iter().take(self.settings.max_faults) {
+                self.print_entry(rt, entry)?;
             }
+            return Ok(());
         }
-        self.print_rest(rt, left_out)
+        let printed = folded(rt.alloc(), entries)?;
+        let (told, rest) = printed.split_at(printed.len().min(self.settings.max_faults));
+        for one in told {
+            if let Some(entry) = entries.get(one.index) {
+                self.print_entry(rt, entry)?;
+            }
+            print_more(rt, one.more)?;
+        }
+        print_more(rt, faults_in(rest))
     }
 
-    /// Says how many are left out, where people read it.
-    fn print_rest(&self, rt: &HostRuntime, left_out: usize) -> Result<(), Stop> {
-        let is_read = matches!(self.settings.format, Format::Text | Format::Short);
-        if is_read && left_out > 0 && println!(rt; "and {left_out} more").is_err() {
-            return Err(Stop::Output);
-        }
-        Ok(())
+    /// Prints a fault in its form.
+    fn print_entry(&self, rt: &HostRuntime, entry: &Entry) -> Result<(), Stop> {
+        let text = formed(rt.alloc(), self.settings.format, entry)?;
+        put(rt, &text)
     }
 }
 
+/// Says how many faults are left out, if any are.
+fn print_more(rt: &HostRuntime, more: usize) -> Result<(), Stop> {
+    if more == 0 {
+        return Ok(());
+    }
+    let text = format!(in rt.alloc(); "and {more} more\n")?;
+    put(rt, &text)
+}
+
+/// How many faults these are, with those that each stands for.
+fn faults_in(printed: &[Printed]) -> usize {
+    let mut faults = 0usize;
+    for one in printed {
+        faults = faults.saturating_add(1).saturating_add(one.more);
+    }
+    faults
+}
+
 /// The faults of the refusal.
-pub(crate) fn faults_of(refusal: &Refusal) -> Result<&DiagnosticList, Stop> {
+fn faults_of(refusal: &Refusal) -> Result<&DiagnosticList, Stop> {
     match refusal {
         Refusal::Faults(faults) => Ok(faults),
         Refusal::Memory | Refusal::Failed => Err(Stop::Memory),
     }
 }
 
-/// The entry in the form.
+/// The fault in the form.
 fn formed(alloc: Global, format: Format, entry: &Entry) -> Result<String, AllocError> {
     match format {
         Format::Text => entry.text(alloc),
