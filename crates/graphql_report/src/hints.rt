@@ -219,7 +219,7 @@ fn name_after(
 }
 
 /// The first token of a text, and what comes after it.
-fn first_token(text: &str) -> Option<(Token<'_>, &str)> {
+pub(crate) fn first_token(text: &str) -> Option<(Token<'_>, &str)> {
     match next_token(text, 0) {
         NextToken::Token(token) => {
             let end = token.offset.saturating_add(token.text.len());

@@ -1,6 +1,6 @@
 //! What is there where a text is not read.
 
-use read_tokens::{NextToken, next_token};
+use crate::hints::first_token;
 use std::alloc::{AllocError, Global};
 
 /// What is at the place, with a word for what is usual.
@@ -13,12 +13,12 @@ pub(crate) fn stood_there(
     if let Some(words) = usual(rest, text.get(..offset).unwrap_or("")) {
         return Ok(Some(String::from_str(alloc, words)?));
     }
-    match next_token(rest, 0) {
-        NextToken::Token(token) => {
+    match first_token(rest) {
+        Some((token, _)) => {
             let given = token.text;
             Ok(Some(format!(in alloc; "`{given}` is here")?))
         }
-        NextToken::End | NextToken::NoToken(_) => Ok(None),
+        None => Ok(None),
     }
 }
 
