@@ -5,5 +5,6 @@ pub mod Shaped
 pub mod ShapesTold
 pub mod Lists
 pub mod Sets
+pub mod Joining
 -- For the layer above.
 pub use Rattle.rule_document_ground.proofs as in_ground

@@ -52,6 +52,10 @@ is_own_parent s n x = bytes_eq n (parent_of x) && not (is_abstract s (parent_of 
 abbrev pub is_on_one : Judged → List ℕ → FieldSelection → Bool
 is_on_one s n x = bytes_eq n (parent_of x) || is_abstract s (parent_of x)
 
+-- two are selected on one type, or one of them on an abstract one
+abbrev pub may_be_on_one : Judged → FieldSelection → FieldSelection → Bool
+may_be_on_one s x y = bytes_eq (parent_of x) (parent_of y) || (is_abstract s (parent_of x) || is_abstract s (parent_of y))
+
 -- those of the list that pass some test, in the list's order
 abbrev pub IsPartOf : {X : Type 0} → List X → List X → Type 0
 IsPartOf {X} list part = (test : X → Bool) × (part ≡ filter test list)

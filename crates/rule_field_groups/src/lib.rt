@@ -17,9 +17,11 @@ mod groups;
 mod kinds;
 mod pass;
 mod shapes;
+mod together;
 
 pub use below::{SelectedSet, merged_list, sets_of};
 pub use conflicts::{Breach, check_group};
 pub use groups::groups_of;
 pub use pass::Pass;
 pub use rule_document_ground::FieldSelection;
+pub use together::go_together;

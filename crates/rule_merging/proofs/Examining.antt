@@ -244,7 +244,7 @@ module _ (pass : Pass) (s : Judged) (d : MeantDocument Place) where
       → (o : MeantOperation Place) (left : List (List PlainSet)) → AreUnderWay d pass s o (plain_sets sets ∷ left) kept → AreUnderWay d pass s o (left ++ []) kept
   dropped sets kept stand o left under = subst (λ l. AreUnderWay d pass s o l kept) (sym (append-nil left)) (record {
     fields = moved (PlainBelow d) (Together pass s) (Agree pass s) (PlainStarts d o) (IsLeft d (plain_sets sets ∷ left)) (IsLeft d left) (StandIn kept.lists) (StandIn kept.lists)
-        (λ f g h. h) (left_on sets left left kept.lists stand (λ l c. c)) (λ f g h. inl h) under.fields;
+        (λ f g h. h) (λ f g h t. left_on sets left left kept.lists stand (λ l c. c) f g h) (λ f g h. inl h) under.fields;
     sets = under.sets;
   })
 
@@ -266,7 +266,7 @@ module _ (pass : Pass) (s : Judged) (d : MeantDocument Place) where
 
     -- what is asked of two fields that stand in the list
     abbrev Fresh : List (List PlainSet) → PlainField → PlainField → Type 0
-    Fresh later f g = (Together pass s f g → Agree pass s f g) × (Together pass s f g → (x y : PlainField) → PlainBelow d f x → PlainBelow d g y → StandIn lists_now x y ⊎ IsLeft d later x y)
+    Fresh later f g = (Together pass s f g → Agree pass s f g) × (Together pass s f g → (x y : PlainField) → PlainBelow d f x → PlainBelow d g y → Together pass s x y → StandIn lists_now x y ⊎ IsLeft d later x y)
 
     -- their sets are in one of the next lists
     below_both : (left : List (List PlainSet)) (f g : StandingField Place) → HaveBoth next f g → (x y : PlainField) → PlainBelow d (unplaced_content f) x → PlainBelow d (unplaced_content g) y → IsLeft d (left ++ all_plain next) x y
@@ -280,7 +280,7 @@ module _ (pass : Pass) (s : Judged) (d : MeantDocument Place) where
       λ t.
           let shared = h.are.covered f g in_f in_g (together_up pass s f g t) in
           agree_down pass s f g (by_head (ContentBelow d) (Together pass s) (Agree pass s) (agree_sym pass s) (agree_trans pass s) shared.0 f g (h.examined.agree refl shared.0 shared.1.0) shared.1.1.0 shared.1.1.1),
-      λ t x y a b.
+      λ t x y a b u.
           let shared = h.are.covered f g in_f in_g (together_up pass s f g t) in
           inr (below_both left f g (h.examined.below shared.0 shared.1.0 f g shared.1.1.0 shared.1.1.1) x y a b),
     )
@@ -296,7 +296,7 @@ module _ (pass : Pass) (s : Judged) (d : MeantDocument Place) where
       record {
         fields = moved (PlainBelow d) (Together pass s) (Agree pass s) (PlainStarts d o) (IsLeft d (plain_sets sets ∷ left)) (IsLeft d (left ++ all_plain next)) (StandIn old.lists) (StandIn lists_now)
             (stand_more old.lists lists_now more_here)
-            (left_on sets left (left ++ all_plain next) lists_now stand_selected (λ l c. Contains-append_left left (all_plain next) l c))
+            (λ f g k t. left_on sets left (left ++ all_plain next) lists_now stand_selected (λ l c. Contains-append_left left (all_plain next) l c) f g k)
             (λ f g k. elim (Contains-append_cases old.lists (kept ∷ []) k.0 k.1.0) [
               | inl a ↦ inl (k.0, (a, k.1.1))
               | inr b ↦ inr (fresh left f g ((same f).1 (subst (λ (l : List PlainField). Contains l f) (only kept k.0 b) k.1.1.0)) ((same g).1 (subst (λ (l : List PlainField). Contains l g) (only kept k.0 b) k.1.1.1)))
@@ -418,7 +418,7 @@ module _ (pass : Pass) (s : Judged) (d : MeantDocument Place) where
       settled = λ e o left under.
           let r = h.settled e o left (record {
             fields = moved (PlainBelow d) (Together pass s) (Agree pass s) (PlainStarts d o) (IsLeft d (plain_sets sets ∷ left)) (IsLeft d (all_plain twos ++ left)) (StandIn old.lists) (StandIn old.lists)
-                (λ f g k. k) (λ f g k. inr (split left f g k)) (λ f g k. inl k) under.fields;
+                (λ f g k. k) (λ f g k t. inr (split left f g k)) (λ f g k. inl k) under.fields;
             sets = under.sets;
           }) in (
             r.0,
@@ -585,8 +585,8 @@ module _ (pass : Pass) (s : Judged) (d : MeantDocument Place) where
         let v = subst (λ (l : Sets). Contains l h.0) (only (start ∷ []) sets c) h.1.0 in
         subst (λ w. IsIn d w x) (only start h.0 v ∙ sym is) h.1.1
 
-    start_left : (start : MeantSet Place) → o.set ≡ start → StartsStand (PlainStarts d o) (IsLeft d (all_plain ((start ∷ []) ∷ [])))
-    start_left start is f g a b = (plain_sets (start ∷ []), (Contains-first (plain_sets (start ∷ [])) [] (plain_sets (start ∷ [])) refl, (selects f a, selects g b)))
+    start_left : (start : MeantSet Place) → o.set ≡ start → StartsStand (Together pass s) (PlainStarts d o) (IsLeft d (all_plain ((start ∷ []) ∷ [])))
+    start_left start is f g a b t = (plain_sets (start ∷ []), (Contains-first (plain_sets (start ∷ [])) [] (plain_sets (start ∷ [])) refl, (selects f a, selects g b)))
       where
         selects : (y : PlainField) → PlainStarts d o y → PlainSelected d (plain_sets (start ∷ [])) y
         selects y p = (unplaced_set o.set, (Contains-first (unplaced_set start) [] (unplaced_set o.set) (sym (ap unplaced_set is)), p))

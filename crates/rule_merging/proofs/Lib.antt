@@ -5,3 +5,6 @@ pub mod Counting
 pub mod Operating
 pub mod Behind
 pub mod Conflicts
+pub mod Pairing
+pub mod PairDone
+pub mod TwoDone

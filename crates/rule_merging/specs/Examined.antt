@@ -165,7 +165,7 @@ module _ (pass : Pass) (s : Judged) (d : MeantDocument Place) where
   -- from what an operation selects on all is examined, but for what is left
   pub record AllExamined (o : MeantOperation Place) (old new : Kept) (added : List (Broken Place)) (left : Bool) : Type 0 where
     pub right : (fault : Broken Place) → Contains added fault → MergingBreaks s d o fault
-    pub settled : added ≡ [] → left ≡ false → AreSettled d pass s old → AreSettled d pass s new × StartsStand (PlainStarts d o) (StandIn new.lists)
+    pub settled : added ≡ [] → left ≡ false → AreSettled d pass s old → AreSettled d pass s new × StartsStand (Together pass s) (PlainStarts d o) (StandIn new.lists)
     pub bound : left ≡ true → PassesChainBound d o
 
 -- ---- the same of breaches and lists of the program

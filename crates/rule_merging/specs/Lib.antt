@@ -4,3 +4,5 @@ pub mod Examined
 pub mod Verdict
 pub mod Merged
 pub mod Merger
+pub mod Pairs
+pub mod Twos

@@ -5,7 +5,7 @@ use Rattle.document_typing.specs.in_schema.SchemaOf.{schema_tree}
 use Rattle.document_meaning.specs.MeantTree.{MeantOperation, MeantDocument}
 use Rattle.document_typing.specs.DocumentView.{document_meant}
 use Rattle.rule_definitions.specs.Judged.{Judged, judged}
-use Rattle.rule_document_definitions.specs.Merging.{FieldsMerge}
+use Rattle.rule_document_definitions.specs.Merging.{FieldsMerge, SameKey}
 use Rattle.rule_document_definitions.specs.Selected.{operations}
 use Rattle.rule_merging_laws.specs.Contents.{PlainField, PlainStarts, AreShapesStanding}
 use Rattle.rule_merging_laws.specs.Settled.{StandIn, StartsStand}
@@ -53,11 +53,11 @@ abbrev pub SilenceMeansMerging : Merger → MeantOperation Place → Telling →
 SilenceMeansMerging m o old new = IsTrue m.is_clean → new ≡ old → FieldsMerge m.schema m.document o
 
 -- where a clean value tells nothing of the operation, the lists that it keeps are closed: fields that stand together in one of them and
--- have one key have one shape, and what lies below the one stands with what lies below the other; and they have what the operation
--- starts with
+-- have one key have one shape, and what lies below the one stands with what lies below the other and has one key with it; and so
+-- stands what the operation starts with
 abbrev pub KeepsClosed : Merger → Merger → MeantOperation Place → (TellsNothing : Type 0) → Type 0
 KeepsClosed before after o TellsNothing = IsTrue before.is_clean → TellsNothing
-    → ∥ AreShapesStanding before.document before.schema (StandIn after.lists) × StartsStand (PlainStarts before.document o) (StandIn after.lists) ∥₁
+    → ∥ AreShapesStanding before.document before.schema (StandIn after.lists) × StartsStand SameKey (PlainStarts before.document o) (StandIn after.lists) ∥₁
 
 -- a call adds nothing to the list
 abbrev pub AddsNothing : DiagnosticList → DiagnosticList → Type 0

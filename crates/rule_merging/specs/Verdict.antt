@@ -4,7 +4,7 @@ use Rattle.graphql_names.specs.Placed.{Place}
 use Rattle.document_meaning.specs.MeantTree.{MeantOperation, MeantDocument}
 use Rattle.rule_definitions.specs.Judged.{Judged}
 use Rattle.rule_document_definitions.specs.DocumentFaults.{Broken}
-use Rattle.rule_document_definitions.specs.Merging.{FieldsMerge, MergingBreaks}
+use Rattle.rule_document_definitions.specs.Merging.{FieldsMerge, MergingBreaks, SameKey, MayShare}
 use Rattle.rule_document_definitions.specs.Limits.{PassesChainBound}
 use Rattle.rule_field_groups.specs.in_ground.Broken.{brokens_of}
 use Rattle.rule_merging_laws.specs.Contents.{PlainField, PlainStarts}
@@ -21,9 +21,9 @@ module _ (s : Judged) (d : MeantDocument Place) where
   abbrev pub AreBothSettled : Examined → Type 0
   AreBothSettled e = AreSettled d Shapes s (kept_of e.shapes) × AreSettled d Selections s (kept_of e.selections)
 
-  -- whatever the operation starts with stands together in lists that were examined, in both passes
+  -- whatever the operation starts with and goes together stands together in lists that were examined, in both passes
   abbrev pub StartsBothStand : MeantOperation Place → Examined → Type 0
-  StartsBothStand o e = StartsStand (PlainStarts d o) (StandIn (remembered e.shapes)) × StartsStand (PlainStarts d o) (StandIn (remembered e.selections))
+  StartsBothStand o e = StartsStand SameKey (PlainStarts d o) (StandIn (remembered e.shapes)) × StartsStand (MayShare s) (PlainStarts d o) (StandIn (remembered e.selections))
 
   -- what is told is true; where nothing is told and nothing is left, what is settled stays so, what the operation starts with stands there, and its fields merge
   pub record OperationExamined (o : MeantOperation Place) (old new : Examined) (added : List (Broken Place)) (left : Bool) : Type 0 where

@@ -18,8 +18,10 @@ mod budget;
 mod examination;
 mod merging;
 mod operation;
+mod pairs;
 mod remembered;
 mod told;
+mod twos;
 
 pub use merging::FieldsInSetCanMerge;
 pub use operation::{Examined, examine_operation};

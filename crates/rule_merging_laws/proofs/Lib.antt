@@ -1,4 +1,5 @@
 pub mod SettledFacts
+pub mod PairedFacts
 pub mod GoingFacts
 pub mod SharingFacts
 pub mod Reflexive

@@ -20,11 +20,11 @@ SettledFieldsMerge = (s : Judged) (d : MeantDocument Place) (o : MeantOperation 
     → AreSelectionsSettled d s selections → HasStart (PlainStarts d o) (Contains selections)
     → FieldsMerge s d o
 
--- where fields that stand together in these lists are settled, and all that starts stands with all that starts, the fields merge
+-- where fields that stand together in these lists are settled, and all that starts stands with all that starts and goes together with it, the fields merge
 abbrev pub StandingFieldsMerge : Type 0
 StandingFieldsMerge = (s : Judged) (d : MeantDocument Place) (o : MeantOperation Place) (shapes selections : List (List PlainField))
-    → AreShapesStanding d s (StandIn shapes) → StartsStand (PlainStarts d o) (StandIn shapes)
-    → AreSelectionsStanding d s (StandIn selections) → StartsStand (PlainStarts d o) (StandIn selections)
+    → AreShapesStanding d s (StandIn shapes) → StartsStand SameKey (PlainStarts d o) (StandIn shapes)
+    → AreSelectionsStanding d s (StandIn selections) → StartsStand (MayShare s) (PlainStarts d o) (StandIn selections)
     → FieldsMerge s d o
 
 module _ (s : Judged) (d : MeantDocument Place) (o : MeantOperation Place) where

@@ -1,4 +1,5 @@
 pub mod Settled
+pub mod Paired
 pub mod Going
 pub mod Sharing
 pub mod Contents

@@ -1,5 +1,5 @@
 -- Fields that are settled: where two of them stand together and go together they agree, and what lies below the one stands with what
--- lies below the other again. A list of fields, which counts by its members alone, is one way to stand together.
+-- lies below the other and goes together with it. A list of fields, which counts by its members alone, is one way to stand together.
 use Rattle.std.specs.Prelude.{List, Contains, ◌⊎◌}
 
 module _ {F : Type 0} where
@@ -11,21 +11,22 @@ module _ {F : Type 0} where
   abbrev pub HasStart : (F → Type 0) → (List F → Type 0) → Type 0
   HasStart Starts Kept = (list : List F) × (Kept list × ((f : F) → Starts f → Contains list f))
 
-  -- whatever Starts stands with all that Starts
-  abbrev pub StartsStand : (F → Type 0) → (F → F → Type 0) → Type 0
-  StartsStand Starts Stand = (f g : F) → Starts f → Starts g → Stand f g
+  -- whatever Starts stands with all that Starts and goes together with it
+  abbrev pub StartsStand : (F → F → Type 0) → (F → Type 0) → (F → F → Type 0) → Type 0
+  StartsStand Together Starts Stand = (f g : F) → Starts f → Starts g → Together f g → Stand f g
 
 module _ {F : Type 0} (Below Together Agree : F → F → Type 0) where
-  -- fields that stand together and go together agree, and what lies below the one stands with what lies below the other
+  -- fields that stand together and go together agree, and what lies below the one stands with what lies below the other and goes
+  -- together with it
   pub record IsSettledIn (Stand : F → F → Type 0) : Type 0 where
     pub agree : (f g : F) → Stand f g → Together f g → Agree f g
-    pub below : (f g x y : F) → Stand f g → Together f g → Below f x → Below g y → Stand x y
+    pub below : (f g x y : F) → Stand f g → Together f g → Below f x → Below g y → Together x y → Stand x y
 
   -- the same while fields are left to look at together, with what Starts
   pub record IsUnderWay (Starts : F → Type 0) (Left Stand : F → F → Type 0) : Type 0 where
-    pub start : (f g : F) → Starts f → Starts g → Stand f g ⊎ Left f g
+    pub start : (f g : F) → Starts f → Starts g → Together f g → Stand f g ⊎ Left f g
     pub agree : (f g : F) → Stand f g → Together f g → Agree f g
-    pub below : (f g x y : F) → Stand f g → Together f g → Below f x → Below g y → Stand x y ⊎ Left x y
+    pub below : (f g x y : F) → Stand f g → Together f g → Below f x → Below g y → Together x y → Stand x y ⊎ Left x y
 
   -- ---- by lists
 

@@ -1,7 +1,7 @@
 //! Laws of merging: an examination of lists of fields by groups answers as merging of all pairs of chains does. No code.
 //!
 //! Fields that stand together are settled where those that go together agree and what lies below the one stands with what lies
-//! below the other again (`IsSettledIn` of `specs/Settled.antt`); so what was examined before needs no examination, wherever it
+//! below the other and goes together with it (`IsSettledIn` of `specs/Settled.antt`); so what was examined before needs no examination, wherever it
 //! stands. To stand in one list is one way to stand together, and settled lists are settled so. Chains lead to each list
 //! (`specs/Going.antt`), so what is told of two of its fields is true. `proofs/SettledFacts.antt` has the steps of an
 //! examination, `proofs/SharingFacts.antt` the groups, `proofs/Merges.antt` what follows in the end.
