@@ -1,11 +1,3 @@
-pub mod Lists
-pub mod Equal
-pub mod Opening
-pub mod Taking
-pub mod Making
 pub mod Reaching
-pub mod Meant
-pub mod Same
-pub mod Leading
 pub mod Plain
-pub mod Always
+pub mod Selected

@@ -1,63 +1,70 @@
 -- Private: leads to `FieldsMerge`. What the examination of two fields comes to, each an own one of one of two sets that are looked at together.
-use Rattle.std.specs.Prelude.{◌≡◌, ◌++◌, ◌∷◌, ◌⊎◌, List, [], map, Contains}
-use Rattle.std.specs.List.Sorted.{IsPermutation}
+use Rattle.std.specs.Prelude.{◌≡◌, ◌++◌, ◌∷◌, ◌⊎◌, List, [], Contains}
 use Rattle.graphql_names.specs.Placed.{Place}
+use Rattle.document_meaning.specs.MeantTree.{MeantDocument}
+use Rattle.rule_definitions.specs.Judged.{Judged}
 use Rattle.rule_document_definitions.specs.DocumentFaults.{Broken}
-use Rattle.rule_number_lists.specs.NumberLists.{HaveSame}
-use Rattle.rule_merging_laws.specs.Contents.{PlainField}
-use Rattle.rule_field_groups.specs.in_ground.Fields.{field_of, fields_of}
+use Rattle.rule_document_definitions.specs.Selected.{StandingField}
+use Rattle.rule_merging_laws.specs.Contents.{PlainField, PlainSet, PlainBelow}
+use Rattle.rule_merging_laws.specs.Settled.{StandIn}
+use Rattle.rule_field_groups.specs.in_ground.Broken.{brokens_of}
+use Rattle.rule_field_groups.specs.in_ground.Fields.{field_of, content_of}
 use Rattle.rule_field_groups.specs.in_ground.declared.field_selection.FieldSelection.{FieldSelection}
-use Rattle.rule_field_groups.specs.Passes.{Together, TellsGroup}
-use Rattle.rule_field_groups.specs.Below.{contents_of}
-use Rattle.rule_field_sets.specs.declared.node.Member.{Member}
-use Rattle.rule_field_sets.specs.declared.node.SetNode.{SetNode}
+use Rattle.rule_field_groups.specs.Passes.{Together, Agree, Conflict}
+use Rattle.rule_field_groups.specs.declared.pass.Pass.{Pass}
 use Rattle.rule_merging.specs.Remembered.{Kept}
-use Rattle.rule_merging.specs.Examined.{schema_of}
-use Rattle.rule_merging.specs.Pairs.{State, Looks, no_two, below_two}
+use Rattle.rule_merging.specs.Examined.{Sets, Breaches, AreOf, IsLooked, schema_of, document_of}
+use Rattle.rule_merging.specs.Pairs.{HasSame}
 use Rattle.rule_merging.specs.declared.examination.Examination.{Examination}
 
+-- two fields
+abbrev pub TwoFields : Type 1
+TwoFields = FieldSelection → FieldSelection → Type 0
+
+-- these
+abbrev pub are_two : FieldSelection → FieldSelection → TwoFields
+are_two one other p q = (p ≡ one) × (q ≡ other)
+
+-- one of these and one of those
+abbrev pub are_of : List FieldSelection → List FieldSelection → TwoFields
+are_of ones others p q = Contains ones p × Contains others q
+
 -- the two fields, or one of them where both say the same
-abbrev pub IsListOf : Member → Member → List FieldSelection → Type 0
-IsListOf one other list = ((one.number ≡ other.number) × (list ≡ one.selection ∷ [])) ⊎ ((one.number ≡ other.number → ⊥) × (list ≡ one.selection ∷ other.selection ∷ []))
+abbrev pub IsListOf : FieldSelection → FieldSelection → List FieldSelection → Type 0
+IsListOf one other list = ((content_of one ≡ content_of other) × (list ≡ one ∷ [])) ⊎ ((content_of one ≡ content_of other → ⊥) × (list ≡ one ∷ other ∷ []))
 
--- nothing is told, remembered or looked at
-pub record IsStill (old new : Kept) (told later : List (Broken Place)) (before after : State) : Type 0 where
-  pub kept : new ≡ old
-  pub silent : later ≡ told
-  pub state : after ≡ before
+abbrev pub both_of : FieldSelection → FieldSelection → List (StandingField Place)
+both_of p q = field_of p ∷ field_of q ∷ []
 
-module _ (e : Examination) (nodes : List SetNode) (one other : Member) where
-  -- both go together in the pass
-  abbrev pub AreTogether : Type 0
-  AreTogether = Together e.pass (schema_of e) (field_of one.selection) (field_of other.selection)
+module _ (pass : Pass) (s : Judged) (d : MeantDocument Place) where
+  -- such two go together
+  abbrev pub GoTogether : TwoFields → FieldSelection → FieldSelection → Type 0
+  GoTogether Wanted p q = Wanted p q × Together pass s (field_of p) (field_of q)
 
-  -- a list of them stands there
-  abbrev pub AreKnown : List (List PlainField) → Type 0
-  AreKnown lists = (list : List FieldSelection) × (IsListOf one other list × ((known : List PlainField) × (Contains lists known × HaveSame known (contents_of list))))
+  -- this is told of such two
+  abbrev pub TellsOfTwo : TwoFields → Broken Place → Type 0
+  TellsOfTwo Wanted fault = (p : FieldSelection) × ((q : FieldSelection) × (GoTogether Wanted p q
+      × ((f : StandingField Place) × ((g : StandingField Place) × (Contains (both_of p q) f × (Contains (both_of p q) g × Conflict pass s fault f g))))))
 
-  -- a list of them is remembered and compared, and the sets below them are looked at
-  pub record ComparesTwo (old new : Kept) (told later : List (Broken Place)) (before after : State) : Type 0 where
-    pub list : List FieldSelection
-    pub two : IsListOf one other list
-    pub kept : List PlainField
-    pub order : IsPermutation (contents_of list) kept
-    pub is : new ≡ record { lists = old.lists ++ kept ∷ []; expanded = old.expanded }
-    pub added : List (Broken Place)
-    pub tells_so : later ≡ told ++ added
-    pub tells : TellsGroup e.pass (schema_of e) (fields_of list) added
-    pub looks : Looks nodes no_two (below_two nodes one.below other.below) before after
+  -- two of the list that go together agree, and what lies below them is looked at
+  abbrev pub IsFresh : List (List PlainSet) → List PlainField → Type 0
+  IsFresh looked list = (x y : PlainField) → Contains list x → Contains list y → Together pass s x y
+      → Agree pass s x y × ((u v : PlainField) → PlainBelow d x u → PlainBelow d y v → IsLooked d looked u v)
 
-  -- they do not go together, or a list of them was examined, or it is now
-  abbrev pub ExaminesTwo : Kept → Kept → List (Broken Place) → List (Broken Place) → State → State → Type 0
-  ExaminesTwo old new told later before after = ((AreTogether → ⊥) × IsStill old new told later before after)
-      ⊎ (AreTogether × ((AreKnown old.lists × IsStill old new told later before after) ⊎ ComparesTwo old new told later before after))
+  -- such two are compared, each two once, if they go together, and the sets below them looked at
+  pub record FieldsPaired (Wanted : TwoFields) (old new : Kept) (added : List (Broken Place)) : Type 0 where
+    pub right : (fault : Broken Place) → Contains added fault → TellsOfTwo Wanted fault
+    pub expanded : new.expanded ≡ old.expanded
+    pub here : new.here ≡ old.here
+    pub later : List Sets
+    pub is_later : new.next ≡ old.next ++ later
+    pub under : (two : Sets) → Contains later two → (p : FieldSelection) × ((q : FieldSelection) × (GoTogether Wanted p q × AreOf (both_of p q) two))
+    pub more : (list : List PlainField) → Contains old.lists list → Contains new.lists list
+    pub keeps : (known : List PlainSet) → Contains old.looked known → Contains new.looked known
+    pub fresh : (known : List PlainSet) → Contains new.looked known → Contains old.looked known ⊎ HasSame later known
+    pub stand : (p q : FieldSelection) → GoTogether Wanted p q → StandIn new.lists (content_of p) (content_of q)
+    -- where nothing is told
+    pub agree : added ≡ [] → (list : List PlainField) → Contains new.lists list → Contains old.lists list ⊎ IsFresh new.looked list
 
--- a field with each of the others
-abbrev pub with_all : Member → List Member → List (Member × Member)
-with_all one others = map (λ n. (one, n)) others
-
--- pairs of fields are examined so, one after the other
-abbrev pub ExaminesEach : Examination → List SetNode → List (Member × Member) → Kept → Kept → List (Broken Place) → List (Broken Place) → State → State → Type 0
-ExaminesEach e nodes [] old new told later before after = IsStill old new told later before after
-ExaminesEach e nodes (p ∷ ps) old new told later before after = (mid : Kept) × ((half : List (Broken Place)) × ((between : State)
-    × (ExaminesTwo e nodes p.0 p.1 old mid told half before between × ExaminesEach e nodes ps mid new half later between after)))
+abbrev pub PairsFields : Examination → TwoFields → Kept → Kept → Breaches → Breaches → Type 0
+PairsFields e Wanted examined examined' old new = (added : List (Broken Place)) × ((brokens_of new ≡ brokens_of old ++ added) × FieldsPaired e.pass (schema_of e) (document_of e) Wanted examined examined' added)

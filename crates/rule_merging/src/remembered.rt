@@ -1,19 +1,32 @@
 //! What was examined.
-ghost use Rattle.std.specs.Prelude.{◌≡◌, IsTrue, IfOk, OnErr};
-ghost use Rattle.rule_field_groups.specs.Below.{contents_of, meant_sets, plain_sets};
-ghost use Rattle.rule_merging.specs.Remembered.{remembered, kept_of, nothing_kept, HasLooked, Remembers, Expands};
+ghost use Rattle.std.specs.Prelude.{◌≡◌, ◌∷◌, [], IsTrue, IfOk, OnErr};
+ghost use Rattle.rule_field_groups.specs.Below.{contents_of, meant_at, meant_sets, plain_sets};
+ghost use Rattle.rule_merging.specs.Remembered.{remembered, kept_of, nothing_kept, HasLooked, Remembers, Expands, LooksAt};
 
 use crate::budget::is_paid;
 use rule_field_groups::{FieldSelection, SelectedSet};
 use rule_number_lists::ListMemory;
 use std::alloc::{AllocError, Global};
 
+/// Two sets that are looked at together: the fields of the one with those of the other.
+#[derive(Clone, Copy)]
+pub(crate) struct Pair<'doc> {
+    pub(crate) one: SelectedSet<'doc>,
+    pub(crate) other: SelectedSet<'doc>,
+}
+
 /// The contents of the lists of fields that were examined, each once, and of the lists of sets that were looked at: what
-/// these select stands in lists that were examined. A list is known by which contents it has, in whatever order.
+/// these select stands in lists that were examined, or in pairs of sets. A list is known by which contents it has, in whatever
+/// order; so is a pair.
 #[derive(Drop)]
 pub(crate) struct Remembered<'doc> {
     lists: ListMemory<FieldSelection<'doc>>,
     expanded: ListMemory<SelectedSet<'doc>>,
+    /// The pairs that were looked at, or are left.
+    looked: ListMemory<SelectedSet<'doc>>,
+    /// The pairs of this level of fields, and of the next one.
+    pub(crate) here: Vec<Pair<'doc>>,
+    pub(crate) next: Vec<Pair<'doc>>,
     /// How many members of lists of more than two sets were examined.
     spent: usize,
 }
@@ -26,6 +39,9 @@ impl<'doc> Remembered<'doc> {
         Remembered {
             lists: ListMemory::new(alloc),
             expanded: ListMemory::new(alloc),
+            looked: ListMemory::new(alloc),
+            here: Vec::new(alloc),
+            next: Vec::new(alloc),
             spent: 0,
         }
     }
@@ -52,6 +68,18 @@ impl<'doc> Remembered<'doc> {
         ensures same { kept_of self.new ≡ kept_of self.old }
     {
         self.expanded.contains(sets)
+    }
+
+    /// Notes that two sets are looked at together. Whether they were not noted before is given: sets with the same contents.
+    pub(crate) fn look(
+        &mut self,
+        one: SelectedSet<'doc>,
+        other: SelectedSet<'doc>,
+    ) -> Result<bool, AllocError>
+        ensures looks { IfOk result (λ is_new. LooksAt (kept_of self.old) (plain_sets (meant_at one.entry ∷ meant_at other.entry ∷ [])) is_new (kept_of self.new)) }
+        ensures lists { remembered self.new ≡ remembered self.old }
+    {
+        self.looked.remember(&[one, other])
     }
 
     /// Whether a list of more than two sets may be examined: what it costs is paid by fields that are new.
