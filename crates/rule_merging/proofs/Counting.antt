@@ -6,7 +6,7 @@ use Rattle.std.proofs.lemmas.List.{length-map, take-append-drop}
 use Rattle.std.proofs.lemmas.List.Sorted.{length_permutation}
 use Rattle.std.proofs.lemmas.Option.{slice_get_within}
 use Rattle.std.proofs.lemmas.List.Sums.{sum-map, sum_by-append}
-use Rattle.std.proofs.lemmas.List.Elements.{Contains-append_left, Contains-append_cases}
+use Rattle.std.proofs.lemmas.List.Elements.{Contains-append_left, Contains-append_right, Contains-append_cases}
 use Rattle.std.proofs.Math.Seq.{drop-cons}
 use Rattle.graphql_names.specs.Placed.{Place}
 use Rattle.rule_definitions.proofs.Lists.{not_in_nil, only, Contains-cons, Contains-first}
@@ -21,7 +21,7 @@ use Rattle.rule_document_definitions.specs.Chains.{Chain}
 use Rattle.rule_document_definitions.specs.Contents.{content, ContentBelow, unplaced_content}
 use Rattle.rule_document_definitions.specs.Merging.{Below, Starts}
 use Rattle.rule_document_definitions.proofs.Unplaced.{contains_map, contains_unmap}
-use Rattle.rule_field_groups.specs.in_ground.Fields.{field_of, fields_of}
+use Rattle.rule_field_groups.specs.in_ground.Fields.{field_of, fields_of, content_of}
 use Rattle.rule_field_groups.specs.in_ground.declared.field_selection.FieldSelection.{FieldSelection}
 use Rattle.rule_merging_laws.specs.Contents.{PlainField, PlainBelow}
 use Rattle.rule_merging_laws.proofs.Elsewhere.{content_starts}
@@ -30,20 +30,21 @@ use Rattle.rule_field_groups.specs.declared.pass.Pass.{Pass}
 use Rattle.rule_field_groups.specs.declared.pass.Pass.TheVariants.{Shapes, Selections}
 use Rattle.rule_field_groups.specs.Below.{contents_of, meant_at, meant_sets, IsMergedIn}
 use Rattle.rule_merging.specs.Remembered.{Kept}
-use Rattle.rule_merging.specs.Examined.{SetsExamined, with_each}
+use Rattle.rule_merging.specs.Examined.{ComeFrom, SelectsAsMuch, SetsExamined}
+use Rattle.rule_merging.specs.Twos.{IsListOf, are_two}
 use Rattle.rule_merging.specs.Verdict.{OnlyGrow}
 use Rattle.rule_field_groups.specs.Compared.{compared}
 use Rattle.rule_merging.specs.Counted.{DifferInMembers, AreApart, IsLast, AreLast, AreListed, Grows, IsCountedBy}
 use Rattle.rule_number_lists.specs.NumberLists.{HaveSame}
 use Rattle.rule_number_lists.proofs.Standing.{same_order, same_trans, same_sym, no_repeat_order}
-use Rattle.rule_field_groups.proofs.Lists.{slice_get-push_cases, contains_from_get}
+use Rattle.rule_field_groups.proofs.Lists.{slice_get-push_cases, contains_from_get, none_twice, apart_more}
 
 -- ---- sums
 
 sums : {X : Type 0} (f : X → ℕ) (xs ys : List X) → sum (map f (xs ++ ys)) ≡ sum (map f xs) + sum (map f ys)
 sums f xs ys = omega (arith, sum-map f (xs ++ ys), sum-map f xs, sum-map f ys, sum_by-append f xs ys)
 
-drop_first : {X : Type 0} (xs : List X) (i : ℕ) (x : X) → i < length xs → x ≡ get_or xs i x → drop i xs ≡ x ∷ drop (i + 1) xs
+pub drop_first : {X : Type 0} (xs : List X) (i : ℕ) (x : X) → i < length xs → x ≡ get_or xs i x → drop i xs ≡ x ∷ drop (i + 1) xs
 drop_first xs i x h e = drop-cons xs i x h ∙ (rw add-one (ap (λ y. y ∷ drop (suc i) xs) (sym e)))
 
 -- what is left of a list, its first one taken
@@ -104,13 +105,29 @@ module _ (d : MeantDocument Place) where
         (o, ([], (f.0, (there, ((f.1.0, tt), ap unplaced_content f.1.1)))))
 
     -- lists of sets below groups of what such lists select
-    pub listed_next : (pass : Pass) (s : Judged) (lists : List (List (MeantSet Place))) (old new : Kept) (added : List (Broken Place)) (next : List (List (MeantSet Place)))
-        → AreListed d os lists → SetsExamined pass s d lists old new added next → AreListed d os next
-    listed_next pass s lists old new added next listed h sets c x selected =
-        let u = h.under sets c in
+    pub listed_below : (pass : Pass) (s : Judged) (lists : List (List (MeantSet Place))) (next : List (List (MeantSet Place))) → AreListed d os lists
+        → ((sets : List (MeantSet Place)) → Contains next sets → ComeFrom pass s d lists sets) → AreListed d os next
+    listed_below pass s lists next listed under sets c x selected =
+        let u = under sets c in
         let f = u.1.1.1.1 selected.0 selected.1.0 in
         last_below f.0 x (listed u.0 u.1.0 f.0 (u.1.1.1.0 f.0 f.0 f.1.0 f.1.0).0)
         (subst (λ w. (g : StandingField Place) × (IsFieldOf d (InOperation None) w g × (content g ≡ x))) (sym f.1.1) selected.1.1)
+
+    -- some of such lists, and others of which each selects no more than one of these
+    pub listed_front : (xs ys : List (List (MeantSet Place))) → AreListed d os (xs ++ ys) → AreListed d os xs
+    listed_front xs ys listed sets c = listed sets (Contains-append_left xs ys sets c)
+
+    pub listed_wider : (lists parts : List (List (MeantSet Place))) → AreListed d os lists
+        → ((part : List (MeantSet Place)) → Contains parts part → (sets : List (MeantSet Place)) × (Contains lists sets × SelectsAsMuch d sets part)) → AreListed d os parts
+    listed_wider lists parts listed wide part c x h = let w = wide part c in listed w.0 w.1.0 x (w.1.1 x h)
+
+    -- pairs of a level, its lists examined
+    pub listed_pairs : (pass : Pass) (s : Judged) (lists : List (List (MeantSet Place))) (old mid : Kept) (added : List (Broken Place)) (next : List (List (MeantSet Place)))
+        → SetsExamined pass s d lists old mid added next → AreListed d os (lists ++ old.here) → AreListed d os mid.here
+    listed_pairs pass s lists old mid added next h listed = listed_wider (lists ++ old.here) mid.here listed (λ part c. elim (Contains-append_cases old.here h.here part (subst (λ l. Contains l part) h.is_here c)) [
+      | inl a ↦ (part, (Contains-append_right lists old.here part a, λ x k. k))
+      | inr b ↦ let p = h.within part b in (p.0, (Contains-append_left lists old.here p.0 p.1.0, λ x k. (k.0, (p.1.1 k.0 k.1.0, k.1.1))))
+    ])
 
     -- one of such lists, some of its sets
     pub one_listed : (lists : List (List (MeantSet Place))) (sets : List (MeantSet Place)) → AreListed d os lists → Contains lists sets → AreListed d os (sets ∷ [])
@@ -119,20 +136,6 @@ module _ (d : MeantDocument Place) where
     pub part_listed : (sets : List (MeantSet Place)) (lists : List (List (MeantSet Place))) → AreListed d os (sets ∷ [])
         → ((l : List (MeantSet Place)) → Contains lists l → (v : MeantSet Place) → Contains l v → Contains sets v) → AreListed d os lists
     part_listed sets lists listed within l c x h = listed sets (Contains-first sets [] sets refl) x (h.0, (within l c h.0 h.1.0, h.1.1))
-
-    -- one of the sets with those up to it
-    pub each_listed : (xs seen : List SelectedSet) (i : ℕ) (x : SelectedSet) → i < length xs → x ≡ get_or xs i x → seen ≡ take (i + 1) xs → AreListed d os (meant_sets xs ∷ [])
-        → AreListed d os (with_each (meant_at x) (meant_sets seen))
-    each_listed xs seen i x h e is listed = part_listed (meant_sets xs) (with_each (meant_at x) (meant_sets seen)) listed (λ l c v k.
-        let u = contains_unmap (λ (w : MeantSet Place). meant_at x ∷ w ∷ []) (meant_sets seen) l c in
-        let y = contains_unmap meant_at seen u.0 u.1.0 in
-        elim (Contains-cons (meant_at x) (u.0 ∷ []) v (subst (λ (m : List (MeantSet Place)). Contains m v) (sym u.1.1) k)) [
-          | inl a ↦ subst (Contains (meant_sets xs)) a (contains_map meant_at xs x (i, h, sym e))
-          | inr b ↦ subst (Contains (meant_sets xs)) (y.1.1 ∙ sym (only u.0 v b)) (contains_map meant_at xs y.0 (from_front xs (i + 1) y.0 (subst (λ m. Contains m y.0) is y.1.0)))
-        ])
-      where
-        from_front : {X : Type 0} (ys : List X) (n : ℕ) (y : X) → Contains (take n ys) y → Contains ys y
-        from_front ys n y c = subst (λ m. Contains m y) (take-append-drop n ys) (Contains-append_left (take n ys) (drop n ys) y c)
 
     -- the fields that such sets select
     pub fields_listed : (sets : List (MeantSet Place)) (list : List FieldSelection) → IsMergedIn d sets list → AreListed d os (sets ∷ []) → AreLast d os (contents_of list)
@@ -189,6 +192,30 @@ module _ (d : MeantDocument Place) where
     different = g.different;
     last = λ os given. g.last os (less os given);
   }
+
+  -- a list of two fields
+  pub grows_two : (pass : Pass) (one other : FieldSelection) (list : List FieldSelection) (kept : List PlainField) (old new : List (List PlainField)) (before after : ℕ) → IsListOf one other list → IsPermutation (contents_of list) kept
+      → ((known : List PlainField) → Contains old known → HasNoRepeat known → HasNoRepeat (contents_of list) → HaveSame known (contents_of list) → ⊥) → new ≡ old ++ kept ∷ []
+      → before ≤ after → after ≤ before + compared pass list
+      → Grows d (λ os. (p q : FieldSelection) → are_two one other p q → IsLast d os (content_of p) × IsLast d os (content_of q)) pass old new before after
+  grows_two pass one other list kept old new before after two order none is more count =
+      grows_given (λ os. AreLast d os (contents_of list)) (λ os. (p q : FieldSelection) → are_two one other p q → IsLast d os (content_of p) × IsLast d os (content_of q)) (λ os given. lasts os (given one other (refl, refl))) pass old new before after
+      (grows_one pass list kept old new before after (apart two) order none is more count)
+    where
+      lasts : (os : List (MeantOperation Place)) → IsLast d os (content_of one) × IsLast d os (content_of other) → AreLast d os (contents_of list)
+      lasts os (a, b) = by two
+        where
+          by : IsListOf one other list → AreLast d os (contents_of list)
+          by (inl (e, l)) x c = subst (IsLast d os) (sym (only (content_of one) x (subst (λ (m : List FieldSelection). Contains (contents_of m) x) l c))) a
+          by (inr (e, l)) x c = elim (Contains-cons (content_of one) (content_of other ∷ []) x (subst (λ (m : List FieldSelection). Contains (contents_of m) x) l c)) [
+            | inl i ↦ subst (IsLast d os) i a
+            | inr r ↦ subst (IsLast d os) (sym (only (content_of other) x r)) b
+          ]
+
+      apart : IsListOf one other list → HasNoRepeat (contents_of list)
+      apart (inl (e, l)) = subst (λ (m : List FieldSelection). HasNoRepeat (contents_of m)) (sym l) (apart_more [] (content_of one) none_twice (λ c. not_in_nil (content_of one) c))
+      apart (inr (e, l)) = subst (λ (m : List FieldSelection). HasNoRepeat (contents_of m)) (sym l)
+          (apart_more (content_of one ∷ []) (content_of other) (apart_more [] (content_of one) none_twice (λ c. not_in_nil (content_of one) c)) (λ c. e (sym (only (content_of one) (content_of other) c))))
 
   both_apart : (xs ys : List (List PlainField)) → AreApart xs → AreApart ys → AreApart (xs ++ ys)
   both_apart xs ys a b list c = elim (Contains-append_cases xs ys list c) [ inl h ↦ a list h | inr h ↦ b list h ]

@@ -15,20 +15,16 @@ use Rattle.rule_document_definitions.specs.DocumentFaults.{Broken}
 use Rattle.rule_document_definitions.specs.Selected.{StandingField}
 use Rattle.rule_document_definitions.specs.Groups.{AgreeWithHead}
 use Rattle.rule_document_definitions.specs.Contents.{ContentBelow, ContentStarts, unplaced_content}
-use Rattle.rule_document_definitions.specs.Merging.{MergingBreaks}
-use Rattle.rule_document_definitions.specs.Limits.{chain_bound}
 use Rattle.rule_document_definitions.proofs.Equivalences.{shape_sym, shape_trans, selection_sym, selection_trans}
 use Rattle.rule_document_definitions.proofs.MergingUnplaced.{key_up}
 use Rattle.rule_document_definitions.proofs.Unplaced.{contains_map, contains_unmap}
 use Rattle.rule_field_groups.specs.in_ground.Fields.{field_of, fields_of}
 use Rattle.rule_field_groups.specs.in_ground.declared.field_selection.FieldSelection.{FieldSelection}
 use Rattle.rule_merging_laws.specs.Contents.{PlainField, PlainSet, PlainBelow, PlainStarts, IsSelected}
-use Rattle.rule_merging_laws.specs.Settled.{StandIn, StartsStand}
-use Rattle.rule_merging_laws.specs.Going.{IsEndOf, IsGoing}
-use Rattle.rule_merging_laws.proofs.SettledFacts.{settled_nothing, by_head, begun, moved, ended}
-use Rattle.rule_merging_laws.proofs.GoingFacts.{going_start, going_below, end_start, end_below}
+use Rattle.rule_merging_laws.specs.Settled.{StandIn}
+use Rattle.rule_merging_laws.specs.Paired.{IsPairDone}
+use Rattle.rule_merging_laws.proofs.SettledFacts.{settled_nothing, by_head, moved}
 use Rattle.rule_merging_laws.proofs.PlainFacts.{arguments_plain, selected_plain}
-use Rattle.rule_merging_laws.proofs.Merges.{going_breaks, bound_passed}
 use Rattle.rule_field_groups.specs.declared.pass.Pass.{Pass}
 use Rattle.rule_field_groups.specs.declared.pass.Pass.TheVariants.{Shapes, Selections}
 use Rattle.rule_field_groups.specs.Passes.{Together, Agree, Conflict, TellsGroup}
@@ -36,9 +32,10 @@ use Rattle.rule_field_groups.specs.Below.{contents_of, meant_sets, plain_sets, I
 use Rattle.rule_field_groups.proofs.Lists.{taken_more}
 use Rattle.rule_merging.proofs.Bare.{IsIn, bare_selects, bare_plain}
 use Rattle.rule_number_lists.specs.NumberLists.{HaveSame}
-use Rattle.rule_number_lists.proofs.Standing.{same_sym}
+use Rattle.rule_number_lists.proofs.Standing.{same_sym, same_trans}
 use Rattle.rule_merging.specs.Remembered.{Kept, nothing_kept, HasLooked, Expands}
-use Rattle.rule_merging.specs.Examined.{Sets, all_sets, all_plain, with_each, with_sets, if_any, AreOf, HaveBoth, PlainSelected, IsLeft, AllStand, AreSettled, AreUnderWay, HaveFields, GroupExamined, GroupsExamined, ListExamined, SetsExamined, AreTwosOf, AllExamined}
+use Rattle.rule_merging.specs.Examined.{Sets, all_sets, all_plain, with_each, with_sets, if_any, AreOf, HaveBoth, PlainOwn, PlainSelected, PlainSpreads, AreLookedAt, IsLeft, IsLooked, IsOpen, AllStand, PairsAreDone, AreSettled, AreUnderWay, HaveFields, GroupExamined, GroupsExamined, ListExamined, SetsExamined, AreTwosOf}
+use Rattle.rule_merging.specs.Pairs.{HasSame, Looks, LooksAtTwos}
 
 -- ---- lists
 
@@ -82,20 +79,20 @@ filled xs n e is = some_item xs (λ none. true≢false (sym ((Decides-eqb n 0).1
 
 -- ---- the passes
 
-agree_sym : {P : Type 0} (pass : Pass) (s : Judged) (f g : StandingField P) → Agree pass s f g → Agree pass s g f
+pub agree_sym : {P : Type 0} (pass : Pass) (s : Judged) (f g : StandingField P) → Agree pass s f g → Agree pass s g f
 agree_sym Shapes s = shape_sym s
 agree_sym Selections s = selection_sym
 
-agree_trans : {P : Type 0} (pass : Pass) (s : Judged) (f g k : StandingField P) → Agree pass s f g → Agree pass s g k → Agree pass s f k
+pub agree_trans : {P : Type 0} (pass : Pass) (s : Judged) (f g k : StandingField P) → Agree pass s f g → Agree pass s g k → Agree pass s f k
 agree_trans Shapes s = shape_trans s
 agree_trans Selections s = selection_trans
 
 -- fields go together where they do without places, and agree without places where they agree
-together_up : (pass : Pass) (s : Judged) (f g : StandingField Place) → Together pass s (unplaced_content f) (unplaced_content g) → Together pass s f g
+pub together_up : (pass : Pass) (s : Judged) (f g : StandingField Place) → Together pass s (unplaced_content f) (unplaced_content g) → Together pass s f g
 together_up Shapes s f g t = key_up f g t
 together_up Selections s f g t = (key_up f g t.0, t.1)
 
-agree_down : (pass : Pass) (s : Judged) (f g : StandingField Place) → Agree pass s f g → Agree pass s (unplaced_content f) (unplaced_content g)
+pub agree_down : (pass : Pass) (s : Judged) (f g : StandingField Place) → Agree pass s f g → Agree pass s (unplaced_content f) (unplaced_content g)
 agree_down Shapes s f g a = a
 agree_down Selections s f g a = (a.0, arguments_plain f.head.arguments g.head.arguments a.1)
 
@@ -104,6 +101,7 @@ pub nothing_settled : (pass : Pass) (s : Judged) (d : MeantDocument Place) (kept
 nothing_settled pass s d kept e = subst (AreSettled d pass s) (sym e) (record {
   fields = settled_nothing (PlainBelow d) (Together pass s) (Agree pass s) (StandIn []) (λ f g h. not_in_nil h.0 h.1.0);
   sets = λ sets c. not_in_nil sets c;
+  pairs = λ a b h. not_in_nil h.0 h.1.0;
 })
 
 -- ---- two sets in one list
@@ -129,6 +127,27 @@ sets_below group (x ∷ xs) are f g a b = elim (are.covers f a) [
 
 -- ---- two by two
 
+pub swapped : {X : Type 0} (a b : X) → HaveSame (a ∷ b ∷ []) (b ∷ a ∷ [])
+swapped {X} a b x = (turn a b, turn b a)
+  where
+    turn : (c d : X) → Contains (c ∷ d ∷ []) x → Contains (d ∷ c ∷ []) x
+    turn c d h = elim (Contains-cons c (d ∷ []) x h) [
+      | inl e ↦ Contains-rest d (c ∷ []) x (Contains-first c [] x e)
+      | inr r ↦ Contains-first d (c ∷ []) x (sym (only d x r))
+    ]
+
+-- without places too
+pub same_plain : (xs ys : Sets) → HaveSame xs ys → HaveSame (plain_sets xs) (plain_sets ys)
+same_plain xs ys same x = (
+  λ c. let v = contains_unmap unplaced_set xs x c in subst (Contains (plain_sets ys)) v.1.1 (contains_map unplaced_set ys v.0 ((same v.0).0 v.1.0)),
+  λ c. let v = contains_unmap unplaced_set ys x c in subst (Contains (plain_sets xs)) v.1.1 (contains_map unplaced_set xs v.0 ((same v.0).1 v.1.0)),
+)
+
+-- a list of what is nowhere
+pub none_in : {X : Type 0} (xs : List X) → ((x : X) → Contains xs x → Contains [] x) → xs ≡ []
+none_in [] none = refl
+none_in (x ∷ xs) none = absurd (not_in_nil x (none x (Contains-first x xs x refl)))
+
 pub no_twos : AreTwosOf [] []
 no_twos = record { within = λ two c. not_in_nil two c; covers = λ v w a. not_in_nil v a }
 
@@ -146,9 +165,9 @@ twos_more front v twos are = record {
   covers = λ x y a b. elim (Contains-append_cases front (v ∷ []) x a) [
     | inl i ↦ elim (Contains-append_cases front (v ∷ []) y b) [
       | inl j ↦ let two = are.covers x y i j in (two.0, (Contains-append_left twos (with_each v (front ++ v ∷ [])) two.0 two.1.0, two.1.1))
-      | inr j ↦ (v ∷ x ∷ [], (with_one x a, (Contains-rest v (x ∷ []) x (Contains-first x [] x refl), Contains-first v (x ∷ []) y (sym (only v y j)))))
+      | inr j ↦ (v ∷ x ∷ [], (with_one x a, subst (λ (z : MeantSet Place). HaveSame (v ∷ x ∷ []) (x ∷ z ∷ [])) (sym (only v y j)) (swapped v x)))
     ]
-    | inr i ↦ (v ∷ y ∷ [], (with_one y b, (Contains-first v (y ∷ []) x (sym (only v x i)), Contains-rest v (y ∷ []) y (Contains-first y [] y refl))))
+    | inr i ↦ (v ∷ y ∷ [], (with_one y b, subst (λ (z : MeantSet Place). HaveSame (v ∷ y ∷ []) (z ∷ y ∷ [])) (sym (only v x i)) (λ z. (λ c. c, λ c. c))))
   ];
 }
   where
@@ -215,38 +234,123 @@ module _ (pass : Pass) (s : Judged) (d : MeantDocument Place) where
   -- ---- what sets select
 
   -- what stood in lists does so with more of them
-  stand_more : (old new : List (List PlainField)) → ((list : List PlainField) → Contains old list → Contains new list) → (x y : PlainField) → StandIn old x y → StandIn new x y
+  pub stand_more : (old new : List (List PlainField)) → ((list : List PlainField) → Contains old list → Contains new list) → (x y : PlainField) → StandIn old x y → StandIn new x y
   stand_more old new more x y h = (h.0, (more h.0 h.1.0, h.1.1))
 
   -- all that the sets select, without places, is in the list
   in_merged : (sets : Sets) (list : List FieldSelection) → IsMergedIn d sets list → (x : PlainField) → PlainSelected d (plain_sets sets) x → Contains (contents_of list) x
   in_merged sets list merged x h = let e = selected_plain d sets x h in subst (Contains (contents_of list)) e.1.1 (merged.covers e.0 e.1.0)
 
-  -- a list of sets is left no more, whose fields stand
-  abbrev Settles : Kept → Kept → List Sets → List Sets → Type 0
-  Settles old new lists next = (o : MeantOperation Place) (left : List (List PlainSet))
-      → AreUnderWay d pass s o (all_plain lists ++ left) old → AreUnderWay d pass s o (left ++ all_plain next) new × AllStand d (all_plain lists) new.lists
+  -- two stand in one of the lists, or two sets that were looked at together select them
+  abbrev pub StandsNow : Kept → PlainField → PlainField → Type 0
+  StandsNow kept x y = StandIn kept.lists x y ⊎ IsLooked d kept.looked x y
 
-  all_of_one : (sets : Sets) (lists : List (List PlainField)) → ((x y : PlainField) → PlainSelected d (plain_sets sets) x → PlainSelected d (plain_sets sets) y → StandIn lists x y) → AllStand d (all_plain (sets ∷ [])) lists
-  all_of_one sets lists stand vs c x y a b =
+  -- any two that the sets select do
+  abbrev pub SetsStand : Sets → Kept → Type 0
+  SetsStand sets kept = (x y : PlainField) → PlainSelected d (plain_sets sets) x → PlainSelected d (plain_sets sets) y → StandsNow kept x y
+
+  -- a list of sets is left no more, whose fields stand
+  abbrev Settles : Kept → Kept → List Sets → List Sets → List Sets → Type 0
+  Settles old new lists here next = (o : MeantOperation Place) (left twos : List (List PlainSet))
+      → AreUnderWay d pass s o (all_plain lists ++ left) twos old → AreUnderWay d pass s o (left ++ all_plain next) (twos ++ all_plain here) new × AllStand d (all_plain lists) new
+
+  all_of_one : (sets : Sets) (kept : Kept) → SetsStand sets kept → AllStand d (all_plain (sets ∷ [])) kept
+  all_of_one sets kept stand vs c x y a b =
       let same = only (plain_sets sets) vs c in
       stand x y (subst (λ (l : List PlainSet). PlainSelected d l x) same a) (subst (λ (l : List PlainSet). PlainSelected d l y) same b)
 
-  -- the first list is left no more, and what is left later has all others
-  left_on : (sets : Sets) (left later : List (List PlainSet)) (lists : List (List PlainField)) → ((x y : PlainField) → PlainSelected d (plain_sets sets) x → PlainSelected d (plain_sets sets) y → StandIn lists x y)
-      → ((l : List PlainSet) → Contains left l → Contains later l) → (x y : PlainField) → IsLeft d (plain_sets sets ∷ left) x y → StandIn lists x y ⊎ IsLeft d later x y
-  left_on sets left later lists stand on x y h = elim (Contains-cons (plain_sets sets) left h.0 h.1.0) [
-    | inl e ↦ inl (stand x y (subst (λ (l : List PlainSet). PlainSelected d l x) (sym e) h.1.1.0) (subst (λ (l : List PlainSet). PlainSelected d l y) (sym e) h.1.1.1))
-    | inr r ↦ inr (h.0, (on h.0 r, h.1.1))
+  -- ---- what stays so while more is kept
+
+  abbrev pub HasMore : {X : Type 0} → List X → List X → Type 0
+  HasMore {X} old new = (x : X) → Contains old x → Contains new x
+
+  pub looked_more : (old new : List (List PlainSet)) → HasMore old new → (a b : PlainSet) → AreLookedAt old a b → AreLookedAt new a b
+  looked_more old new more a b h = (h.0, (more h.0 h.1.0, h.1.1))
+
+  pub is_looked_more : (old new : List (List PlainSet)) → HasMore old new → (x y : PlainField) → IsLooked d old x y → IsLooked d new x y
+  is_looked_more old new more x y h = (h.0, (h.1.0, (looked_more old new more h.0 h.1.0 h.1.1.0, h.1.1.1)))
+
+  pub now_more : (old new : Kept) → HasMore old.lists new.lists → HasMore old.looked new.looked → (x y : PlainField) → StandsNow old x y → StandsNow new x y
+  now_more old new lists looked x y (inl h) = inl (stand_more old.lists new.lists lists x y h)
+  now_more old new lists looked x y (inr h) = inr (is_looked_more old.looked new.looked looked x y h)
+
+  pub all_more : (sets : List (List PlainSet)) (old new : Kept) → HasMore old.lists new.lists → HasMore old.looked new.looked → AllStand d sets old → AllStand d sets new
+  all_more sets old new lists looked all vs c x y a b = now_more old new lists looked x y (all vs c x y a b)
+
+  abbrev pub DoneIn : Kept → PlainSet → PlainSet → Type 0
+  DoneIn kept a b = IsPairDone PlainOwn (PlainSpreads d) (Together pass s) (StandIn kept.lists) (AreLookedAt kept.looked) a b
+
+  pub done_more : (old new : Kept) → HasMore old.lists new.lists → HasMore old.looked new.looked → (a b : PlainSet) → DoneIn old a b → DoneIn new a b
+  done_more old new lists looked a b h = record {
+    own = λ x y p q t. stand_more old.lists new.lists lists x y (h.own x y p q t);
+    one = λ c k. looked_more old.looked new.looked looked c b (h.one c k);
+    other = λ c k. looked_more old.looked new.looked looked a c (h.other c k);
+  }
+
+  -- pairs are done or left, of those that were looked at and of those that come to it
+  pub pairs_on : (twos later : List (List PlainSet)) (old new : Kept) → HasMore old.lists new.lists → HasMore old.looked new.looked
+      → ((a b : PlainSet) → AreLookedAt new.looked a b → AreLookedAt old.looked a b ⊎ IsOpen d later a b)
+      → ((a b : PlainSet) → HasLooked twos (a ∷ b ∷ []) → IsOpen d later a b ⊎ DoneIn new a b)
+      → PairsAreDone d pass s twos old → PairsAreDone d pass s later new
+  pairs_on twos later old new lists looked from on ok a b h = elim (from a b h) [
+    | inl was ↦ elim (ok a b was) [
+      | inl (inl left) ↦ on a b left
+      | inl (inr none) ↦ inl (inr none)
+      | inr done ↦ inr (done_more old new lists looked a b done)
+    ]
+    | inr open ↦ inl open
   ]
 
-  dropped : (sets : Sets) (kept : Kept) → ((x y : PlainField) → PlainSelected d (plain_sets sets) x → PlainSelected d (plain_sets sets) y → StandIn kept.lists x y)
-      → (o : MeantOperation Place) (left : List (List PlainSet)) → AreUnderWay d pass s o (plain_sets sets ∷ left) kept → AreUnderWay d pass s o (left ++ []) kept
-  dropped sets kept stand o left under = subst (λ l. AreUnderWay d pass s o l kept) (sym (append-nil left)) (record {
-    fields = moved (PlainBelow d) (Together pass s) (Agree pass s) (PlainStarts d o) (IsLeft d (plain_sets sets ∷ left)) (IsLeft d left) (StandIn kept.lists) (StandIn kept.lists)
-        (λ f g h. h) (λ f g h t. left_on sets left left kept.lists stand (λ l c. c) f g h) (λ f g h. inl h) under.fields;
-    sets = under.sets;
-  })
+  -- where no more pairs are looked at
+  pub pairs_stay : (twos : List (List PlainSet)) (old new : Kept) → HasMore old.lists new.lists → new.looked ≡ old.looked → PairsAreDone d pass s twos old → PairsAreDone d pass s twos new
+  pairs_stay twos old new lists same ok =
+      pairs_on twos twos old new lists (λ l c. subst (λ (k : List (List PlainSet)). Contains k l) (sym same) c) (λ a b h. inl (subst (λ (k : List (List PlainSet)). AreLookedAt k a b) same h)) (λ a b h. inl (inl h)) ok
+
+  -- a pair that was looked at before or is one of these that are left
+  pub known_or_open : (added : List Sets) (old new : List (List PlainSet)) (later : List (List PlainSet)) → HasMore (all_plain added) later
+      → ((known : List PlainSet) → Contains new known → Contains old known ⊎ HasSame added known)
+      → (a b : PlainSet) → AreLookedAt new a b → AreLookedAt old a b ⊎ IsOpen d later a b
+  known_or_open added old new later within fresh a b (known, (c, same)) = elim (fresh known c) [
+    | inl was ↦ inl (known, (was, same))
+    | inr (two, (there, alike)) ↦ inr (inl (plain_sets two, (within (plain_sets two) (contains_map plain_sets added two there), same_trans (plain_sets two) known (a ∷ b ∷ []) (same_sym known (plain_sets two) alike) same)))
+  ]
+
+  pub open_more : (twos later : List (List PlainSet)) → HasMore twos later → (a b : PlainSet) → HasLooked twos (a ∷ b ∷ []) → IsOpen d later a b
+  open_more twos later more a b h = inl (looked_more twos later more a b h)
+
+  -- nothing more is left
+  none_more_left : (o : MeantOperation Place) (left twos : List (List PlainSet)) (kept : Kept) → AreUnderWay d pass s o left twos kept → AreUnderWay d pass s o (left ++ []) (twos ++ []) kept
+  none_more_left o left twos kept under =
+      subst (λ l. AreUnderWay d pass s o l (twos ++ []) kept) (sym (append-nil left)) (subst (λ t. AreUnderWay d pass s o left t kept) (sym (append-nil twos)) under)
+
+  -- the same lists and pairs, whatever pairs stand there for this level and the next
+  pub under_again : (o : MeantOperation Place) (left twos : List (List PlainSet)) (old new : Kept) (here next : List Sets) → new ≡ record old { here = here; next = next }
+      → AreUnderWay d pass s o left twos old → AreUnderWay d pass s o left twos new
+  under_again o left twos old new here next is under = subst (AreUnderWay d pass s o left twos) (sym is) (record { fields = under.fields; sets = under.sets; pairs = under.pairs })
+
+  -- the first list is left no more, and what is left later has all others
+  left_on : (sets : Sets) (left later : List (List PlainSet)) (old kept : Kept) → SetsStand sets kept → HasMore old.looked kept.looked → HasMore left later
+      → (x y : PlainField) → IsLeft d (plain_sets sets ∷ left) x y ⊎ IsLooked d old.looked x y → StandIn kept.lists x y ⊎ (IsLeft d later x y ⊎ IsLooked d kept.looked x y)
+  left_on sets left later old kept stand more on x y (inr h) = inr (inr (is_looked_more old.looked kept.looked more x y h))
+  left_on sets left later old kept stand more on x y (inl h) = elim (Contains-cons (plain_sets sets) left h.0 h.1.0) [
+    | inl e ↦ elim (stand x y (subst (λ (l : List PlainSet). PlainSelected d l x) (sym e) h.1.1.0) (subst (λ (l : List PlainSet). PlainSelected d l y) (sym e) h.1.1.1)) [
+      | inl now ↦ inl now
+      | inr looked ↦ inr (inr looked)
+    ]
+    | inr r ↦ inr (inl (h.0, (on h.0 r, h.1.1)))
+  ]
+
+  dropped : (sets : Sets) (kept : Kept) → SetsStand sets kept → Settles kept kept (sets ∷ []) [] []
+  dropped sets kept stand o left twos under = (
+    none_more_left o left twos kept (record {
+      fields = moved (PlainBelow d) (Together pass s) (Agree pass s) (PlainStarts d o)
+          (λ x y. IsLeft d (plain_sets sets ∷ left) x y ⊎ IsLooked d kept.looked x y) (λ x y. IsLeft d left x y ⊎ IsLooked d kept.looked x y) (StandIn kept.lists) (StandIn kept.lists)
+          (λ f g h. h) (λ f g h t. left_on sets left left kept kept stand (λ l c. c) (λ l c. c) f g h) (λ f g h. inl h) under.fields;
+      sets = under.sets;
+      pairs = under.pairs;
+    }),
+    all_of_one sets kept stand,
+  )
 
   -- ---- a list of fields that is new
 
@@ -255,18 +359,22 @@ module _ (pass : Pass) (s : Judged) (d : MeantDocument Place) where
     abbrev lists_now : List (List PlainField)
     lists_now = old.lists ++ kept ∷ []
 
+    abbrev kept_now : Kept
+    kept_now = record old { lists = lists_now }
+
     stand_here : (f g : PlainField) → Contains (contents_of list) f → Contains (contents_of list) g → StandIn lists_now f g
     stand_here f g a b = (kept, (in_last old.lists kept, ((same f).0 a, (same g).0 b)))
 
-    stand_selected : (x y : PlainField) → PlainSelected d (plain_sets sets) x → PlainSelected d (plain_sets sets) y → StandIn lists_now x y
-    stand_selected x y a b = stand_here x y (in_merged sets list merged x a) (in_merged sets list merged y b)
+    stand_selected : SetsStand sets kept_now
+    stand_selected x y a b = inl (stand_here x y (in_merged sets list merged x a) (in_merged sets list merged y b))
 
     more_here : (l : List PlainField) → Contains old.lists l → Contains lists_now l
     more_here l c = Contains-append_left old.lists (kept ∷ []) l c
 
     -- what is asked of two fields that stand in the list
     abbrev Fresh : List (List PlainSet) → PlainField → PlainField → Type 0
-    Fresh later f g = (Together pass s f g → Agree pass s f g) × (Together pass s f g → (x y : PlainField) → PlainBelow d f x → PlainBelow d g y → Together pass s x y → StandIn lists_now x y ⊎ IsLeft d later x y)
+    Fresh later f g = (Together pass s f g → Agree pass s f g)
+        × (Together pass s f g → (x y : PlainField) → PlainBelow d f x → PlainBelow d g y → Together pass s x y → StandIn lists_now x y ⊎ (IsLeft d later x y ⊎ IsLooked d old.looked x y))
 
     -- their sets are in one of the next lists
     below_both : (left : List (List PlainSet)) (f g : StandingField Place) → HaveBoth next f g → (x y : PlainField) → PlainBelow d (unplaced_content f) x → PlainBelow d (unplaced_content g) y → IsLeft d (left ++ all_plain next) x y
@@ -282,7 +390,7 @@ module _ (pass : Pass) (s : Judged) (d : MeantDocument Place) where
           agree_down pass s f g (by_head (ContentBelow d) (Together pass s) (Agree pass s) (agree_sym pass s) (agree_trans pass s) shared.0 f g (h.examined.agree refl shared.0 shared.1.0) shared.1.1.0 shared.1.1.1),
       λ t x y a b u.
           let shared = h.are.covered f g in_f in_g (together_up pass s f g t) in
-          inr (below_both left f g (h.examined.below shared.0 shared.1.0 f g shared.1.1.0 shared.1.1.1) x y a b),
+          inr (inl (below_both left f g (h.examined.below shared.0 shared.1.0 f g shared.1.1.0 shared.1.1.1) x y a b)),
     )
 
     fresh : (left : List (List PlainSet)) (f g : PlainField) → Contains (contents_of list) f → Contains (contents_of list) g → Fresh (left ++ all_plain next) f g
@@ -291,24 +399,26 @@ module _ (pass : Pass) (s : Judged) (d : MeantDocument Place) where
         let z = contains_unmap unplaced_content (fields_of list) g in_g in
         subst (λ v. Fresh (left ++ all_plain next) v g) y.1.1 (subst (Fresh (left ++ all_plain next) (unplaced_content y.0)) z.1.1 (fresh_fields left y.0 z.0 y.1.0 z.1.0))
 
-    new_settles : Settles old (record { lists = lists_now; expanded = old.expanded }) (sets ∷ []) next
-    new_settles o left under = (
-      record {
-        fields = moved (PlainBelow d) (Together pass s) (Agree pass s) (PlainStarts d o) (IsLeft d (plain_sets sets ∷ left)) (IsLeft d (left ++ all_plain next)) (StandIn old.lists) (StandIn lists_now)
+    new_settles : Settles old kept_now (sets ∷ []) [] next
+    new_settles o left twos under = (
+      subst (λ t. AreUnderWay d pass s o (left ++ all_plain next) t kept_now) (sym (append-nil twos)) (record {
+        fields = moved (PlainBelow d) (Together pass s) (Agree pass s) (PlainStarts d o)
+            (λ x y. IsLeft d (plain_sets sets ∷ left) x y ⊎ IsLooked d old.looked x y) (λ x y. IsLeft d (left ++ all_plain next) x y ⊎ IsLooked d old.looked x y) (StandIn old.lists) (StandIn lists_now)
             (stand_more old.lists lists_now more_here)
-            (λ f g k t. left_on sets left (left ++ all_plain next) lists_now stand_selected (λ l c. Contains-append_left left (all_plain next) l c) f g k)
+            (λ f g k t. left_on sets left (left ++ all_plain next) old kept_now stand_selected (λ l c. c) (λ l c. Contains-append_left left (all_plain next) l c) f g k)
             (λ f g k. elim (Contains-append_cases old.lists (kept ∷ []) k.0 k.1.0) [
               | inl a ↦ inl (k.0, (a, k.1.1))
               | inr b ↦ inr (fresh left f g ((same f).1 (subst (λ (l : List PlainField). Contains l f) (only kept k.0 b) k.1.1.0)) ((same g).1 (subst (λ (l : List PlainField). Contains l g) (only kept k.0 b) k.1.1.1)))
             ])
             under.fields;
-        sets = λ vs c x y a b. stand_more old.lists lists_now more_here x y (under.sets vs c x y a b);
-      },
-      all_of_one sets lists_now stand_selected,
+        sets = all_more old.expanded old kept_now more_here (λ l c. c) under.sets;
+        pairs = pairs_stay twos old kept_now more_here refl under.pairs;
+      }),
+      all_of_one sets kept_now stand_selected,
     )
 
   pub new_fields : (sets : Sets) (list : List FieldSelection) (kept : List PlainField) (added : List (Broken Place)) (next : List Sets) (old new : Kept) → IsMergedIn d sets list → HaveSame (contents_of list) kept
-      → ListExamined pass s d list added next → new ≡ record { lists = old.lists ++ kept ∷ []; expanded = old.expanded } → SetsExamined pass s d (sets ∷ []) old new added next
+      → ListExamined pass s d list added next → new ≡ record old { lists = old.lists ++ kept ∷ [] } → SetsExamined pass s d (sets ∷ []) old new added next
   new_fields sets list kept added next old new merged same h is = record {
     right = λ fault c.
         let t = h.examined.right fault c in
@@ -319,23 +429,36 @@ module _ (pass : Pass) (s : Judged) (d : MeantDocument Place) where
         let u = h.examined.under vs c in
         (sets, (Contains-first sets [] sets refl, (u.0, ((λ f g a b. let w = h.are.within u.0 f g u.1.0 a b in (merged.within f w.0, w.1)), u.1.1))));
     more = λ l c. subst (λ (k : Kept). Contains k.lists l) (sym is) (Contains-append_left old.lists (kept ∷ []) l c);
-    settled = λ e o left under.
+    looks = λ l c. subst (λ (k : Kept). Contains k.looked l) (sym is) c;
+    here = [];
+    is_here = ap (λ (k : Kept). k.here) is ∙ sym (append-nil old.here);
+    within = λ two c. not_in_nil two c;
+    stays = ap (λ (k : Kept). k.next) is;
+    settled = λ e o left twos under.
         let whole : ListExamined pass s d list [] next = subst (λ a. ListExamined pass s d list a next) e h in
-        subst (λ (k : Kept). AreUnderWay d pass s o (left ++ all_plain next) k × AllStand d (all_plain (sets ∷ [])) k.lists) (sym is) (new_settles sets list kept next old merged same whole o left under);
+        subst (λ (k : Kept). AreUnderWay d pass s o (left ++ all_plain next) (twos ++ []) k × AllStand d (all_plain (sets ∷ [])) k) (sym is) (new_settles sets list kept next old merged same whole o left twos under);
+  }
+
+  -- nothing is told, and nothing kept, where the fields stand
+  stands_already : (sets : Sets) (old new : Kept) → (AllStand d old.expanded old → SetsStand sets old) → new ≡ old → SetsExamined pass s d (sets ∷ []) old new [] []
+  stands_already sets old new stand is = record {
+    right = λ fault c. not_in_nil fault c;
+    under = λ vs c. not_in_nil vs c;
+    more = λ l c. subst (λ (k : Kept). Contains k.lists l) (sym is) c;
+    looks = λ l c. subst (λ (k : Kept). Contains k.looked l) (sym is) c;
+    here = [];
+    is_here = ap (λ (k : Kept). k.here) is ∙ sym (append-nil old.here);
+    within = λ two c. not_in_nil two c;
+    stays = ap (λ (k : Kept). k.next) is;
+    settled = λ e o left twos under.
+        subst (λ (k : Kept). AreUnderWay d pass s o (left ++ []) (twos ++ []) k × AllStand d (all_plain (sets ∷ [])) k) (sym is) (dropped sets old (stand under.sets) o left twos under);
   }
 
   -- a list of fields of which one with the same members is known
   pub known_fields : (sets : Sets) (list : List FieldSelection) (known : List PlainField) (old new : Kept) → IsMergedIn d sets list → Contains old.lists known → HaveSame known (contents_of list) → new ≡ old
       → SetsExamined pass s d (sets ∷ []) old new [] []
-  known_fields sets list known old new merged there same is = record {
-    right = λ fault c. not_in_nil fault c;
-    under = λ vs c. not_in_nil vs c;
-    more = λ l c. subst (λ (k : Kept). Contains k.lists l) (sym is) c;
-    settled = λ e o left under.
-        let stand : (x y : PlainField) → PlainSelected d (plain_sets sets) x → PlainSelected d (plain_sets sets) y → StandIn old.lists x y =
-        λ x y a b. (known, (there, ((same x).1 (in_merged sets list merged x a), (same y).1 (in_merged sets list merged y b)))) in
-        subst (λ (k : Kept). AreUnderWay d pass s o (left ++ []) k × AllStand d (all_plain (sets ∷ [])) k.lists) (sym is) (dropped sets old stand o left under, all_of_one sets old.lists stand);
-  }
+  known_fields sets list known old new merged there same is =
+      stands_already sets old new (λ all x y a b. inl (known, (there, ((same x).1 (in_merged sets list merged x a), (same y).1 (in_merged sets list merged y b))))) is
 
   -- sets with the same members select the same
   selected_same : (vs ws : List PlainSet) → HaveSame vs ws → (x : PlainField) → PlainSelected d vs x → PlainSelected d ws x
@@ -343,87 +466,88 @@ module _ (pass : Pass) (s : Judged) (d : MeantDocument Place) where
 
   -- sets that were looked at
   pub known_sets : (sets : Sets) (old new : Kept) → HasLooked old.expanded (plain_sets sets) → new ≡ old → SetsExamined pass s d (sets ∷ []) old new [] []
-  known_sets sets old new (known, (there, same)) is = record {
-    right = λ fault c. not_in_nil fault c;
-    under = λ vs c. not_in_nil vs c;
-    more = λ l c. subst (λ (k : Kept). Contains k.lists l) (sym is) c;
-    settled = λ e o left under.
-        let stand : (x y : PlainField) → PlainSelected d (plain_sets sets) x → PlainSelected d (plain_sets sets) y → StandIn old.lists x y =
-        λ x y a b. under.sets known there x y (selected_same (plain_sets sets) known (same_sym known (plain_sets sets) same) x a) (selected_same (plain_sets sets) known (same_sym known (plain_sets sets) same) y b) in
-        subst (λ (k : Kept). AreUnderWay d pass s o (left ++ []) k × AllStand d (all_plain (sets ∷ [])) k.lists) (sym is) (dropped sets old stand o left under, all_of_one sets old.lists stand);
-  }
+  known_sets sets old new (known, (there, same)) is =
+      stands_already sets old new (λ all x y a b.
+      all known there x y (selected_same (plain_sets sets) known (same_sym known (plain_sets sets) same) x a) (selected_same (plain_sets sets) known (same_sym known (plain_sets sets) same) y b)) is
 
   -- sets that were examined are remembered
   pub then_looked : (sets : Sets) (kept : List PlainSet) (lists : List Sets) (old mid new : Kept) (added : List (Broken Place)) (next : List Sets) → Contains lists sets → HaveSame kept (plain_sets sets)
-      → SetsExamined pass s d lists old mid added next → new ≡ record { lists = mid.lists; expanded = mid.expanded ++ kept ∷ [] } → SetsExamined pass s d lists old new added next
+      → SetsExamined pass s d lists old mid added next → new ≡ record mid { expanded = mid.expanded ++ kept ∷ [] } → SetsExamined pass s d lists old new added next
   then_looked sets kept lists old mid new added next there same h is = record {
     right = h.right;
     under = h.under;
     more = λ l c. subst (λ (k : Kept). Contains k.lists l) (sym is) (h.more l c);
-    settled = λ e o left under.
-        let r = h.settled e o left under in
-        subst (λ (k : Kept). AreUnderWay d pass s o (left ++ all_plain next) k × AllStand d (all_plain lists) k.lists) (sym is) (
+    looks = λ l c. subst (λ (k : Kept). Contains k.looked l) (sym is) (h.looks l c);
+    here = h.here;
+    is_here = ap (λ (k : Kept). k.here) is ∙ h.is_here;
+    within = h.within;
+    stays = ap (λ (k : Kept). k.next) is ∙ h.stays;
+    settled = λ e o left twos under.
+        let r = h.settled e o left twos under in
+        subst (λ (k : Kept). AreUnderWay d pass s o (left ++ all_plain next) (twos ++ all_plain h.here) k × AllStand d (all_plain lists) k) (sym is) (
           record {
             fields = r.0.fields;
             sets = λ vs c. elim (Contains-append_cases mid.expanded (kept ∷ []) vs c) [
               | inl a ↦ r.0.sets vs a
-              | inr b ↦ subst (λ (l : List PlainSet). (x y : PlainField) → PlainSelected d l x → PlainSelected d l y → StandIn mid.lists x y) (sym (only kept vs b))
+              | inr b ↦ subst (λ (l : List PlainSet). (x y : PlainField) → PlainSelected d l x → PlainSelected d l y → StandsNow mid x y) (sym (only kept vs b))
                   (λ x y i j. r.1 (plain_sets sets) (contains_map plain_sets lists sets there) x y (selected_same kept (plain_sets sets) same x i) (selected_same kept (plain_sets sets) same y j))
             ];
+            pairs = r.0.pairs;
           },
           r.1,
         );
   }
 
-  -- ---- sets two by two
+  -- ---- sets as pairs
 
-  module _ (sets : Sets) (twos : List Sets) (are : AreTwosOf sets twos) where
-    widened : (two : Sets) → Contains twos two → (x : StandingField Place) → IsSelected d two x → IsSelected d sets x
-    widened two c x h = (h.0, (are.within two c h.0 h.1.0, h.1.1))
+  module _ (sets : Sets) (twos : List Sets) (are : AreTwosOf sets twos) (old new : Kept) (looks : Looks twos [] old new) where
+    -- any two of the sets are looked at together
+    looked_two : (v w : MeantSet Place) → Contains sets v → Contains sets w → AreLookedAt new.looked (unplaced_set v) (unplaced_set w)
+    looked_two v w a b =
+        let two = are.covers v w a b in
+        let known = looks.has two.0 (Contains-append_left twos [] two.0 two.1.0) in
+        (known.0, (known.1.0, same_trans known.0 (plain_sets two.0) (plain_sets (v ∷ w ∷ [])) known.1.1 (same_plain two.0 (v ∷ w ∷ []) two.1.1)))
 
-    -- any two that the sets select, one of the twos selects
-    in_two : (x y : PlainField) → PlainSelected d (plain_sets sets) x → PlainSelected d (plain_sets sets) y
-        → (two : Sets) × (Contains twos two × (PlainSelected d (plain_sets two) x × PlainSelected d (plain_sets two) y))
-    in_two x y (p, (a, i)) (q, (b, j)) =
+    -- so two of them select any two fields that they select
+    stand_paired : SetsStand sets new
+    stand_paired x y (p, (a, i)) (q, (b, j)) =
         let v = contains_unmap unplaced_set sets p a in
         let w = contains_unmap unplaced_set sets q b in
-        let two = are.covers v.0 w.0 v.1.0 w.1.0 in (
-          two.0,
-          (
-            two.1.0,
-            (
-              (p, (subst (Contains (plain_sets two.0)) v.1.1 (contains_map unplaced_set two.0 v.0 two.1.1.0), i)),
-              (q, (subst (Contains (plain_sets two.0)) w.1.1 (contains_map unplaced_set two.0 w.0 two.1.1.1), j)),
-            ),
-          ),
-        )
+        inr (p, (q, (subst (λ (k : PlainSet). AreLookedAt new.looked k q) v.1.1 (subst (AreLookedAt new.looked (unplaced_set v.0)) w.1.1 (looked_two v.0 w.0 v.1.0 w.1.0)), (i, j))))
 
-    split : (left : List (List PlainSet)) (x y : PlainField) → IsLeft d (plain_sets sets ∷ left) x y → IsLeft d (all_plain twos ++ left) x y
-    split left x y h = elim (Contains-cons (plain_sets sets) left h.0 h.1.0) [
-      | inl e ↦
-          let two = in_two x y (subst (λ (l : List PlainSet). PlainSelected d l x) (sym e) h.1.1.0) (subst (λ (l : List PlainSet). PlainSelected d l y) (sym e) h.1.1.1) in
-          (plain_sets two.0, (Contains-append_left (all_plain twos) left (plain_sets two.0) (contains_map plain_sets twos two.0 two.1.0), two.1.1))
-      | inr r ↦ (h.0, (Contains-append_right (all_plain twos) left h.0 r, h.1.1))
-    ]
+    lists_stay : HasMore old.lists new.lists
+    lists_stay l c = subst (λ (k : List (List PlainField)). Contains k l) (sym looks.lists) c
 
-    pub by_twos : (old new : Kept) (added : List (Broken Place)) (next : List Sets) → SetsExamined pass s d twos old new added next → SetsExamined pass s d (sets ∷ []) old new added next
-    by_twos old new added next h = record {
-      right = λ fault c.
-          let t = h.right fault c in
-          (sets, (Contains-first sets [] sets refl, (t.1.1.0, (t.1.1.1.0, (widened t.0 t.1.0 t.1.1.0 t.1.1.1.1.0, (widened t.0 t.1.0 t.1.1.1.0 t.1.1.1.1.1.0, t.1.1.1.1.1.1))))));
-      under = λ vs c.
-          let u = h.under vs c in
-          (sets, (Contains-first sets [] sets refl, (u.1.1.0, ((λ f g a b. let w = u.1.1.1.0 f g a b in (widened u.0 u.1.0 f w.0, w.1)), u.1.1.1.1))));
-      more = h.more;
-      settled = λ e o left under.
-          let r = h.settled e o left (record {
-            fields = moved (PlainBelow d) (Together pass s) (Agree pass s) (PlainStarts d o) (IsLeft d (plain_sets sets ∷ left)) (IsLeft d (all_plain twos ++ left)) (StandIn old.lists) (StandIn old.lists)
-                (λ f g k. k) (λ f g k t. inr (split left f g k)) (λ f g k. inl k) under.fields;
-            sets = under.sets;
-          }) in (
-            r.0,
-            all_of_one sets new.lists (λ x y a b. let two = in_two x y a b in r.1 (plain_sets two.0) (contains_map plain_sets twos two.0 two.1.0) x y two.1.1.0 two.1.1.1),
-          );
+    none_later : looks.later ≡ []
+    none_later = none_in looks.later looks.under
+
+    pub as_pairs : SetsExamined pass s d (sets ∷ []) old new [] []
+    as_pairs = record {
+      right = λ fault c. not_in_nil fault c;
+      under = λ vs c. not_in_nil vs c;
+      more = lists_stay;
+      looks = looks.keeps;
+      here = looks.here;
+      is_here = looks.is_here;
+      within = λ two c. (sets, (Contains-first sets [] sets refl, are.within two (looks.within two c)));
+      stays = looks.is_later ∙ ap (λ l. old.next ++ l) none_later ∙ append-nil old.next;
+      settled = λ e o left rest under. (
+        subst (λ l. AreUnderWay d pass s o l (rest ++ all_plain looks.here) new) (sym (append-nil left)) (record {
+          fields = moved (PlainBelow d) (Together pass s) (Agree pass s) (PlainStarts d o)
+              (λ x y. IsLeft d (plain_sets sets ∷ left) x y ⊎ IsLooked d old.looked x y) (λ x y. IsLeft d left x y ⊎ IsLooked d new.looked x y) (StandIn old.lists) (StandIn new.lists)
+              (stand_more old.lists new.lists lists_stay) (λ f g h t. left_on sets left left old new stand_paired looks.keeps (λ l c. c) f g h)
+              (λ f g h. inl (h.0, (subst (λ (k : List (List PlainField)). Contains k h.0) looks.lists h.1.0, h.1.1))) under.fields;
+          sets = λ vs c. all_more old.expanded old new lists_stay looks.keeps under.sets vs (subst (λ (k : List (List PlainSet)). Contains k vs) looks.expanded c);
+          pairs = pairs_on rest (rest ++ all_plain looks.here) old new lists_stay looks.keeps
+              (known_or_open looks.here old.looked new.looked (rest ++ all_plain looks.here) (λ l c. Contains-append_right rest (all_plain looks.here) l c)
+              (λ known c. elim (looks.fresh known c) [
+                | inl was ↦ inl was
+                | inr more ↦ inr (subst (λ (l : List Sets). HasSame l known) (ap (λ l. looks.here ++ l) none_later ∙ append-nil looks.here) more)
+              ]))
+              (λ a b h. open_more rest (rest ++ all_plain looks.here) (λ l c. Contains-append_left rest (all_plain looks.here) l c) a b h) under.pairs;
+        }),
+        all_of_one sets new stand_paired,
+      );
     }
 
   -- ---- lists, one after the other
@@ -433,7 +557,12 @@ module _ (pass : Pass) (s : Judged) (d : MeantDocument Place) where
     right = λ fault c. not_in_nil fault c;
     under = λ vs c. not_in_nil vs c;
     more = λ l c. c;
-    settled = λ e o left under. (subst (λ l. AreUnderWay d pass s o l old) (sym (append-nil left)) under, λ vs c. not_in_nil vs c);
+    looks = λ l c. c;
+    here = [];
+    is_here = sym (append-nil old.here);
+    within = λ two c. not_in_nil two c;
+    stays = refl;
+    settled = λ e o left twos under. (none_more_left o left twos old under, λ vs c. not_in_nil vs c);
   }
 
   lists_more : (lists others : List Sets) (old mid new : Kept) (added more : List (Broken Place)) (next below : List Sets)
@@ -448,15 +577,25 @@ module _ (pass : Pass) (s : Judged) (d : MeantDocument Place) where
       | inr b ↦ let u = then'.under l b in (u.0, (Contains-append_right lists others u.0 u.1.0, u.1.1))
     ];
     more = λ l c. then'.more l (first.more l c);
-    settled = λ e o left under.
-        let begin : AreUnderWay d pass s o (all_plain lists ++ (all_plain others ++ left)) old =
-        subst (λ l. AreUnderWay d pass s o l old) (ap (λ l. l ++ left) (map-append plain_sets lists others) ∙ append_assoc (all_plain lists) (all_plain others) left) under in
-        let half = first.settled (left_empty added more e) o (all_plain others ++ left) begin in
-        let last = then'.settled (right_empty added more e) o (left ++ all_plain next)
-        (subst (λ l. AreUnderWay d pass s o l mid) (append_assoc (all_plain others) left (all_plain next)) half.0) in (
-          subst (λ l. AreUnderWay d pass s o l new) (append_assoc left (all_plain next) (all_plain below) ∙ ap (λ l. left ++ l) (sym (map-append plain_sets next below))) last.0,
+    looks = λ l c. then'.looks l (first.looks l c);
+    here = first.here ++ then'.here;
+    is_here = then'.is_here ∙ ap (λ l. l ++ then'.here) first.is_here ∙ append_assoc old.here first.here then'.here;
+    within = λ two c. elim (Contains-append_cases first.here then'.here two c) [
+      | inl a ↦ let u = first.within two a in (u.0, (Contains-append_left lists others u.0 u.1.0, u.1.1))
+      | inr b ↦ let u = then'.within two b in (u.0, (Contains-append_right lists others u.0 u.1.0, u.1.1))
+    ];
+    stays = then'.stays ∙ first.stays;
+    settled = λ e o left twos under.
+        let begin : AreUnderWay d pass s o (all_plain lists ++ (all_plain others ++ left)) twos old =
+        subst (λ l. AreUnderWay d pass s o l twos old) (ap (λ l. l ++ left) (map-append plain_sets lists others) ∙ append_assoc (all_plain lists) (all_plain others) left) under in
+        let half = first.settled (left_empty added more e) o (all_plain others ++ left) twos begin in
+        let last = then'.settled (right_empty added more e) o (left ++ all_plain next) (twos ++ all_plain first.here)
+        (subst (λ l. AreUnderWay d pass s o l (twos ++ all_plain first.here) mid) (append_assoc (all_plain others) left (all_plain next)) half.0) in (
+          subst (λ t. AreUnderWay d pass s o (left ++ all_plain (next ++ below)) t new) (append_assoc twos (all_plain first.here) (all_plain then'.here) ∙ ap (λ l. twos ++ l) (sym (map-append plain_sets first.here then'.here)))
+              (subst (λ l. AreUnderWay d pass s o l ((twos ++ all_plain first.here) ++ all_plain then'.here) new)
+              (append_assoc left (all_plain next) (all_plain below) ∙ ap (λ l. left ++ l) (sym (map-append plain_sets next below))) last.0),
           λ vs c. elim (Contains-append_cases (all_plain lists) (all_plain others) vs (subst (λ l. Contains l vs) (map-append plain_sets lists others) c)) [
-            | inl a ↦ λ x y i j. stand_more mid.lists new.lists then'.more x y (half.1 vs a x y i j)
+            | inl a ↦ λ x y i j. now_more mid new then'.more then'.looks x y (half.1 vs a x y i j)
             | inr b ↦ last.1 vs b
           ],
         );
@@ -496,25 +635,13 @@ module _ (pass : Pass) (s : Judged) (d : MeantDocument Place) where
       → SetsTold told later old new next last (sets ∷ [])
   fields_told sets list old mid new told later next last is merged (same, so) =
       let r = so sets old.expanded merged in
-      let known : with_sets old.expanded new ≡ new = λ i. record { lists = new.lists; expanded = sym (same ∙ ap (λ (k : Kept). k.expanded) is) i } in
+      let known : with_sets old.expanded new ≡ new = λ i. record new { expanded = sym (same ∙ ap (λ (k : Kept). k.expanded) is) i } in
       subst (λ (k : Kept). SetsTold told later old k next last (sets ∷ [])) known (subst (λ (k : Kept). SetsTold told later k (with_sets old.expanded new) next last (sets ∷ [])) (ap (with_sets old.expanded) is) r)
 
-  -- after the sets were remembered
-  pub whole_told : (sets : Sets) (kept : List PlainSet) (list : List FieldSelection) (old mid new : Kept) (told later : List (Broken Place)) (next last : List Sets)
-      → HaveSame kept (plain_sets sets) → mid ≡ record { lists = old.lists; expanded = old.expanded ++ kept ∷ [] } → IsMergedIn d sets list
-      → (new.expanded ≡ mid.expanded) × ((vs : Sets) (looked : List (List PlainSet)) → IsMergedIn d vs list → SetsTold told later (with_sets looked mid) (with_sets looked new) next last (vs ∷ []))
-      → SetsTold told later old new next last (sets ∷ [])
-  whole_told sets kept list old mid new told later next last looks is merged (same, so) =
-      let r = subst (λ (k : Kept). SetsTold told later k (with_sets old.expanded new) next last (sets ∷ [])) (ap (with_sets old.expanded) is) (so sets old.expanded merged) in
-      told_so told later old new next last (sets ∷ []) (sets ∷ []) old (with_sets old.expanded new)
-      (λ added below h. then_looked sets kept (sets ∷ []) old (with_sets old.expanded new) new added below (Contains-first sets [] sets refl) looks h
-      (λ i. record { lists = new.lists; expanded = (same ∙ ap (λ (k : Kept). k.expanded) is) i })) r
-
-  -- two by two
-  pub twos_told : (sets : Sets) (old mid new : Kept) (told later : List (Broken Place)) (next last : List Sets) → mid ≡ old → (twos : List Sets) → AreTwosOf sets twos
-      → SetsTold told later mid new next last twos → SetsTold told later old new next last (sets ∷ [])
-  twos_told sets old mid new told later next last is twos are h =
-      subst (λ (k : Kept). SetsTold told later k new next last (sets ∷ [])) is (told_so told later mid new next last twos (sets ∷ []) mid new (λ added below k. by_twos sets twos are mid new added below k) h)
+  -- as pairs
+  pub pairs_told : (sets : Sets) (old mid new : Kept) (told : List (Broken Place)) (next : List Sets) → mid ≡ old → LooksAtTwos sets mid new → SetsTold told told old new next next (sets ∷ [])
+  pairs_told sets old mid new told next is (twos, (are, looks)) =
+      subst (λ (k : Kept). SetsTold told told k new next next (sets ∷ [])) is ([], ([], (sym (append-nil told), (sym (append-nil next), as_pairs sets twos are mid new looks))))
 
   -- before they are remembered
   pub looked_then : (sets : Sets) (old mid new : Kept) (is_new : Bool) (told later : List (Broken Place)) (next last : List Sets) → Expands mid (plain_sets sets) is_new new
@@ -534,134 +661,3 @@ module _ (pass : Pass) (s : Judged) (d : MeantDocument Place) where
   pub some_here : (lists : List Sets) (sets : Sets) (list : List FieldSelection) → Contains lists sets → IsMergedIn d sets list → (x : FieldSelection) × Contains list x → HaveFields d true lists
   some_here lists sets list there merged (x, c) = (sets, (there, (field_of x, merged.within (field_of x) (contains_map field_of list x c))))
 
-  -- ---- levels
-
-  module _ (o : MeantOperation Place) where
-    -- fields that sets select
-    abbrev IsWithin : Sets → List (StandingField Place) → Type 0
-    IsWithin sets list = (x : StandingField Place) → Contains list x → IsSelected d sets x
-
-    -- chains of this length lead to what each list of a level selects
-    pub record AtLevel (k : ℕ) (level : List Sets) : Type 0 where
-      pub going : (sets : Sets) → Contains level sets → (list : List (StandingField Place)) → IsWithin sets list → IsGoing (ContentBelow d) (ContentStarts d o) (Together pass s) list
-      pub ends : (sets : Sets) → Contains level sets → (list : List (StandingField Place)) → IsWithin sets list → IsEndOf (ContentBelow d) (ContentStarts d o) k list
-
-    below_of : (group list : List (StandingField Place)) (sets : Sets) → AreOf group sets → IsWithin sets list → (x : StandingField Place) → Contains list x → (f : StandingField Place) × (Contains group f × ContentBelow d f x)
-    below_of group list sets of within x c =
-        let v = within x c in
-        let f = of v.0 v.1.0 in
-        (f.0, (f.1.0, subst (λ w. IsIn d w x) (sym f.1.1) v.1.1))
-
-    level_next : (k : ℕ) (level : List Sets) (old new : Kept) (added : List (Broken Place)) (next : List Sets)
-        → AtLevel k level → SetsExamined pass s d level old new added next → AtLevel (k + 1) next
-    level_next k level old new added next at h = record {
-      going = λ sets c list within.
-          let u = h.under sets c in
-          let group = u.1.1.0 in
-          let together = u.1.1.1.0 in
-          going_below (ContentBelow d) (ContentStarts d o) (Together pass s) group group list (at.going u.0 u.1.0 group (λ f a. (together f f a a).0))
-          (λ f g a b. (a, (together f g a b).1)) (below_of group list sets u.1.1.1.1 within);
-      ends = λ sets c list within.
-          let u = h.under sets c in
-          let group = u.1.1.0 in
-          end_below (ContentBelow d) (ContentStarts d o) k group list (at.ends u.0 u.1.0 group (λ f a. (u.1.1.1.0 f f a a).0)) (below_of group list sets u.1.1.1.1 within);
-    }
-
-    breaks : (p : Pass) (list : List (StandingField Place)) (f g : StandingField Place) (fault : Broken Place) → IsGoing (ContentBelow d) (ContentStarts d o) (Together p s) list
-        → Contains list f → Contains list g → Together p s f g → Conflict p s fault f g → MergingBreaks s d o fault
-    breaks Shapes list f g fault going a b t (differ, is) = subst (MergingBreaks s d o) (sym is) ((going_breaks s d o list f g a b).0 going t differ)
-    breaks Selections list f g fault going a b t (inl (differ, is)) = subst (MergingBreaks s d o) (sym is) ((going_breaks s d o list f g a b).1.0 going t differ)
-    breaks Selections list f g fault going a b t (inr (n, (differ, is))) = subst (MergingBreaks s d o) (sym is) ((going_breaks s d o list f g a b).1.1 going t n differ)
-
-    -- as far as levels were examined
-    pub record SoFar (start now : Kept) (length : ℕ) (added : List (Broken Place)) (level : List Sets) : Type 0 where
-      pub at : AtLevel (length + 1) level
-      pub right : (fault : Broken Place) → Contains added fault → MergingBreaks s d o fault
-      pub settled : added ≡ [] → AreSettled d pass s start → AreUnderWay d pass s o (all_plain level) now
-
-    -- what starts is what the first set selects
-    starting : (start : MeantSet Place) → o.set ≡ start → (sets : Sets) → Contains ((start ∷ []) ∷ []) sets → (x : StandingField Place) → IsSelected d sets x → ContentStarts d o x
-    starting start is sets c x h =
-        let v = subst (λ (l : Sets). Contains l h.0) (only (start ∷ []) sets c) h.1.0 in
-        subst (λ w. IsIn d w x) (only start h.0 v ∙ sym is) h.1.1
-
-    start_left : (start : MeantSet Place) → o.set ≡ start → StartsStand (Together pass s) (PlainStarts d o) (IsLeft d (all_plain ((start ∷ []) ∷ [])))
-    start_left start is f g a b t = (plain_sets (start ∷ []), (Contains-first (plain_sets (start ∷ [])) [] (plain_sets (start ∷ [])) refl, (selects f a, selects g b)))
-      where
-        selects : (y : PlainField) → PlainStarts d o y → PlainSelected d (plain_sets (start ∷ [])) y
-        selects y p = (unplaced_set o.set, (Contains-first (unplaced_set start) [] (unplaced_set o.set) (sym (ap unplaced_set is)), p))
-
-    pub first_level : (start : MeantSet Place) (old : Kept) → o.set ≡ start → SoFar old old 0 [] ((start ∷ []) ∷ [])
-    first_level start old is = record {
-      at = record {
-        going = λ sets c list within. going_start (ContentBelow d) (ContentStarts d o) (Together pass s) list (λ f a. starting start is sets c f (within f a));
-        ends = λ sets c list within. end_start (ContentBelow d) (ContentStarts d o) list (λ f a. starting start is sets c f (within f a));
-      };
-      right = λ fault c. not_in_nil fault c;
-      settled = λ e ok. record {
-        fields = begun (PlainBelow d) (Together pass s) (Agree pass s) (PlainStarts d o) (IsLeft d (all_plain ((start ∷ []) ∷ []))) (StandIn old.lists) (start_left start is) ok.fields;
-        sets = ok.sets;
-      };
-    }
-
-    within_two : (sets : Sets) (f g : StandingField Place) → IsSelected d sets f → IsSelected d sets g → IsWithin sets (f ∷ g ∷ [])
-    within_two sets f g a b x c = elim (Contains-cons f (g ∷ []) x c) [
-      | inl e ↦ subst (IsSelected d sets) e a
-      | inr r ↦ subst (IsSelected d sets) (sym (only g x r)) b
-    ]
-
-    next_level : (start old new : Kept) (length : ℕ) (added more : List (Broken Place)) (level next : List Sets)
-        → SoFar start old length added level → SetsExamined pass s d level old new more next → SoFar start new (length + 1) (added ++ more) next
-    next_level start old new length added more level next so_far h = record {
-      at = level_next (length + 1) level old new more next so_far.at h;
-      right = λ fault c. elim (Contains-append_cases added more fault c) [
-        | inl a ↦ so_far.right fault a
-        | inr b ↦
-            let t = h.right fault b in
-            let f = t.1.1.0 in
-            let g = t.1.1.1.0 in
-            breaks pass (f ∷ g ∷ []) f g fault (so_far.at.going t.0 t.1.0 (f ∷ g ∷ []) (within_two t.0 f g t.1.1.1.1.0 t.1.1.1.1.1.0))
-            (Contains-first f (g ∷ []) f refl) (Contains-rest f (g ∷ []) g (Contains-first g [] g refl)) t.1.1.1.1.1.1.0 t.1.1.1.1.1.1.1
-      ];
-      settled = λ e ok.
-          (h.settled (right_empty added more e) o []
-          (subst (λ l. AreUnderWay d pass s o l old) (sym (append-nil (all_plain level))) (so_far.settled (left_empty added more e) ok))).0;
-    }
-
-    pub level_step : (told mid later : List (Broken Place)) (start old new : Kept) (length : ℕ) (level next : List Sets)
-        → ((added : List (Broken Place)) × ((mid ≡ told ++ added) × SoFar start old length added level))
-        → ((added : List (Broken Place)) × ((below : List Sets) × ((later ≡ mid ++ added) × ((next ≡ [] ++ below) × SetsExamined pass s d level old new added below))))
-        → (added : List (Broken Place)) × ((later ≡ told ++ added) × SoFar start new (length + 1) added next)
-    level_step told mid later start old new length level next (a, (is, so_far)) (b, (m, (is_too, (lies, here)))) = (
-      a ++ b,
-      (
-        is_too ∙ ap (λ l. l ++ b) is ∙ append_assoc told a b,
-        subst (SoFar start new (length + 1) (a ++ b)) (sym lies) (next_level start old new length a b level m so_far here),
-      ),
-    )
-
-    -- where no list of sets selects a field, none is left to look at
-    none_left : (level : List Sets) → HaveFields d false level → (x y : PlainField) → IsLeft d (all_plain level) x y → ⊥
-    none_left level none x y h =
-        let sets = contains_unmap plain_sets level h.0 h.1.0 in
-        let e = selected_plain d sets.0 x (subst (λ (l : List PlainSet). PlainSelected d l x) (sym sets.1.1) h.1.1.0) in
-        none sets.0 sets.1.0 e.0 e.1.0
-
-    pub no_more_levels : (start now : Kept) (length : ℕ) (added : List (Broken Place)) (level : List Sets) (left : Bool)
-        → SoFar start now length added level → HaveFields d left level → ((sets : Sets) → Contains level sets → chain_bound ≤ length) → AllExamined pass s d o start now added left
-    no_more_levels start now length added level true so_far some long = record {
-      right = so_far.right;
-      settled = λ e is. absurd (true≢false is);
-      bound = λ is.
-          let x = some.1.1.0 in
-          let within : IsWithin some.0 (x ∷ []) = λ y c. subst (IsSelected d some.0) (sym (only x y c)) some.1.1.1 in
-          bound_passed d o (length + 1) (x ∷ []) x (so_far.at.ends some.0 some.1.0 (x ∷ []) within) (Contains-first x [] x refl) (omega (arith, long some.0 some.1.0));
-    }
-    no_more_levels start now length added level false so_far none long = record {
-      right = so_far.right;
-      settled = λ e is ok.
-          let under = so_far.settled e ok in
-          let all = ended (PlainBelow d) (Together pass s) (Agree pass s) (PlainStarts d o) (IsLeft d (all_plain level)) (StandIn now.lists) (none_left level none) under.fields in
-          (record { fields = all.0; sets = under.sets }, all.1);
-      bound = λ is. absurd (true≢false (sym is));
-    }

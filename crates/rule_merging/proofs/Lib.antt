@@ -1,10 +1,11 @@
 pub mod Bare
 pub mod Examining
+pub mod Levels
+pub mod Looking
+pub mod Pairing
+pub mod PairStep
 pub mod Remembering
 pub mod Counting
 pub mod Operating
 pub mod Behind
 pub mod Conflicts
-pub mod Pairing
-pub mod PairDone
-pub mod TwoDone

@@ -1,318 +1,326 @@
--- Pairs of sets that are looked at.
-use Rattle.std.proofs.Common.{◌≡◌, ◌⊎◌, ◌∙◌, ℕ, ◌+◌, ◌<◌, Bool, true, false, ◌&&◌, ◌||◌, not, if◌then◌else◌, nat_eq, true≢false, List, [], ◌∷◌, ◌++◌, length, take, get_or, Option, Some, Contains, refl, sym, ap, subst, length-append, arith, inl, inr}
-use Rattle.std.specs.Prelude.{slice_get}
-use Rattle.std.specs.List.{list_any}
-use Rattle.indexmap.specs.IndexSet.{insert_key}
-use Rattle.std.proofs.lemmas.Bool.Decides.{Decides-eqb}
-use Rattle.schema_components.proofs.Places.{Contains-rest}
+-- Fields of two sets that are looked at together: two by two they are compared, and the sets below them looked at.
+use Rattle.std.proofs.Common.{◌≡◌, ◌⊎◌, ◌∙◌, ℕ, ◌+◌, ◌<◌, None, List, [], ◌∷◌, ◌++◌, map, take, length, get_or, Contains, refl, sym, ap, subst, append_assoc, append-nil, inl, inr}
+use Rattle.std.specs.Prelude.{Option, Some, option_map}
+use Rattle.std.specs.List.Sorted.{IsPermutation}
 use Rattle.std.proofs.lemmas.List.Elements.{Contains-append_left, Contains-append_right, Contains-append_cases}
-use Rattle.rule_definitions.proofs.Lists.{not_in_nil, only, Contains-cons, Contains-first}
-use Rattle.std.proofs.lemmas.List.{take_more}
-use Rattle.rule_cycle_search.proofs.Lists.{index_given, mapped_some}
-use Rattle.std.proofs.lemmas.Option.{slice_get-get_or, slice_get_within}
-use Rattle.rule_number_lists.proofs.Standing.{in_map, of_map}
 use Rattle.graphql_names.specs.Placed.{Place}
-use Rattle.schema_components.specs.Names.{Entries}
-use Rattle.document_meaning.specs.MeantTree.{MeantSet, MeantFragment}
-use Rattle.rule_field_sets.specs.Nodes.{meant_at, set_of, AreNodes}
-use Rattle.rule_field_sets.specs.Own.{spread_sets}
-use Rattle.rule_field_sets.specs.declared.node.SetNode.{SetNode}
-use Rattle.rule_merging.specs.declared.pairs.Pair.{Pair}
-use Rattle.rule_merging.specs.Pairs.{Numbers, IsOf, HasNumbers, Notes, State, TwoNodes, IsPairOf, IsNumbered, Looks, no_two, are_at, each_with, spread_with, itself, both_of, below_two}
+use Rattle.schema_components.proofs.Places.{Contains-rest}
+use Rattle.rule_definitions.proofs.Lists.{not_in_nil, only, Contains-cons, Contains-first}
+use Rattle.document_meaning.specs.MeantTree.{MeantSet, MeantDocument, meant_set, no_meant, meant_then}
+use Rattle.document_meaning.specs.Unplaced.{unplaced_set, unplaced_document}
+use Rattle.rule_definitions.specs.Judged.{Judged}
+use Rattle.rule_document_definitions.specs.DocumentFaults.{Broken}
+use Rattle.rule_document_definitions.specs.Selected.{InOperation, StandingField}
+use Rattle.rule_document_definitions.specs.Groups.{AgreeWithHead}
+use Rattle.rule_document_definitions.specs.Contents.{ContentBelow, unplaced_content}
+use Rattle.rule_document_definitions.proofs.Unplaced.{contains_unmap}
+use Rattle.rule_field_groups.specs.in_ground.Fields.{field_of, fields_of, content_of}
+use Rattle.rule_field_groups.specs.in_ground.declared.field_selection.FieldSelection.{FieldSelection}
+use Rattle.rule_field_groups.specs.declared.pass.Pass.{Pass}
+use Rattle.rule_field_groups.specs.Passes.{Together, Agree, Conflict, TellsGroup}
+use Rattle.rule_field_groups.specs.Below.{contents_of, plain_sets}
+use Rattle.rule_field_groups.proofs.Lists.{taken_more}
+use Rattle.rule_number_lists.specs.NumberLists.{HaveSame}
+use Rattle.rule_number_lists.proofs.Standing.{same_order, same_trans, same_sym}
+use Rattle.rule_merging_laws.specs.Contents.{PlainField, PlainSet, PlainBelow}
+use Rattle.rule_merging_laws.specs.Settled.{StandIn}
+use Rattle.rule_merging_laws.proofs.SettledFacts.{by_head}
+use Rattle.rule_field_sets.specs.Own.{filled}
+use Rattle.rule_field_sets.specs.Laws.{HasField}
+use Rattle.rule_merging.specs.Remembered.{Kept, HasLooked}
+use Rattle.rule_merging.specs.Examined.{Sets, AreOf, AreLookedAt, IsLooked}
+use Rattle.rule_merging.specs.Pairs.{HasSame, Looks, itself, both, twos_below}
+use Rattle.rule_merging.specs.Twos.{TwoFields, are_two, are_of, IsListOf, both_of, GoTogether, TellsOfTwo, IsFresh, FieldsPaired}
+use Rattle.rule_merging.proofs.Bare.{bare_selects}
+use Rattle.rule_merging.proofs.Examining.{left_empty, right_empty, in_last, agree_sym, agree_trans, agree_down, together_up, stand_more, is_looked_more, HasMore, none_in, swapped}
 
-last_in : {X : Type 0} (xs : List X) (x : X) → Contains (xs ++ x ∷ []) x
-last_in xs x = Contains-append_right xs (x ∷ []) x (Contains-first x [] x refl)
+module _ (pass : Pass) (s : Judged) (d : MeantDocument Place) where
+  -- what was fresh stays so
+  fresh_more : (old new : List (List PlainSet)) → HasMore old new → (list : List PlainField) → IsFresh pass s d old list → IsFresh pass s d new list
+  fresh_more old new more list fresh x y a b t = let f = fresh x y a b t in (f.0, λ u v p q. is_looked_more pass s d old new more u v (f.1 u v p q))
 
-longer : {X : Type 0} (xs : List X) (x : X) → length (xs ++ x ∷ []) ≡ length xs + 1
-longer xs x = length-append xs (x ∷ [])
+  -- ---- several, one after the other
 
--- what `==` answers for two numbers
-abbrev same_numbers : Numbers → Numbers → Bool
-same_numbers x y = nat_eq x.0 y.0 && nat_eq x.1 y.1
+  pub paired_none : (Wanted : TwoFields) → ((p q : FieldSelection) → GoTogether pass s d Wanted p q → ⊥) → (old new : Kept) → new ≡ old → FieldsPaired pass s d Wanted old new []
+  paired_none Wanted none old new is = subst (λ (k : Kept). FieldsPaired pass s d Wanted old k []) (sym is) (record {
+    right = λ fault c. not_in_nil fault c;
+    expanded = refl;
+    here = refl;
+    later = [];
+    is_later = sym (append-nil old.next);
+    under = λ two c. not_in_nil two c;
+    more = λ l c. c;
+    keeps = λ k c. c;
+    fresh = λ k c. inl c;
+    stand = λ p q w. absurd (none p q w);
+    agree = λ e l c. inl c;
+  })
 
-equal_numbers : (x y : Numbers) → same_numbers x y ≡ true → x ≡ y
-equal_numbers x y e = by (nat_eq x.0 y.0) refl e
-  where
-    by : (b : Bool) → nat_eq x.0 y.0 ≡ b → (b && nat_eq x.1 y.1) ≡ true → x ≡ y
-    by true i h = λ j. ((Decides-eqb x.0 y.0).0 i j, (Decides-eqb x.1 y.1).0 h j)
-    by false i h = absurd (true≢false (sym h))
+  -- said otherwise
+  pub paired_as : (W W' : TwoFields) → ((p q : FieldSelection) → W p q → W' p q) → ((p q : FieldSelection) → W' p q → W p q) → (old new : Kept) (added : List (Broken Place))
+      → FieldsPaired pass s d W old new added → FieldsPaired pass s d W' old new added
+  paired_as W W' to back old new added h = record {
+    right = λ fault c. let t = h.right fault c in (t.0, (t.1.0, ((to t.0 t.1.0 t.1.1.0.0, t.1.1.0.1), t.1.1.1)));
+    expanded = h.expanded;
+    here = h.here;
+    later = h.later;
+    is_later = h.is_later;
+    under = λ two c. let u = h.under two c in (u.0, (u.1.0, ((to u.0 u.1.0 u.1.1.0.0, u.1.1.0.1), u.1.1.1)));
+    more = h.more;
+    keeps = h.keeps;
+    fresh = h.fresh;
+    stand = λ p q w. h.stand p q (back p q w.0, w.1);
+    agree = h.agree;
+  }
 
-any_among : {X : Type 0} (test : X → Bool) (xs : List X) → list_any test xs ≡ true → (y : X) × (Contains xs y × (test y ≡ true))
-any_among test [] e = absurd (true≢false (sym e))
-any_among {X} test (x ∷ xs) e = by (test x) refl e (any_among test xs)
-  where
-    by : (b : Bool) → test x ≡ b → (b || list_any test xs) ≡ true → (list_any test xs ≡ true → (y : X) × (Contains xs y × (test y ≡ true))) → (y : X) × (Contains (x ∷ xs) y × (test y ≡ true))
-    by true i h rest = (x, (Contains-first x xs x refl, i))
-    by false i h rest = let r = rest h in (r.0, (Contains-rest x xs r.0 r.1.0, r.1.1))
+  pub paired_both : (W W' : TwoFields) (old mid new : Kept) (added more : List (Broken Place)) → FieldsPaired pass s d W old mid added → FieldsPaired pass s d W' mid new more
+      → FieldsPaired pass s d (λ p q. W p q ⊎ W' p q) old new (added ++ more)
+  paired_both W W' old mid new added more first then' = record {
+    right = λ fault c. elim (Contains-append_cases added more fault c) [
+      | inl a ↦ let t = first.right fault a in (t.0, (t.1.0, ((inl t.1.1.0.0, t.1.1.0.1), t.1.1.1)))
+      | inr b ↦ let t = then'.right fault b in (t.0, (t.1.0, ((inr t.1.1.0.0, t.1.1.0.1), t.1.1.1)))
+    ];
+    expanded = then'.expanded ∙ first.expanded;
+    here = then'.here ∙ first.here;
+    later = first.later ++ then'.later;
+    is_later = then'.is_later ∙ ap (λ l. l ++ then'.later) first.is_later ∙ append_assoc old.next first.later then'.later;
+    under = λ two c. elim (Contains-append_cases first.later then'.later two c) [
+      | inl a ↦ let u = first.under two a in (u.0, (u.1.0, ((inl u.1.1.0.0, u.1.1.0.1), u.1.1.1)))
+      | inr b ↦ let u = then'.under two b in (u.0, (u.1.0, ((inr u.1.1.0.0, u.1.1.0.1), u.1.1.1)))
+    ];
+    more = λ l c. then'.more l (first.more l c);
+    keeps = λ k c. then'.keeps k (first.keeps k c);
+    fresh = λ k c. elim (then'.fresh k c) [
+      | inl was ↦ elim (first.fresh k was) [
+        | inl before ↦ inl before
+        | inr (two, (there, same)) ↦ inr (two, (Contains-append_left first.later then'.later two there, same))
+      ]
+      | inr (two, (there, same)) ↦ inr (two, (Contains-append_right first.later then'.later two there, same))
+    ];
+    stand = λ p q w. elim w.0 [
+      | inl v ↦ stand_more pass s d mid.lists new.lists then'.more (content_of p) (content_of q) (first.stand p q (v, w.1))
+      | inr v ↦ then'.stand p q (v, w.1)
+    ];
+    agree = λ e l c. elim (then'.agree (right_empty added more e) l c) [
+      | inl was ↦ elim (first.agree (left_empty added more e) l was) [
+        | inl before ↦ inl before
+        | inr fresh ↦ inr (fresh_more mid.looked new.looked then'.keeps l fresh)
+      ]
+      | inr fresh ↦ inr fresh
+    ];
+  }
 
--- what is inserted is noted
-pub notes_of : (old new : List Numbers) (m n : ℕ) (k : Numbers) (is_new : Bool) → IsOf m n k → is_new ≡ not (list_any (same_numbers k) old) → new ≡ insert_key same_numbers old k → Notes old m n is_new new
-notes_of old new m n k is_new of e is = by (list_any (same_numbers k) old) refl is_new e
-  where
-    there : (y : Numbers) → Contains old y → k ≡ y → HasNumbers old m n
-    there y c same = elim of [
-      | inl i ↦ inl (subst (Contains old) (sym same ∙ i) c)
-      | inr i ↦ inr (subst (Contains old) (sym same ∙ i) c)
+  -- the same of breaches as they stand before and after
+  abbrev pub PairedTold : TwoFields → Kept → Kept → List (Broken Place) → List (Broken Place) → Type 0
+  PairedTold Wanted old new told later = (added : List (Broken Place)) × ((later ≡ told ++ added) × FieldsPaired pass s d Wanted old new added)
+
+  pub told_none : (Wanted : TwoFields) → ((p q : FieldSelection) → GoTogether pass s d Wanted p q → ⊥) → (old new : Kept) (told : List (Broken Place)) → new ≡ old → PairedTold Wanted old new told told
+  told_none Wanted none old new told is = ([], (sym (append-nil told), paired_none Wanted none old new is))
+
+  pub told_both : (W W' W'' : TwoFields) → ((p q : FieldSelection) → W p q ⊎ W' p q → W'' p q) → ((p q : FieldSelection) → W'' p q → W p q ⊎ W' p q) → (old mid new : Kept) (told half later : List (Broken Place))
+      → PairedTold W old mid told half → PairedTold W' mid new half later → PairedTold W'' old new told later
+  told_both W W' W'' to back old mid new told half later (a, (is, first)) (b, (is_too, then')) = (
+    a ++ b,
+    (is_too ∙ ap (λ l. l ++ b) is ∙ append_assoc told a b, paired_as (λ p q. W p q ⊎ W' p q) W'' to back old new (a ++ b) (paired_both W W' old mid new a b first then')),
+  )
+
+  -- ---- two fields
+
+  module _ (one other : FieldSelection) where
+    -- the list has both, and no more
+    pub has_one : (list : List FieldSelection) → IsListOf one other list → Contains (contents_of list) (content_of one)
+    has_one list (inl (e, is)) = subst (λ (l : List FieldSelection). Contains (contents_of l) (content_of one)) (sym is) (Contains-first (content_of one) [] (content_of one) refl)
+    has_one list (inr (e, is)) = subst (λ (l : List FieldSelection). Contains (contents_of l) (content_of one)) (sym is) (Contains-first (content_of one) (content_of other ∷ []) (content_of one) refl)
+
+    pub has_other : (list : List FieldSelection) → IsListOf one other list → Contains (contents_of list) (content_of other)
+    has_other list (inl (e, is)) = subst (λ (l : List FieldSelection). Contains (contents_of l) (content_of other)) (sym is) (Contains-first (content_of one) [] (content_of other) e)
+    has_other list (inr (e, is)) =
+        subst (λ (l : List FieldSelection). Contains (contents_of l) (content_of other)) (sym is) (Contains-rest (content_of one) (content_of other ∷ []) (content_of other) (Contains-first (content_of other) [] (content_of other) refl))
+
+    no_more : (list : List FieldSelection) → IsListOf one other list → (f : StandingField Place) → Contains (fields_of list) f → Contains (both_of one other) f
+    no_more list (inl (e, is)) f c = Contains-first (field_of one) (field_of other ∷ []) f (sym (only (field_of one) f (subst (λ (l : List FieldSelection). Contains (fields_of l) f) is c)))
+    no_more list (inr (e, is)) f c = subst (λ (l : List FieldSelection). Contains (fields_of l) f) is c
+
+    -- both, of a list that is known
+    pub two_known : (list : List FieldSelection) → IsListOf one other list → (known : List PlainField) → HaveSame known (contents_of list) → (lists : List (List PlainField)) → Contains lists known
+        → StandIn lists (content_of one) (content_of other)
+    two_known list two known same lists there = (known, (there, ((same (content_of one)).1 (has_one list two), (same (content_of other)).1 (has_other list two))))
+
+    these : (lists : List (List PlainField)) → StandIn lists (content_of one) (content_of other) → (p q : FieldSelection) → GoTogether pass s d (are_two one other) p q → StandIn lists (content_of p) (content_of q)
+    these lists stand p q ((is, is_too), t) = subst (λ (x : FieldSelection). StandIn lists (content_of x) (content_of q)) (sym is) (subst (λ (y : FieldSelection). StandIn lists (content_of one) (content_of y)) (sym is_too) stand)
+
+    -- that were compared before
+    pub paired_known : (list : List FieldSelection) → IsListOf one other list → (known : List PlainField) → HaveSame known (contents_of list) → (old new : Kept) (told : List (Broken Place)) → Contains old.lists known → new ≡ old
+        → PairedTold (are_two one other) old new told told
+    paired_known list two known same old new told there is = ([], (sym (append-nil told), subst (λ (k : Kept). FieldsPaired pass s d (are_two one other) old k []) (sym is) (record {
+      right = λ fault c. not_in_nil fault c;
+      expanded = refl;
+      here = refl;
+      later = [];
+      is_later = sym (append-nil old.next);
+      under = λ t c. not_in_nil t c;
+      more = λ l c. c;
+      keeps = λ k c. c;
+      fresh = λ k c. inl c;
+      stand = these old.lists (two_known list two known same old.lists there);
+      agree = λ e l c. inl c;
+    })))
+
+    -- that do not go together
+    pub paired_apart : (old : Kept) (told : List (Broken Place)) → (Together pass s (field_of one) (field_of other) → ⊥) → PairedTold (are_two one other) old old told told
+    paired_apart old told apart =
+        told_none (are_two one other) (λ p q w. apart (subst (λ (x : FieldSelection). Together pass s (field_of x) (field_of other)) w.0.0 (subst (λ (y : FieldSelection). Together pass s (field_of p) (field_of y)) w.0.1 w.1))) old old told refl
+
+    -- ---- that are compared now
+
+    abbrev below : FieldSelection → Option (MeantSet Place)
+    below x = filled (field_of x).set
+
+    -- what is looked at below them is of sets of theirs
+    is_filled : (v w : MeantSet Place) → filled v ≡ Some w → v ≡ w
+    is_filled (meant_set t no_meant) w e = cc
+    is_filled (meant_set t (meant_then m ms)) w e = cc
+
+    itself_of : (f : StandingField Place) (o : Option (MeantSet Place)) → filled f.set ≡ o → (two : Sets) → Contains (itself o) two → (v : MeantSet Place) → Contains two v → f.set ≡ v
+    itself_of f None e two c v k = not_in_nil two c
+    itself_of f (Some w) e two c v k =
+        let same = only (w ∷ w ∷ []) two c in
+        is_filled f.set w e ∙ elim (Contains-cons w (w ∷ []) v (subst (λ (l : Sets). Contains l v) same k)) [ inl i ↦ i | inr r ↦ sym (only w v r) ]
+
+    both_parts : (f g : StandingField Place) (o q : Option (MeantSet Place)) → filled f.set ≡ o → filled g.set ≡ q → (two : Sets) → Contains (both o q) two → (v : MeantSet Place) → Contains two v → (f.set ≡ v) ⊎ (g.set ≡ v)
+    both_parts f g None None e i two c v k = not_in_nil two c
+    both_parts f g None (Some w) e i two c v k = not_in_nil two c
+    both_parts f g (Some w) None e i two c v k = not_in_nil two c
+    both_parts f g (Some w) (Some u) e i two c v k =
+        let same = only (w ∷ u ∷ []) two c in
+        elim (Contains-cons w (u ∷ []) v (subst (λ (l : Sets). Contains l v) same k)) [ inl j ↦ inl (is_filled f.set w e ∙ j) | inr r ↦ inr (is_filled g.set u i ∙ sym (only u v r)) ]
+
+    first_of : Contains (both_of one other) (field_of one)
+    first_of = Contains-first (field_of one) (field_of other ∷ []) (field_of one) refl
+
+    last_of : Contains (both_of one other) (field_of other)
+    last_of = Contains-rest (field_of one) (field_of other ∷ []) (field_of other) (Contains-first (field_of other) [] (field_of other) refl)
+
+    below_of_both : (two : Sets) → Contains (twos_below (below one) (below other)) two → AreOf (both_of one other) two
+    below_of_both two c v k = elim (Contains-append_cases (itself (below one)) (itself (below other) ++ both (below one) (below other)) two c) [
+      | inl a ↦ (field_of one, (first_of, itself_of (field_of one) (below one) refl two a v k))
+      | inr b ↦ elim (Contains-append_cases (itself (below other)) (both (below one) (below other)) two b) [
+        | inl a ↦ (field_of other, (last_of, itself_of (field_of other) (below other) refl two a v k))
+        | inr a ↦ elim (both_parts (field_of one) (field_of other) (below one) (below other) refl refl two a v k) [
+          | inl e ↦ (field_of one, (first_of, e))
+          | inr e ↦ (field_of other, (last_of, e))
+        ]
+      ]
     ]
 
-    by : (b : Bool) → list_any (same_numbers k) old ≡ b → (r : Bool) → r ≡ not b → Notes old m n r new
-    by true i true h = absurd (true≢false h)
-    by true i false h = let y = any_among (same_numbers k) old i in (there y.0 y.1.0 (equal_numbers k y.0 y.1.1), is ∙ ap (λ b. if b then old else old ++ k ∷ []) i)
-    by false i true h = (k, (of, is ∙ ap (λ b. if b then old else old ++ k ∷ []) i))
-    by false i false h = absurd (true≢false (sym h))
+    module _ (looked : List (List PlainSet)) (has : (two : Sets) → Contains (twos_below (below one) (below other)) two → HasLooked looked (plain_sets two)) where
+      -- where a field is below, the set has selections
+      is_there : (v : MeantSet Place) (u : PlainField) → HasField (unplaced_document d) (InOperation None) (unplaced_set v) u → filled v ≡ Some v
+      is_there (meant_set t no_meant) u h = absurd (bare_selects (unplaced_document d) (unplaced_set (meant_set t no_meant)) tt u h)
+      is_there (meant_set t (meant_then m ms)) u h = refl
 
--- numbers of a pair that stand last
-noted : (old : List Numbers) (m n : ℕ) (k : Numbers) → IsOf m n k → HasNumbers (old ++ k ∷ []) m n
-noted old m n k (inl e) = inl (subst (λ p. Contains (old ++ k ∷ []) p) e (last_in old k))
-noted old m n k (inr e) = inr (subst (λ p. Contains (old ++ k ∷ []) p) e (last_in old k))
+      in_itself : (o : Option (MeantSet Place)) (v : MeantSet Place) → o ≡ Some v → Contains (itself o) (v ∷ v ∷ [])
+      in_itself o v e = subst (λ (p : Option (MeantSet Place)). Contains (itself p) (v ∷ v ∷ [])) (sym e) (Contains-first (v ∷ v ∷ []) [] (v ∷ v ∷ []) refl)
 
-module _ (nodes : List SetNode) where
-  numbered_more : (left later : List Pair) (k : Numbers) → ((p : Pair) → Contains left p → Contains later p) → IsNumbered nodes left k → IsNumbered nodes later k
-  numbered_more left later k on (p, (c, is)) = (p, (on p c, is))
+      in_pair : (o q : Option (MeantSet Place)) (v w : MeantSet Place) → o ≡ Some v → q ≡ Some w → Contains (both o q) (v ∷ w ∷ [])
+      in_pair o q v w e i =
+          subst (λ (p : Option (MeantSet Place)). Contains (both p q) (v ∷ w ∷ [])) (sym e) (subst (λ (p : Option (MeantSet Place)). Contains (both (Some v) p) (v ∷ w ∷ [])) (sym i) (Contains-first (v ∷ w ∷ []) [] (v ∷ w ∷ []) refl))
 
-  -- nothing is looked at
-  pub looks_none : (old : State) → Looks nodes no_two no_two old old
-  looks_none old = record {
-    keys = λ k c. c;
-    here = λ p c. c;
-    next = λ p c. c;
-    wanted_here = λ p c. inl c;
-    wanted_next = λ p c. inl c;
-    fresh = λ k c. inl c;
-    has = λ a b w. elim w [ inl n ↦ absurd n | inr n ↦ absurd n ];
-    count = refl;
-  }
+      abbrev SetOf : FieldSelection → MeantSet Place
+      SetOf x = (field_of x).set
 
-  -- what is looked at, said otherwise
-  pub looks_as : (H N H' N' : TwoNodes) (old new : State) → ((a b : SetNode) → H a b → H' a b) → ((a b : SetNode) → H' a b → H a b) → ((a b : SetNode) → N a b → N' a b) → ((a b : SetNode) → N' a b → N a b)
-      → Looks nodes H N old new → Looks nodes H' N' old new
-  looks_as H N H' N' old new h h' n n' l = record {
-    keys = l.keys;
-    here = l.here;
-    next = l.next;
-    wanted_here = λ p c. elim (l.wanted_here p c) [ inl o ↦ inl o | inr (a, (b, (at, (to, w)))) ↦ inr (a, (b, (at, (to, h a b w)))) ];
-    wanted_next = λ p c. elim (l.wanted_next p c) [ inl o ↦ inl o | inr (a, (b, (at, (to, w)))) ↦ inr (a, (b, (at, (to, n a b w)))) ];
-    fresh = l.fresh;
-    has = λ a b w. l.has a b (elim w [ inl v ↦ inl (h' a b v) | inr v ↦ inr (n' a b v) ]);
-    count = l.count;
-  }
-
-  -- one after the other
-  pub looks_both : (H N H' N' : TwoNodes) (old mid new : State) → Looks nodes H N old mid → Looks nodes H' N' mid new
-      → Looks nodes (λ a b. H a b ⊎ H' a b) (λ a b. N a b ⊎ N' a b) old new
-  looks_both H N H' N' old mid new first then' = record {
-    keys = λ k c. then'.keys k (first.keys k c);
-    here = λ p c. then'.here p (first.here p c);
-    next = λ p c. then'.next p (first.next p c);
-    wanted_here = λ p c. elim (then'.wanted_here p c) [
-      | inl o ↦ elim (first.wanted_here p o) [ inl i ↦ inl i | inr (a, (b, (at, (to, w)))) ↦ inr (a, (b, (at, (to, inl w)))) ]
-      | inr (a, (b, (at, (to, w)))) ↦ inr (a, (b, (at, (to, inr w))))
-    ];
-    wanted_next = λ p c. elim (then'.wanted_next p c) [
-      | inl o ↦ elim (first.wanted_next p o) [ inl i ↦ inl i | inr (a, (b, (at, (to, w)))) ↦ inr (a, (b, (at, (to, inl w)))) ]
-      | inr (a, (b, (at, (to, w)))) ↦ inr (a, (b, (at, (to, inr w))))
-    ];
-    fresh = λ k c. elim (then'.fresh k c) [
-      | inl o ↦ elim (first.fresh k o) [
-        | inl i ↦ inl i
-        | inr (inl i) ↦ inr (inl (numbered_more mid.here new.here k then'.here i))
-        | inr (inr i) ↦ inr (inr (numbered_more mid.next new.next k then'.next i))
+      -- any two of the sets below them are looked at, where both have fields
+      looked_of : (f g : StandingField Place) → Contains (both_of one other) f → Contains (both_of one other) g → (u v : PlainField)
+          → HasField (unplaced_document d) (InOperation None) (unplaced_set f.set) u → HasField (unplaced_document d) (InOperation None) (unplaced_set g.set) v → IsLooked d looked u v
+      looked_of f g a b u v p q = elim (Contains-cons (field_of one) (field_of other ∷ []) f a) [
+        | inl e ↦ elim (Contains-cons (field_of one) (field_of other ∷ []) g b) [
+          | inl i ↦ at f g u v p q (looks_one f g e i u p)
+          | inr j ↦ at f g u v p q (looks_two f g e (sym (only (field_of other) g j)) u v p q)
+        ]
+        | inr c ↦ elim (Contains-cons (field_of one) (field_of other ∷ []) g b) [
+          | inl i ↦ at f g u v p q (turned g f (looks_two g f i (sym (only (field_of other) f c)) v u q p))
+          | inr j ↦ at f g u v p q (looks_other f g (sym (only (field_of other) f c)) (sym (only (field_of other) g j)) u p)
+        ]
       ]
-      | inr i ↦ inr i
-    ];
-    has = λ a b w. elim w [
-      | inl (inl v) ↦ kept a b (first.has a b (inl v))
-      | inl (inr v) ↦ then'.has a b (inl v)
-      | inr (inl v) ↦ kept a b (first.has a b (inr v))
-      | inr (inr v) ↦ then'.has a b (inr v)
-    ];
-    count = omega (arith, first.count, then'.count);
-  }
-    where
-      kept : (a b : SetNode) → HasNumbers mid.keys a.number b.number → HasNumbers new.keys a.number b.number
-      kept a b (inl c) = inl (then'.keys (a.number, b.number) c)
-      kept a b (inr c) = inr (then'.keys (b.number, a.number) c)
+        where
+          at : (f g : StandingField Place) (u v : PlainField) → HasField (unplaced_document d) (InOperation None) (unplaced_set f.set) u → HasField (unplaced_document d) (InOperation None) (unplaced_set g.set) v
+              → AreLookedAt looked (unplaced_set f.set) (unplaced_set g.set) → IsLooked d looked u v
+          at f g u v p q h = (unplaced_set f.set, (unplaced_set g.set, (h, (p, q))))
 
-  -- the pair at two places
-  module _ (i j : ℕ) (a b : SetNode) (at : slice_get nodes i ≡ Some a) (to : slice_get nodes j ≡ Some b) where
-    abbrev pair : Pair
-    pair = record { one = i; other = j }
+          turned : (f g : StandingField Place) → AreLookedAt looked (unplaced_set f.set) (unplaced_set g.set) → AreLookedAt looked (unplaced_set g.set) (unplaced_set f.set)
+          turned f g (known, (there, same)) = (known, (there, same_trans known (unplaced_set f.set ∷ unplaced_set g.set ∷ []) (unplaced_set g.set ∷ unplaced_set f.set ∷ []) same (swapped (unplaced_set f.set) (unplaced_set g.set))))
 
-    same_two : (x y : SetNode) → are_at nodes i j x y → (a ≡ x) × (b ≡ y)
-    same_two x y (p, q) = (is_some_of a x (sym at ∙ p), is_some_of b y (sym to ∙ q))
-      where
-        is_some_of : (u v : SetNode) → Some u ≡ Some v → u ≡ v
-        is_some_of u v e = cc
+          looks_one : (f g : StandingField Place) → field_of one ≡ f → field_of one ≡ g → (u : PlainField) → HasField (unplaced_document d) (InOperation None) (unplaced_set f.set) u → AreLookedAt looked (unplaced_set f.set) (unplaced_set g.set)
+          looks_one f g e i u p =
+              let there = is_there (SetOf one) u (subst (λ (x : StandingField Place). HasField (unplaced_document d) (InOperation None) (unplaced_set x.set) u) (sym e) p) in
+              subst (λ (x : StandingField Place). AreLookedAt looked (unplaced_set x.set) (unplaced_set g.set)) e (subst (λ (x : StandingField Place). AreLookedAt looked (unplaced_set (SetOf one)) (unplaced_set x.set)) i
+              (has (SetOf one ∷ SetOf one ∷ []) (Contains-append_left (itself (below one)) (itself (below other) ++ both (below one) (below other)) (SetOf one ∷ SetOf one ∷ []) (in_itself (below one) (SetOf one) there))))
 
-    has_two : (keys : List Numbers) → HasNumbers keys a.number b.number → (x y : SetNode) → are_at nodes i j x y → HasNumbers keys x.number y.number
-    has_two keys h x y is = let e = same_two x y is in subst (λ (u : SetNode). HasNumbers keys u.number y.number) e.0 (subst (λ (v : SetNode). HasNumbers keys a.number v.number) e.1 h)
+          looks_other : (f g : StandingField Place) → field_of other ≡ f → field_of other ≡ g → (u : PlainField) → HasField (unplaced_document d) (InOperation None) (unplaced_set f.set) u → AreLookedAt looked (unplaced_set f.set) (unplaced_set g.set)
+          looks_other f g e i u p =
+              let there = is_there (SetOf other) u (subst (λ (x : StandingField Place). HasField (unplaced_document d) (InOperation None) (unplaced_set x.set) u) (sym e) p) in
+              let two = SetOf other ∷ SetOf other ∷ [] in
+              subst (λ (x : StandingField Place). AreLookedAt looked (unplaced_set x.set) (unplaced_set g.set)) e (subst (λ (x : StandingField Place). AreLookedAt looked (unplaced_set (SetOf other)) (unplaced_set x.set)) i
+              (has two (Contains-append_right (itself (below one)) (itself (below other) ++ both (below one) (below other)) two
+              (Contains-append_left (itself (below other)) (both (below one) (below other)) two (in_itself (below other) (SetOf other) there)))))
 
-    -- it was looked at
-    pub known_here : (old : State) → HasNumbers old.keys a.number b.number → Looks nodes (are_at nodes i j) no_two old old
-    known_here old h = record {
-      keys = λ k c. c;
-      here = λ p c. c;
-      next = λ p c. c;
-      wanted_here = λ p c. inl c;
-      wanted_next = λ p c. inl c;
-      fresh = λ k c. inl c;
-      has = λ x y w. elim w [ inl is ↦ has_two old.keys h x y is | inr n ↦ absurd n ];
-      count = refl;
-    }
+          looks_two : (f g : StandingField Place) → field_of one ≡ f → field_of other ≡ g → (u v : PlainField) → HasField (unplaced_document d) (InOperation None) (unplaced_set f.set) u → HasField (unplaced_document d) (InOperation None) (unplaced_set g.set) v
+              → AreLookedAt looked (unplaced_set f.set) (unplaced_set g.set)
+          looks_two f g e i u v p q =
+              let there = is_there (SetOf one) u (subst (λ (x : StandingField Place). HasField (unplaced_document d) (InOperation None) (unplaced_set x.set) u) (sym e) p) in
+              let too = is_there (SetOf other) v (subst (λ (x : StandingField Place). HasField (unplaced_document d) (InOperation None) (unplaced_set x.set) v) (sym i) q) in
+              let two = SetOf one ∷ SetOf other ∷ [] in
+              subst (λ (x : StandingField Place). AreLookedAt looked (unplaced_set x.set) (unplaced_set g.set)) e (subst (λ (x : StandingField Place). AreLookedAt looked (unplaced_set (SetOf one)) (unplaced_set x.set)) i
+              (has two (Contains-append_right (itself (below one)) (itself (below other) ++ both (below one) (below other)) two
+              (Contains-append_right (itself (below other)) (both (below one) (below other)) two (in_pair (below one) (below other) (SetOf one) (SetOf other) there too)))))
 
-    pub known_next : (old : State) → HasNumbers old.keys a.number b.number → Looks nodes no_two (are_at nodes i j) old old
-    known_next old h = record {
-      keys = λ k c. c;
-      here = λ p c. c;
-      next = λ p c. c;
-      wanted_here = λ p c. inl c;
-      wanted_next = λ p c. inl c;
-      fresh = λ k c. inl c;
-      has = λ x y w. elim w [ inl n ↦ absurd n | inr is ↦ has_two old.keys h x y is ];
-      count = refl;
-    }
+      -- so a list of them is fresh, where nothing is told of it
+      list_fresh : (list : List FieldSelection) → IsListOf one other list → (kept : List PlainField) → HaveSame (contents_of list) kept → AgreeWithHead (Agree pass s) (fields_of list) → IsFresh pass s d looked kept
+      list_fresh list two kept same agree x y a b t =
+          let f = contains_unmap unplaced_content (fields_of list) x ((same x).1 a) in
+          let g = contains_unmap unplaced_content (fields_of list) y ((same y).1 b) in (
+            subst (λ (v : PlainField). Agree pass s v y) f.1.1 (subst (Agree pass s (unplaced_content f.0)) g.1.1
+                (agree_down pass s f.0 g.0 (by_head (ContentBelow d) (Together pass s) (Agree pass s) (agree_sym pass s) (agree_trans pass s) (fields_of list) f.0 g.0 agree f.1.0 g.1.0))),
+            λ u v p q. looked_of f.0 g.0 (no_more list two f.0 f.1.0) (no_more list two g.0 g.1.0) u v
+                (subst (λ (z : PlainField). PlainBelow d z u) (sym f.1.1) p) (subst (λ (z : PlainField). PlainBelow d z v) (sym g.1.1) q),
+          )
 
-    -- it is new
-    pub new_here : (old : State) (k : Numbers) → IsOf a.number b.number k
-        → Looks nodes (are_at nodes i j) no_two old (record { keys = old.keys ++ k ∷ []; here = old.here ++ pair ∷ []; next = old.next })
-    new_here old k is = record {
-      keys = λ m c. Contains-append_left old.keys (k ∷ []) m c;
-      here = λ p c. Contains-append_left old.here (pair ∷ []) p c;
-      next = λ p c. c;
-      wanted_here = λ p c. elim (Contains-append_cases old.here (pair ∷ []) p c) [
-        | inl o ↦ inl o
-        | inr l ↦ inr (a, (b, (subst (λ (q : Pair). slice_get nodes q.one ≡ Some a) (sym (only pair p l)) at, (subst (λ (q : Pair). slice_get nodes q.other ≡ Some b) (sym (only pair p l)) to, (at, to)))))
-      ];
-      wanted_next = λ p c. inl c;
-      fresh = λ m c. elim (Contains-append_cases old.keys (k ∷ []) m c) [
-        | inl o ↦ inl o
-        | inr l ↦ inr (inl (pair, (last_in old.here pair, (a, (b, (at, (to, subst (IsOf a.number b.number) (sym (only k m l)) is)))))))
-      ];
-      has = λ x y w. elim w [ inl v ↦ has_two (old.keys ++ k ∷ []) (noted old.keys a.number b.number k is) x y v | inr n ↦ absurd n ];
-      count = omega (arith, longer old.keys k, longer old.here pair);
-    }
+    -- a list of them is remembered and compared, and the sets below them are looked at
+    pub paired_now : (list : List FieldSelection) → IsListOf one other list → (kept : List PlainField) → IsPermutation (contents_of list) kept → Together pass s (field_of one) (field_of other)
+        → (old mid new : Kept) (told later added : List (Broken Place)) → mid ≡ record old { lists = old.lists ++ kept ∷ [] } → later ≡ told ++ added → TellsGroup pass s (fields_of list) added
+        → Looks [] (twos_below (below one) (below other)) mid new → PairedTold (are_two one other) old new told later
+    paired_now list two kept order t old mid new told later added is tells_so tells looks =
+        let same = same_order (contents_of list) kept order in
+        let lists : new.lists ≡ old.lists ++ kept ∷ [] = looks.lists ∙ ap (λ (k : Kept). k.lists) is in
+        let looked : mid.looked ≡ old.looked = ap (λ (k : Kept). k.looked) is in
+        let none : looks.here ≡ [] = none_in looks.here looks.within in
+        let has : (t : Sets) → Contains (twos_below (below one) (below other)) t → HasLooked new.looked (plain_sets t) = λ t c. looks.has t c in
+        (added, (tells_so, record {
+          right = λ fault c.
+              let r = tells.right fault c in
+              (one, (other, (((refl, refl), t), (r.0, (r.1.0, (no_more list two r.0 r.1.1.0, (no_more list two r.1.0 r.1.1.1.0, r.1.1.1.1)))))));
+          expanded = looks.expanded ∙ ap (λ (k : Kept). k.expanded) is;
+          here = looks.is_here ∙ ap (λ l. mid.here ++ l) none ∙ append-nil mid.here ∙ ap (λ (k : Kept). k.here) is;
+          later = looks.later;
+          is_later = looks.is_later ∙ ap (λ l. l ++ looks.later) (ap (λ (k : Kept). k.next) is);
+          under = λ u c. (one, (other, (((refl, refl), t), below_of_both u (looks.under u c))));
+          more = λ l c. subst (λ (ls : List (List PlainField)). Contains ls l) (sym lists) (Contains-append_left old.lists (kept ∷ []) l c);
+          keeps = λ k c. looks.keeps k (subst (λ (ls : List (List PlainSet)). Contains ls k) (sym looked) c);
+          fresh = λ k c. elim (looks.fresh k c) [
+            | inl was ↦ inl (subst (λ (ls : List (List PlainSet)). Contains ls k) looked was)
+            | inr more ↦ inr (subst (λ (l : List Sets). HasSame (l ++ looks.later) k) none more)
+          ];
+          stand = these new.lists (kept, (subst (λ (ls : List (List PlainField)). Contains ls kept) (sym lists) (in_last old.lists kept), ((same (content_of one)).0 (has_one list two), (same (content_of other)).0 (has_other list two))));
+          agree = λ e l c. elim (Contains-append_cases old.lists (kept ∷ []) l (subst (λ (ls : List (List PlainField)). Contains ls l) lists c)) [
+            | inl a ↦ inl a
+            | inr b ↦ inr (subst (IsFresh pass s d new.looked) (sym (only kept l b)) (list_fresh new.looked has list two kept same (tells.agree e)))
+          ];
+        }))
 
-    pub new_next : (old : State) (k : Numbers) → IsOf a.number b.number k
-        → Looks nodes no_two (are_at nodes i j) old (record { keys = old.keys ++ k ∷ []; here = old.here; next = old.next ++ pair ∷ [] })
-    new_next old k is = record {
-      keys = λ m c. Contains-append_left old.keys (k ∷ []) m c;
-      here = λ p c. c;
-      next = λ p c. Contains-append_left old.next (pair ∷ []) p c;
-      wanted_here = λ p c. inl c;
-      wanted_next = λ p c. elim (Contains-append_cases old.next (pair ∷ []) p c) [
-        | inl o ↦ inl o
-        | inr l ↦ inr (a, (b, (subst (λ (q : Pair). slice_get nodes q.one ≡ Some a) (sym (only pair p l)) at, (subst (λ (q : Pair). slice_get nodes q.other ≡ Some b) (sym (only pair p l)) to, (at, to)))))
-      ];
-      fresh = λ m c. elim (Contains-append_cases old.keys (k ∷ []) m c) [
-        | inl o ↦ inl o
-        | inr l ↦ inr (inr (pair, (last_in old.next pair, (a, (b, (at, (to, subst (IsOf a.number b.number) (sym (only k m l)) is)))))))
-      ];
-      has = λ x y w. elim w [ inl n ↦ absurd n | inr v ↦ has_two (old.keys ++ k ∷ []) (noted old.keys a.number b.number k is) x y v ];
-      count = omega (arith, longer old.keys k, longer old.next pair);
-    }
+-- fields of lists, one more
+pub front_of : (xs : List FieldSelection) (i : ℕ) (x : FieldSelection) → i < length xs → x ≡ get_or xs i x → (p : FieldSelection) → Contains (take (i + 1) xs) p → Contains (take i xs) p ⊎ (p ≡ x)
+front_of xs i x h e p c = elim (Contains-append_cases (take i xs) (x ∷ []) p (subst (λ (l : List FieldSelection). Contains l p) (taken_more xs i x h e) c)) [ inl a ↦ inl a | inr b ↦ inr (only x p b) ]
 
-    -- as the program finds them
-    pub here_new : (old : State) (keys : List Numbers) (here next : List Pair) → Notes old.keys a.number b.number true keys → here ≡ old.here ++ pair ∷ [] → next ≡ old.next
-        → Looks nodes (are_at nodes i j) no_two old (record { keys = keys; here = here; next = next })
-    here_new old keys here next n h e =
-        let now : record { keys = old.keys ++ n.0 ∷ []; here = old.here ++ pair ∷ []; next = old.next } ≡ record { keys = keys; here = here; next = next } = λ k. record { keys = sym n.1.1 k; here = sym h k; next = sym e k } in
-        subst (Looks nodes (are_at nodes i j) no_two old) now (new_here old n.0 n.1.0)
-
-    pub here_known : (old : State) (keys : List Numbers) (here next : List Pair) → Notes old.keys a.number b.number false keys → here ≡ old.here → next ≡ old.next
-        → Looks nodes (are_at nodes i j) no_two old (record { keys = keys; here = here; next = next })
-    here_known old keys here next n h e =
-        let now : old ≡ record { keys = keys; here = here; next = next } = λ k. record { keys = sym n.1 k; here = sym h k; next = sym e k } in
-        subst (Looks nodes (are_at nodes i j) no_two old) now (known_here old n.0)
-
-    pub next_new : (old : State) (keys : List Numbers) (here next : List Pair) → Notes old.keys a.number b.number true keys → here ≡ old.here → next ≡ old.next ++ pair ∷ []
-        → Looks nodes no_two (are_at nodes i j) old (record { keys = keys; here = here; next = next })
-    next_new old keys here next n h e =
-        let now : record { keys = old.keys ++ n.0 ∷ []; here = old.here; next = old.next ++ pair ∷ [] } ≡ record { keys = keys; here = here; next = next } = λ k. record { keys = sym n.1.1 k; here = sym h k; next = sym e k } in
-        subst (Looks nodes no_two (are_at nodes i j) old) now (new_next old n.0 n.1.0)
-
-    pub next_known : (old : State) (keys : List Numbers) (here next : List Pair) → Notes old.keys a.number b.number false keys → here ≡ old.here → next ≡ old.next
-        → Looks nodes no_two (are_at nodes i j) old (record { keys = keys; here = here; next = next })
-    next_known old keys here next n h e =
-        let now : old ≡ record { keys = keys; here = here; next = next } = λ k. record { keys = sym n.1 k; here = sym h k; next = sym e k } in
-        subst (Looks nodes no_two (are_at nodes i j) old) now (known_next old n.0)
-
-  -- ---- several
-
-  at_place : (ats : List ℕ) (n : ℕ) → n < length ats → Contains ats (get_or ats n 0)
-  at_place ats n h = index_given ats n (get_or ats n 0) (slice_get-get_or ats n 0 h)
-
-  -- what holds of all places holds of this one
-  pub place_so : (P : ℕ → Type 0) (ats : List ℕ) (n : ℕ) → ((k : ℕ) → Contains ats k → P k) → n < length ats → P (get_or ats n 0)
-  place_so P ats n all h = all (get_or ats n 0) (at_place ats n h)
-
-  -- one more of some places
-  pub each_more : (ats : List ℕ) (n other : ℕ) (old mid new : State) → n < length ats
-      → Looks nodes (each_with nodes (take n ats) other) no_two old mid → Looks nodes (are_at nodes (get_or ats n 0) other) no_two mid new
-      → Looks nodes (each_with nodes (take (n + 1) ats) other) no_two old new
-  each_more ats n other old mid new h so_far here =
-      let at : ℕ = get_or ats n 0 in
-      let front : take (n + 1) ats ≡ take n ats ++ at ∷ [] = take_more ats n 0 h in
-      looks_as (λ a b. each_with nodes (take n ats) other a b ⊎ are_at nodes at other a b) (λ a b. no_two a b ⊎ no_two a b) (each_with nodes (take (n + 1) ats) other) no_two old new
-      (λ a b w. elim w [
-        | inl (k, (c, two)) ↦ (k, (subst (λ l. Contains l k) (sym front) (Contains-append_left (take n ats) (at ∷ []) k c), two))
-        | inr two ↦ (at, (subst (λ l. Contains l at) (sym front) (last_in (take n ats) at), two))
-      ])
-      (λ a b w. elim (Contains-append_cases (take n ats) (at ∷ []) w.0 (subst (λ l. Contains l w.0) front w.1.0)) [
-        | inl c ↦ inl (w.0, (c, w.1.1))
-        | inr l ↦ inr (subst (λ k. are_at nodes k other a b) (only at w.0 l) w.1.1)
-      ])
-      (λ a b w. elim w [ inl v ↦ v | inr v ↦ v ])
-      (λ a b w. inl w)
-      (looks_both (each_with nodes (take n ats) other) no_two (are_at nodes at other) no_two old mid new so_far here)
-
-  -- of no places
-  pub each_none : (other : ℕ) (old : State) → Looks nodes (each_with nodes [] other) no_two old old
-  each_none other old = looks_as no_two no_two (each_with nodes [] other) no_two old old (λ a b w. absurd w) (λ a b w. not_in_nil w.0 w.1.0) (λ a b w. w) (λ a b w. w) (looks_none old)
-
-  -- ---- what nodes spread
-
-  -- what a node leads to is there
-  pub spread_within : (fragments : Entries (MeantFragment Place)) → AreNodes fragments nodes → (i : ℕ) (n : SetNode) → slice_get nodes i ≡ Some n → (k : ℕ) → Contains n.spreads.items k → k < length nodes
-  spread_within fragments are i n at k c =
-      let there = subst (λ l. Contains l (set_of nodes k)) (are.each n (index_given nodes i n at)).spreads (in_map (set_of nodes) n.spreads.items k c) in
-      let s = of_map (λ (v : MeantSet Place). Some v) (spread_sets fragments (meant_at n)) (set_of nodes k) there in
-      let m = mapped_some meant_at (slice_get nodes k) s.0 (sym s.1.1) in
-      slice_get_within nodes k m.0 m.1.0
-
-  same_node : (u v : SetNode) → Some u ≡ Some v → u ≡ v
-  same_node u v e = cc
-
-  pub spreads_told : (one other : ℕ) (n : SetNode) (ats : List ℕ) (old new : State) → slice_get nodes one ≡ Some n → ats ≡ n.spreads.items
-      → Looks nodes (each_with nodes ats other) no_two old new → Looks nodes (spread_with nodes one other) no_two old new
-  spreads_told one other n ats old new at is = looks_as (each_with nodes ats other) no_two (spread_with nodes one other) no_two old new
-      (λ a b w. (n, (at, subst (λ l. each_with nodes l other a b) is w)))
-      (λ a b w. subst (λ l. each_with nodes l other a b) (sym is) (subst (λ (m : SetNode). each_with nodes m.spreads.items other a b) (same_node w.0 n (sym w.1.0 ∙ at)) w.1.1))
-      (λ a b w. w) (λ a b w. w)
-
-  -- ---- what lies below
-
-  pub itself_none : (at : Option ℕ) (old : State) → ((k : ℕ) → at ≡ Some k → ⊥) → Looks nodes no_two (itself nodes at) old old
-  itself_none at old none = looks_as no_two no_two no_two (itself nodes at) old old (λ a b w. w) (λ a b w. w) (λ a b w. absurd w) (λ a b w. none w.0 w.1.0) (looks_none old)
-
-  same_place : (j k : ℕ) → Some j ≡ Some k → j ≡ k
-  same_place j k e = cc
-
-  pub itself_some : (at : Option ℕ) (k : ℕ) (old new : State) → at ≡ Some k → Looks nodes no_two (are_at nodes k k) old new → Looks nodes no_two (itself nodes at) old new
-  itself_some at k old new is = looks_as no_two (are_at nodes k k) no_two (itself nodes at) old new (λ a b w. w) (λ a b w. w) (λ a b w. (k, (is, w)))
-      (λ a b w. subst (λ j. are_at nodes j j a b) (same_place w.0 k (sym w.1.0 ∙ is)) w.1.1)
-
-  pub both_none : (one other : Option ℕ) (old : State) → ((j k : ℕ) → one ≡ Some j → other ≡ Some k → ⊥) → Looks nodes no_two (both_of nodes one other) old old
-  both_none one other old none = looks_as no_two no_two no_two (both_of nodes one other) old old (λ a b w. w) (λ a b w. w) (λ a b w. absurd w) (λ a b w. none w.0 w.1.0 w.1.1.0 w.1.1.1.0) (looks_none old)
-
-  pub both_some : (one other : Option ℕ) (j k : ℕ) (old new : State) → one ≡ Some j → other ≡ Some k → Looks nodes no_two (are_at nodes j k) old new → Looks nodes no_two (both_of nodes one other) old new
-  both_some one other j k old new is to = looks_as no_two (are_at nodes j k) no_two (both_of nodes one other) old new (λ a b w. w) (λ a b w. w) (λ a b w. (j, (k, (is, (to, w)))))
-      (λ a b w. subst (λ i. are_at nodes i k a b) (same_place w.0 j (sym w.1.1.0 ∙ is)) (subst (λ i. are_at nodes w.0 i a b) (same_place w.1.0 k (sym w.1.1.1.0 ∙ to)) w.1.1.1.1))
-
-  -- each with itself, and the two
-  pub below_told : (one other : Option ℕ) (old mid half new : State) → Looks nodes no_two (itself nodes one) old mid → Looks nodes no_two (itself nodes other) mid half → Looks nodes no_two (both_of nodes one other) half new
-      → Looks nodes no_two (below_two nodes one other) old new
-  below_told one other old mid half new first then' last =
-      looks_as (λ a b. no_two a b ⊎ (no_two a b ⊎ no_two a b)) (λ a b. itself nodes one a b ⊎ (itself nodes other a b ⊎ both_of nodes one other a b)) no_two (below_two nodes one other) old new
-      (λ a b w. elim w [ inl v ↦ v | inr v ↦ elim v [ inl u ↦ u | inr u ↦ u ] ]) (λ a b w. inl w) (λ a b w. w) (λ a b w. w)
-      (looks_both no_two (itself nodes one) (λ a b. no_two a b ⊎ no_two a b) (λ a b. itself nodes other a b ⊎ both_of nodes one other a b) old mid new first
-      (looks_both no_two (itself nodes other) no_two (both_of nodes one other) mid half new then' last))
+pub of_front : (xs : List FieldSelection) (i : ℕ) (x : FieldSelection) → i < length xs → x ≡ get_or xs i x → (p : FieldSelection) → Contains (take i xs) p ⊎ (p ≡ x) → Contains (take (i + 1) xs) p
+of_front xs i x h e p (inl a) = subst (λ (l : List FieldSelection). Contains l p) (sym (taken_more xs i x h e)) (Contains-append_left (take i xs) (x ∷ []) p a)
+of_front xs i x h e p (inr b) = subst (λ (l : List FieldSelection). Contains l p) (sym (taken_more xs i x h e)) (Contains-append_right (take i xs) (x ∷ []) p (Contains-first x [] p (sym b)))

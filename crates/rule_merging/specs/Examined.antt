@@ -26,6 +26,7 @@ use Rattle.rule_field_groups.specs.Passes.{Together, Agree, Conflict, TellsGroup
 use Rattle.rule_field_groups.specs.Grouped.{lists_of}
 use Rattle.rule_field_groups.specs.Below.{contents_of, meant_sets, plain_sets, IsMergedIn, IsBare}
 use Rattle.rule_field_groups.specs.declared.pass.Pass.{Pass}
+use Rattle.rule_number_lists.specs.NumberLists.{HaveSame}
 use Rattle.rule_merging.specs.Remembered.{Kept, HasLooked, remembered, kept_of}
 use Rattle.rule_merging.specs.Counted.{AreLast, AreListed, Grows}
 use Rattle.rule_merging.specs.declared.remembered.Remembered.{Remembered}
@@ -133,6 +134,11 @@ module _ (d : MeantDocument Place) where
   abbrev pub HaveFields : Bool → List Sets → Type 0
   HaveFields true lists = (sets : Sets) × (Contains lists sets × ((x : StandingField Place) × IsSelected d sets x))
   HaveFields false lists = (sets : Sets) → Contains lists sets → (x : StandingField Place) → IsSelected d sets x → ⊥
+
+  -- whether fields are left: one of the lists selects one, or one of the pairs does; if not, no pair selects two
+  abbrev pub AreLeft : Bool → List Sets → List Sets → Type 0
+  AreLeft true lists pairs = HaveFields true (lists ++ pairs)
+  AreLeft false lists pairs = HaveFields false lists × ((two : Sets) → Contains pairs two → (a b : PlainSet) → HaveSame (plain_sets two) (a ∷ b ∷ []) → SelectNoTwo a b)
 
 module _ (pass : Pass) (s : Judged) (d : MeantDocument Place) where
   -- ---- a group
@@ -263,13 +269,10 @@ abbrev pub ExaminesSets : Examination → List Sets → Kept → Kept → Breach
 ExaminesSets e lists examined examined' old new next next' = (added : List (Broken Place)) × ((below : List Sets) × ((brokens_of new ≡ brokens_of old ++ added) × ((next' ≡ next ++ below)
     × SetsExamined e.pass (schema_of e) (document_of e) lists examined examined' added below)))
 
--- lists by which any two of these sets are examined together
+-- lists of these sets, and any two of them are one of the lists
 pub record AreTwosOf (sets : Sets) (twos : List Sets) : Type 0 where
   pub within : (two : Sets) → Contains twos two → (v : MeantSet Place) → Contains two v → Contains sets v
-  pub covers : (v w : MeantSet Place) → Contains sets v → Contains sets w → (two : Sets) × (Contains twos two × (Contains two v × Contains two w))
-
-abbrev pub ExaminesTwos : Examination → Sets → Kept → Kept → Breaches → Breaches → List Sets → List Sets → Type 0
-ExaminesTwos e sets examined examined' old new next next' = (twos : List Sets) × (AreTwosOf sets twos × ExaminesSets e twos examined examined' old new next next')
+  pub covers : (v w : MeantSet Place) → Contains sets v → Contains sets w → (two : Sets) × (Contains twos two × HaveSame two (v ∷ w ∷ []))
 
 -- whichever sets select the fields, and whichever were looked at
 abbrev pub with_sets : List (List PlainSet) → Kept → Kept

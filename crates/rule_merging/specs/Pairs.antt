@@ -26,6 +26,10 @@ pub record Looks (wanted wanted_later : List Sets) (old new : Kept) : Type 0 whe
   pub fresh : (known : List PlainSet) → Contains new.looked known → Contains old.looked known ⊎ HasSame (here ++ later) known
   pub has : (two : Sets) → Contains (wanted ++ wanted_later) two → HasLooked new.looked (plain_sets two)
 
+-- pairs are looked at of which any two of these sets are one
+abbrev pub LooksAtTwos : Sets → Kept → Kept → Type 0
+LooksAtTwos sets old new = (twos : List Sets) × (AreTwosOf sets twos × Looks twos [] old new)
+
 -- each of these sets with the other
 abbrev pub each_with : Sets → MeantSet Place → List Sets
 each_with sets v = map (λ w. w ∷ v ∷ []) sets

@@ -1,14 +1,14 @@
 //! The examination of lists, level by level.
-ghost use Rattle.std.specs.Prelude.{◌≡◌, ◌≤◌, ◌+◌, ◌++◌, ◌∷◌, [], map, IfOk, OnOk};
+ghost use Rattle.std.specs.Prelude.{◌≡◌, ◌≤◌, ◌+◌, ◌++◌, ◌∷◌, [], false, map, IfOk, OnOk};
 ghost use Rattle.rule_field_groups.specs.in_ground.Fields.{fields_of};
 ghost use Rattle.rule_field_groups.specs.Compared.{compared};
 ghost use Rattle.rule_field_groups.specs.Grouped.{lists_of};
 ghost use Rattle.rule_field_groups.specs.Below.{contents_of, meant_at, meant_sets};
 ghost use Rattle.rule_cycle_search.specs.Paths.{HasNoRepeat};
-ghost use Rattle.rule_merging.specs.Remembered.{kept_of};
-ghost use Rattle.rule_merging.specs.Examined.{if_any, sets_in, document_of, with_each, HaveFields, ExaminesGroup, ExaminesList, ExaminesFields, ExaminesSets, ExaminesTwos, ExaminesAll, GrowsOver, GrowsBy};
+ghost use Rattle.rule_merging.specs.Remembered.{kept_of, two_of};
+ghost use Rattle.rule_merging.specs.Examined.{if_any, sets_in, document_of, HaveFields, AreLeft, ExaminesGroup, ExaminesList, ExaminesFields, ExaminesSets, ExaminesLevel, ExaminesAll, GrowsOver, GrowsBy};
 
-use crate::remembered::Remembered;
+use crate::remembered::{Pair, Remembered};
 use document_typed_operations::ExecutableDocument;
 use document_typing::Schema;
 use rule_field_groups::{
@@ -52,6 +52,13 @@ fn first_level<'doc>(
     let mut level = Vec::new(alloc);
     level.push(sets)?;
     Ok(level)
+}
+
+/// Whether there are lists or pairs.
+fn is_left<'doc>(level: &[Vec<SelectedSet<'doc>>], pairs: &[Pair<'doc>]) -> bool
+    ensures { result ≡ false → (level.now ≡ []) × (pairs.now ≡ []) }
+{
+    !level.is_empty() || !pairs.is_empty()
 }
 
 impl<'doc> Examination<'doc> {
@@ -109,81 +116,7 @@ impl<'doc> Examination<'doc> {
         self.examine_list(list, next, breaches, comparisons)
     }
 
-    /// Examines what some sets select, unless this was looked at before.
-    fn examine_whole(
-        &self,
-        sets: &[SelectedSet<'doc>],
-        examined: &mut Remembered<'doc>,
-        next: &mut Vec<Vec<SelectedSet<'doc>>>,
-        breaches: &mut Vec<Breach>,
-        comparisons: &mut u128,
-    ) -> Result<(), AllocError>
-        ensures examined { OnOk result (ExaminesSets self.now (meant_sets sets.now ∷ []) (kept_of examined.old) (kept_of examined.new) breaches.old breaches.new (sets_in next.old) (sets_in next.new)) }
-        ensures counted { GrowsOver self.now (meant_sets sets.now ∷ []) examined.old examined.new comparisons.old comparisons.new }
-    {
-        if !examined.expand(sets)? {
-            return Ok(());
-        }
-        let list = merged_list(*next.allocator(), &self.document.fragments, sets)?;
-        self.examine_fields(&list, examined, next, breaches, comparisons)
-    }
-
-    /// Examines what two sets select, unless this was looked at before.
-    fn examine_two(
-        &self,
-        first: SelectedSet<'doc>,
-        other: SelectedSet<'doc>,
-        examined: &mut Remembered<'doc>,
-        next: &mut Vec<Vec<SelectedSet<'doc>>>,
-        breaches: &mut Vec<Breach>,
-        comparisons: &mut u128,
-    ) -> Result<(), AllocError>
-        ensures examined { OnOk result (ExaminesSets self.now ((meant_at first.entry ∷ meant_at other.entry ∷ []) ∷ []) (kept_of examined.old) (kept_of examined.new) breaches.old breaches.new (sets_in next.old) (sets_in next.new)) }
-        ensures counted { GrowsOver self.now ((meant_at first.entry ∷ meant_at other.entry ∷ []) ∷ []) examined.old examined.new comparisons.old comparisons.new }
-    {
-        self.examine_whole(&[first, other], examined, next, breaches, comparisons)
-    }
-
-    /// Examines what a set selects with each of the others.
-    fn examine_with(
-        &self,
-        first: SelectedSet<'doc>,
-        others: &[SelectedSet<'doc>],
-        examined: &mut Remembered<'doc>,
-        next: &mut Vec<Vec<SelectedSet<'doc>>>,
-        breaches: &mut Vec<Breach>,
-        comparisons: &mut u128,
-    ) -> Result<(), AllocError>
-        ensures examined { OnOk result (ExaminesSets self.now (with_each (meant_at first.entry) (meant_sets others.now)) (kept_of examined.old) (kept_of examined.new) breaches.old breaches.new (sets_in next.old) (sets_in next.new)) }
-        ensures counted { GrowsOver self.now (with_each (meant_at first.entry) (meant_sets others.now)) examined.old examined.new comparisons.old comparisons.new }
-    {
-        for other in others {
-            self.examine_two(first, *other, examined, next, breaches, comparisons)?;
-        }
-        Ok(())
-    }
-
-    /// Examines what each two of the sets select.
-    fn examine_twos(
-        &self,
-        sets: &[SelectedSet<'doc>],
-        examined: &mut Remembered<'doc>,
-        next: &mut Vec<Vec<SelectedSet<'doc>>>,
-        breaches: &mut Vec<Breach>,
-        comparisons: &mut u128,
-    ) -> Result<(), AllocError>
-        ensures examined { OnOk result (ExaminesTwos self.now (meant_sets sets.now) (kept_of examined.old) (kept_of examined.new) breaches.old breaches.new (sets_in next.old) (sets_in next.new)) }
-        ensures counted { GrowsOver self.now (meant_sets sets.now ∷ []) examined.old examined.new comparisons.old comparisons.new }
-    {
-        let mut seen = Vec::new(*next.allocator());
-        for set in sets {
-            seen.push(*set)?;
-            self.examine_with(*set, &seen, examined, next, breaches, comparisons)?;
-        }
-        Ok(())
-    }
-
-    /// Examines what some sets select: all of it, or where that is not paid, what each two of them select.
+    /// Examines what some sets select: all of it, or where that is not paid, each two of them as a pair.
     fn examine_paid(
         &self,
         sets: &[SelectedSet<'doc>],
@@ -197,13 +130,13 @@ impl<'doc> Examination<'doc> {
     {
         let list = merged_list(*next.allocator(), &self.document.fragments, sets)?;
         if !examined.pays(&list)? {
-            return self.examine_twos(sets, examined, next, breaches, comparisons);
+            return examined.look_at_twos(sets);
         }
         self.examine_fields(&list, examined, next, breaches, comparisons)
     }
 
-    /// Examines what more than two sets select, unless this was looked at before.
-    fn examine_many(
+    /// Examines what some sets select, unless this was looked at before.
+    fn examine_once(
         &self,
         sets: &[SelectedSet<'doc>],
         examined: &mut Remembered<'doc>,
@@ -223,26 +156,8 @@ impl<'doc> Examination<'doc> {
         Ok(())
     }
 
-    /// Examines what some sets select, unless this was looked at before.
-    fn examine_once(
-        &self,
-        sets: &[SelectedSet<'doc>],
-        examined: &mut Remembered<'doc>,
-        next: &mut Vec<Vec<SelectedSet<'doc>>>,
-        breaches: &mut Vec<Breach>,
-        comparisons: &mut u128,
-    ) -> Result<(), AllocError>
-        ensures examined { OnOk result (ExaminesSets self.now (meant_sets sets.now ∷ []) (kept_of examined.old) (kept_of examined.new) breaches.old breaches.new (sets_in next.old) (sets_in next.new)) }
-        ensures counted { GrowsOver self.now (meant_sets sets.now ∷ []) examined.old examined.new comparisons.old comparisons.new }
-    {
-        if sets.len() > 2 {
-            return self.examine_many(sets, examined, next, breaches, comparisons);
-        }
-        self.examine_whole(sets, examined, next, breaches, comparisons)
-    }
-
     /// Examines the lists of one level. The lists of the next one are given.
-    fn examine_level(
+    fn examine_lists(
         &self,
         level: &[Vec<SelectedSet<'doc>>],
         examined: &mut Remembered<'doc>,
@@ -256,6 +171,23 @@ impl<'doc> Examination<'doc> {
         for sets in level {
             self.examine_once(sets, examined, &mut next, breaches, comparisons)?;
         }
+        Ok(next)
+    }
+
+    /// Examines the lists and the pairs of one level. The lists of the next one are given; its pairs stand in what was examined.
+    fn examine_level(
+        &self,
+        level: &[Vec<SelectedSet<'doc>>],
+        examined: &mut Remembered<'doc>,
+        breaches: &mut Vec<Breach>,
+        comparisons: &mut u128,
+    ) -> Result<Vec<Vec<SelectedSet<'doc>>>, AllocError>
+        ensures examined { IfOk result (λ next. ExaminesLevel self.now (map (λ v. meant_sets v.items) level.now) (kept_of examined.old) (kept_of examined.new) breaches.old breaches.new (sets_in next)) }
+        ensures counted { GrowsOver self.now (map (λ v. meant_sets v.items) level.now ++ (kept_of examined.old).here) examined.old examined.new comparisons.old comparisons.new }
+    {
+        let next = self.examine_lists(level, examined, breaches, comparisons)?;
+        self.examine_pairs(examined, breaches, comparisons)?;
+        examined.advance();
         Ok(next)
     }
 
@@ -276,6 +208,38 @@ impl<'doc> Examination<'doc> {
         Ok(false)
     }
 
+    /// Whether the first set of one of the pairs selects a field.
+    fn have_paired_fields(
+        &self,
+        alloc: Global,
+        pairs: &[Pair<'doc>],
+    ) -> Result<bool, AllocError>
+        ensures { IfOk result (λ some. HaveFields (document_of self.now) some (map (λ p. meant_at p.one ∷ []) pairs.now)) }
+    {
+        for pair in pairs {
+            let list = merged_list(alloc, &self.document.fragments, &[pair.one])?;
+            if !list.is_empty() {
+                return Ok(true);
+            }
+        }
+        Ok(false)
+    }
+
+    /// Whether fields are left, in lists or in pairs.
+    fn are_left(
+        &self,
+        alloc: Global,
+        level: &[Vec<SelectedSet<'doc>>],
+        pairs: &[Pair<'doc>],
+    ) -> Result<bool, AllocError>
+        ensures { IfOk result (λ left. AreLeft (document_of self.now) left (map (λ v. meant_sets v.items) level.now) (map two_of pairs.now)) }
+    {
+        if self.have_fields(alloc, level)? {
+            return Ok(true);
+        }
+        self.have_paired_fields(alloc, pairs)
+    }
+
     /// Examines what a set selects and all below it, to 128 levels. Whether fields are left behind these is given.
     pub(crate) fn examine_all(
         &self,
@@ -288,12 +252,13 @@ impl<'doc> Examination<'doc> {
         ensures counted { GrowsOver self.now ((meant_at start.entry ∷ []) ∷ []) examined.old examined.new comparisons.old comparisons.new }
     {
         let alloc = *breaches.allocator();
+        examined.begin();
         let mut level = first_level(alloc, start)?;
         let mut length = 0;
-        while length < CHAIN_BOUND && !level.is_empty() {
+        while length < CHAIN_BOUND && is_left(&level, &examined.here) {
             level = self.examine_level(&level, examined, breaches, comparisons)?;
             length += 1;
         }
-        self.have_fields(alloc, &level)
+        self.are_left(alloc, &level, &examined.here)
     }
 }

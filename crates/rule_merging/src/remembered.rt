@@ -7,6 +7,7 @@ use crate::budget::is_paid;
 use rule_field_groups::{FieldSelection, SelectedSet};
 use rule_number_lists::ListMemory;
 use std::alloc::{AllocError, Global};
+use std::mem;
 
 /// Two sets that are looked at together: the fields of the one with those of the other.
 #[derive(Clone, Copy)]
@@ -80,6 +81,22 @@ impl<'doc> Remembered<'doc> {
         ensures lists { remembered self.new ≡ remembered self.old }
     {
         self.looked.remember(&[one, other])
+    }
+
+    /// No pairs are left: an operation begins.
+    pub(crate) fn begin(&mut self)
+        ensures { kept_of self.new ≡ record (kept_of self.old) { here = []; next = [] } }
+    {
+        self.here.clear();
+        self.next.clear();
+    }
+
+    /// The pairs of the next level are those of this one from now on.
+    pub(crate) fn advance(&mut self)
+        ensures { kept_of self.new ≡ record (kept_of self.old) { here = (kept_of self.old).next; next = [] } }
+    {
+        let alloc = *self.next.allocator();
+        self.here = mem::replace(&mut self.next, Vec::new(alloc));
     }
 
     /// Whether a list of more than two sets may be examined: what it costs is paid by fields that are new.

@@ -1,12 +1,12 @@
-use Rattle.std.proofs.Common.{◌∷◌, [], ap, sym, subst, refl}
+use Rattle.std.proofs.Common.{◌∷◌, [], ◌∙◌, ap, sym, subst, refl}
 use Rattle.std.proofs.lemmas.Result.{on_ok_weaker}
 use Rattle.rule_field_groups.specs.in_ground.Broken.{brokens_of}
 use Rattle.rule_field_groups.specs.Below.{contents_of, meant_sets, IsMergedIn}
 use Rattle.rule_merging.specs.Counted.{AreLast, AreListed}
 use Rattle.rule_merging.specs.Remembered.{Kept, remembered, kept_of}
 use Rattle.rule_merging.specs.Examined.{sets_in, schema_of, document_of}
-use Rattle.rule_merging.proofs.Examining.{fields_told, twos_told}
-use Rattle.rule_merging.proofs.Counting.{grows_not, grows_same, grows_on, grows_with, fields_listed}
+use Rattle.rule_merging.proofs.Examining.{fields_told, pairs_told}
+use Rattle.rule_merging.proofs.Counting.{grows_not, grows_same, grows_with, fields_listed}
 use Rattle.rule_merging.proofs.examination.Examination.examine_paid.Goals as goal
 
 pub returns-in_err-list-clause-counted : goal.returns-in_err-list-clause-counted
@@ -22,18 +22,16 @@ returns-in_err-pays-clause-counted c =
 pub returns-then-not-branch-clause-examined : goal.returns-then-not-branch-clause-examined
 returns-then-not-branch-clause-examined c =
     let e = c.args.self.now in
-    on_ok_weaker c.examine_twos.result
-    (λ h. twos_told e.pass (schema_of e) (document_of e) (meant_sets c.args.sets.now) (kept_of c.args.examined.now) (kept_of c.pays.new.self) (kept_of c.examine_twos.new.examined)
-    (brokens_of c.args.breaches.now) (brokens_of c.examine_twos.new.breaches) (sets_in c.args.next.now) (sets_in c.examine_twos.new.next) c.in_ok-pays.ensures h.0 h.1.0 h.1.1)
-    c.examine_twos.ensures.examined
+    on_ok_weaker c.look_at_twos.result
+    (λ h. pairs_told e.pass (schema_of e) (document_of e) (meant_sets c.args.sets.now) (kept_of c.args.examined.now) (kept_of c.pays.new.self) (kept_of c.look_at_twos.new.self)
+    (brokens_of c.args.breaches.now) (sets_in c.args.next.now) c.in_ok-pays.ensures h)
+    c.look_at_twos.ensures.looks
 
 pub returns-then-not-branch-clause-counted : goal.returns-then-not-branch-clause-counted
 returns-then-not-branch-clause-counted c =
     let e = c.args.self.now in
     let d = document_of e in
-    grows_on d (λ os. AreListed d os (meant_sets c.args.sets.now ∷ [])) e.pass (remembered c.args.examined.now) (remembered c.pays.new.self) (remembered c.examine_twos.new.examined) c.args.comparisons.now c.args.comparisons.now c.examine_twos.new.comparisons
-    (grows_same d (λ os. AreListed d os (meant_sets c.args.sets.now ∷ [])) e.pass (remembered c.args.examined.now) (remembered c.pays.new.self) c.args.comparisons.now (ap (λ (k : Kept). k.lists) c.in_ok-pays.ensures))
-    c.examine_twos.ensures.counted
+    grows_same d (λ os. AreListed d os (meant_sets c.args.sets.now ∷ [])) e.pass (remembered c.args.examined.now) (remembered c.look_at_twos.new.self) c.args.comparisons.now (c.look_at_twos.ensures.lists ∙ ap (λ (k : Kept). k.lists) c.in_ok-pays.ensures)
 
 pub returns-clause-examined : goal.returns-clause-examined
 returns-clause-examined c =
