@@ -1,12 +1,16 @@
 -- Sets without selections select nothing.
-use Rattle.std.proofs.Common.{◌≡◌, None}
+use Rattle.std.proofs.Common.{◌≡◌, None, if◌then◌else◌, refl}
+use Rattle.std.specs.Prelude.{Some}
+use Rattle.graphql_names.specs.Placed.{Place}
+use Rattle.document_typed_selections.specs.TypedTree.{TypedSet, typed_set, no_typed, typed_then, holds_none}
 use Rattle.rule_definitions.proofs.Lists.{not_in_nil}
-use Rattle.document_meaning.specs.MeantTree.{MeantSet, meant_set, no_meant, meant_then, MeantDocument}
+use Rattle.document_meaning.specs.MeantTree.{MeantSet, meant_set, no_meant, meant_then, MeantDocument, meant_of_set}
 use Rattle.document_meaning.specs.Unplaced.{unplaced_set}
 use Rattle.rule_document_definitions.specs.Selected.{InOperation, StandingField}
 use Rattle.rule_document_definitions.specs.Reached.{Closed, first, next, IsFieldOf}
 use Rattle.rule_document_definitions.specs.Contents.{content}
 use Rattle.rule_field_groups.specs.Below.{IsBare}
+use Rattle.rule_field_sets.specs.Own.{filled}
 
 nothing_there : {X : Type 0} (First : X → Type 0) (Next : X → X → Type 0) → ((x : X) → First x → ⊥) → (x : X) → Closed First Next x → ⊥
 nothing_there First Next none x (first c) = none x c
@@ -23,3 +27,8 @@ bare_selects d (meant_set t (meant_then m ms)) bare x h = absurd bare
 pub bare_plain : {P : Type 0} (v : MeantSet P) → IsBare v → IsBare (unplaced_set v)
 bare_plain (meant_set t no_meant) bare = tt
 bare_plain (meant_set t (meant_then m ms)) bare = absurd bare
+
+-- a set that has selections, or none
+pub filled_so : (t : TypedSet Place) → filled (meant_of_set t) ≡ (if holds_none t then None else Some (meant_of_set t))
+filled_so (typed_set ty no_typed) = refl
+filled_so (typed_set ty (typed_then s ss)) = refl

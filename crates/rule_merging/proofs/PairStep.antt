@@ -31,6 +31,7 @@ use Rattle.rule_field_sets.proofs.Reaching.{through_spreads}
 use Rattle.rule_field_sets.proofs.Plain.{own_plain, spread_plain}
 use Rattle.rule_merging.specs.Remembered.{Kept, HasLooked}
 use Rattle.rule_merging.specs.Examined.{Sets, all_plain, AreOf, PlainOwn, PlainSpreads, AreLookedAt, IsLeft, IsLooked, IsOpen, AreUnderWay, TellsIn, ComeFrom, SelectsAsMuch, PairExamined, PairsExamined}
+use Rattle.rule_merging.specs.Counted.{IsLast, AreListed}
 use Rattle.rule_merging.specs.Pairs.{HasSame, Looks, each_with}
 use Rattle.rule_merging.specs.Twos.{are_of, both_of, GoTogether, FieldsPaired}
 use Rattle.rule_merging.proofs.Examining.{left_empty, right_empty, together_up, stand_more, is_looked_more, looked_more, HasMore, DoneIn, all_more, done_more, pairs_on, known_or_open, open_more, none_in, swapped}
@@ -112,6 +113,10 @@ module _ (pass : Pass) (s : Judged) (d : MeantDocument Place) where
         | inr r ↦ subst (Together pass s f) (only (field_of q) f u ∙ sym (only (field_of q) g r)) (together_same pass s f)
       ]
     ]
+
+    -- own fields of the two are last fields of chains, if what the two select is
+    pub pair_listed : (os : List (MeantOperation Place)) → AreListed d os (two ∷ []) → (p q : FieldSelection) → are_of ones others p q → IsLast d os (content_of p) × IsLast d os (content_of q)
+    pair_listed os listed p q (c, e) = (listed two (Contains-first two [] two refl) (field_of p) (from_one p c), listed two (Contains-first two [] two refl) (field_of q) (from_other q e))
 
     -- an own field without places is that of a selection
     own_of : (c : MeantSet Place) (list : List FieldSelection) → fields_of list ≡ own_fields c → (x : PlainField) → PlainOwn (unplaced_set c) x → (p : FieldSelection) × (Contains list p × (content_of p ≡ x))

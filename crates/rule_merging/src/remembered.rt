@@ -28,7 +28,7 @@ pub(crate) struct Remembered<'doc> {
     /// The pairs of this level of fields, and of the next one.
     pub(crate) here: Vec<Pair<'doc>>,
     pub(crate) next: Vec<Pair<'doc>>,
-    /// How many members of lists of more than two sets were examined.
+    /// How many members of lists were examined.
     spent: usize,
 }
 
@@ -99,7 +99,7 @@ impl<'doc> Remembered<'doc> {
         self.here = mem::replace(&mut self.next, Vec::new(alloc));
     }
 
-    /// Whether a list of more than two sets may be examined: what it costs is paid by fields that are new.
+    /// Whether a list may be examined: what it costs is paid by fields that are new.
     pub(crate) fn pays(&mut self, list: &[FieldSelection<'doc>]) -> Result<bool, AllocError>
         ensures { kept_of self.new ≡ kept_of self.old }
     {

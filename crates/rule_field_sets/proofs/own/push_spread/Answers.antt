@@ -5,3 +5,6 @@ use Rattle.document_typed_selections.specs.declared.selection.Selection.TheViews
 use Rattle.rule_field_sets.specs.Laws.{meant_lent}
 use Rattle.rule_field_sets.proofs.Selected.{field_part, named_part, inline_part, lent_push}
 use Rattle.rule_field_sets.proofs.own.push_spread.Goals as goal
+
+pub returns-in-Field : goal.returns-in-Field
+returns-in-Field c = sym (ap (λ l. meant_lent c.args.found.now.items ++ l) (field_part c.args.fragments.now c.args.selection.now _ (ap out-Selection c.in-Field.is)) ∙ append-nil (meant_lent c.args.found.now.items))

@@ -7,15 +7,16 @@ use Rattle.rule_merging.specs.Counted.{AreListed}
 use Rattle.rule_field_groups.specs.Below.{meant_at}
 use Rattle.rule_merging.specs.Remembered.{kept_of}
 use Rattle.rule_merging.specs.Examined.{sets_in, schema_of, document_of, GrowsOver}
-use Rattle.rule_merging.proofs.Examining.{SoFar}
+use Rattle.rule_merging.proofs.Levels.{SoFar}
 use Rattle.rule_merging.proofs.examination.Examination.examine_all.Given as goal
 
 abbrev pub invariant-loop-length : goal.invariant-loop-length
 invariant-loop-length l = record {
   examined : (o : MeantOperation Place) → o.set ≡ meant_at l.fn.start → (added : List (Broken Place)) × ((brokens_of l.breaches ≡ brokens_of l.fn.breaches ++ added)
       × SoFar l.self.pass (schema_of l.self) (document_of l.self) o (kept_of l.fn.examined) (kept_of l.examined) l.length added (sets_in l.level));
-  listed : (os : List (MeantOperation Place)) → AreListed (document_of l.self) os ((meant_at l.fn.start ∷ []) ∷ []) → AreListed (document_of l.self) os (sets_in l.level);
+  listed : (os : List (MeantOperation Place)) → AreListed (document_of l.self) os ((meant_at l.fn.start ∷ []) ∷ []) → AreListed (document_of l.self) os (sets_in l.level ++ (kept_of l.examined).here);
   counted : GrowsOver l.self ((meant_at l.fn.start ∷ []) ∷ []) l.fn.examined l.examined l.fn.comparisons l.comparisons;
+  none : (kept_of l.examined).next ≡ [];
   short : l.length ≤ 128;
 }
 
