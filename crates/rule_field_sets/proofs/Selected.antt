@@ -76,20 +76,24 @@ module _ {S : Type 0} (fragments : IndexMap NameValue (Node Fragment) S) where
   fragment_set k None e = ap (option_map (λ (f : MeantFragment Place). f.set)) (sym (found_under fragments k) ∙ ap (option_map meant_node) e)
   fragment_set k (Some f) e = ap (option_map (λ (f : MeantFragment Place). f.set)) (sym (found_under fragments k) ∙ ap (option_map meant_node) e)
 
-  at_layer : (s : Selection) (x : Layer) → out-Selection s ≡ x → spread_part s ≡ option_to_list (spread_set (meant_fragments fragments) (meant (tree_here x)))
-  at_layer s x e = ap (λ t. option_to_list (spread_set (meant_fragments fragments) (meant t))) (typed_selection_tree_out s ∙ ap tree_here e)
+  -- the set to which a selection leads
+  abbrev pub spread_at : Selection → Option (MeantSet Place)
+  spread_at x = spread_set (meant_fragments fragments) (meant (typed_selection_tree x))
+
+  at_layer : (s : Selection) (x : Layer) → out-Selection s ≡ x → spread_at s ≡ spread_set (meant_fragments fragments) (meant (tree_here x))
+  at_layer s x e = ap (λ t. spread_set (meant_fragments fragments) (meant t)) (typed_selection_tree_out s ∙ ap tree_here e)
 
   -- a field leads nowhere
-  pub field_part : (s : Selection) (n : Node Field) → out-Selection s ≡ FieldOf n → spread_part s ≡ []
+  pub field_part : (s : Selection) (n : Node Field) → out-Selection s ≡ FieldOf n → spread_at s ≡ None
   field_part s n e = at_layer s (FieldOf n) e
 
   -- a spread leads to the fragment of its name
   pub named_part : (s : Selection) (n : Node FragmentSpread) (o : Option (Node Fragment)) → out-Selection s ≡ SpreadOf n
-      → lookup (λ (a : NameValue). bytes_eq (content {A = FragmentSpread} n).fragment_name.text a.text) fragments.entries ≡ o → spread_part s ≡ option_to_list (option_map (λ (f : Node Fragment). meant_value (content {A = Fragment} f).selection_set) o)
-  named_part s n o e found = at_layer s (SpreadOf n) e ∙ ap (λ v. option_to_list v) (fragment_set (content {A = FragmentSpread} n).fragment_name o found)
+      → lookup (λ (a : NameValue). bytes_eq (content {A = FragmentSpread} n).fragment_name.text a.text) fragments.entries ≡ o → spread_at s ≡ option_map (λ (f : Node Fragment). meant_value (content {A = Fragment} f).selection_set) o
+  named_part s n o e found = at_layer s (SpreadOf n) e ∙ fragment_set (content {A = FragmentSpread} n).fragment_name o found
 
   -- an inline fragment to its set
-  pub inline_part : (s : Selection) (n : Node InlineFragment) → out-Selection s ≡ InlineOf n → spread_part s ≡ meant_value (content {A = InlineFragment} n).selection_set ∷ []
+  pub inline_part : (s : Selection) (n : Node InlineFragment) → out-Selection s ≡ InlineOf n → spread_at s ≡ Some (meant_value (content {A = InlineFragment} n).selection_set)
   inline_part s n e = at_layer s (InlineOf n) e
 
 -- what is pushed

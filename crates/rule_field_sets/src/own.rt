@@ -1,5 +1,5 @@
 //! The own fields of a set, and the sets that it spreads.
-ghost use Rattle.std.specs.Prelude.{◌≡◌, ◌++◌, option_to_list, IfOk, OnOk};
+ghost use Rattle.std.specs.Prelude.{◌≡◌, ◌++◌, option_map, IfOk, OnOk};
 ghost use Rattle.graphql_names.specs.Placed.{name_tree};
 ghost use Rattle.document_typed_selections.specs.TypedTree.{typed_selection_tree, typed_set_tree};
 ghost use Rattle.document_meaning.specs.MeantTree.{meant, meant_of_set};
@@ -42,27 +42,20 @@ pub fn own_fields_of<'doc>(
     Ok(found)
 }
 
-/// Adds the set to which a selection leads, if it is an inline fragment or spreads a fragment that is there.
-fn push_spread<'doc>(
+/// The set to which a selection leads, if it is an inline fragment or spreads a fragment that is there.
+fn spread_of<'doc>(
     selection: &'doc Selection,
     fragments: &'doc FragmentMap,
-    found: &mut Vec<&'doc SelectionSet>,
-) -> Result<(), AllocError>
-    ensures { OnOk result (meant_lent found.new.items ≡ meant_lent found.old.items ++ option_to_list (spread_set (meant_fragments fragments.now) (meant (typed_selection_tree selection.now)))) }
+) -> Option<&'doc SelectionSet>
+    ensures { option_map (λ s. meant_of_set (typed_set_tree s.now)) result ≡ spread_set (meant_fragments fragments.now) (meant (typed_selection_tree selection.now)) }
 {
     match selection {
-        Selection::Field(_) => Ok(()),
+        Selection::Field(_) => None,
         Selection::FragmentSpread(spread) => {
-            let name = &spread.content().fragment_name;
-            if let Some(fragment) = fragments.get(name) {
-                found.push(&fragment.content().selection_set)?;
-            }
-            Ok(())
+            let fragment = fragments.get(&spread.content().fragment_name)?;
+            Some(&fragment.content().selection_set)
         }
-        Selection::InlineFragment(inline) => {
-            found.push(&inline.content().selection_set)?;
-            Ok(())
-        }
+        Selection::InlineFragment(inline) => Some(&inline.content().selection_set),
     }
 }
 
@@ -77,7 +70,9 @@ pub fn spread_sets_of<'doc>(
 {
     let mut found = Vec::new(alloc);
     for selection in &set.selections {
-        push_spread(selection, fragments, &mut found)?;
+        if let Some(spread) = spread_of(selection, fragments) {
+            found.push(spread)?;
+        }
     }
     Ok(found)
 }

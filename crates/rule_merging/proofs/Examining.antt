@@ -125,6 +125,11 @@ sets_below group (x ∷ xs) are f g a b = elim (are.covers f a) [
   ]
 ]
 
+-- ---- more of a list
+
+abbrev pub HasMore : {X : Type 0} → List X → List X → Type 0
+HasMore {X} old new = (x : X) → Contains old x → Contains new x
+
 -- ---- two by two
 
 pub swapped : {X : Type 0} (a b : X) → HaveSame (a ∷ b ∷ []) (b ∷ a ∷ [])
@@ -260,9 +265,6 @@ module _ (pass : Pass) (s : Judged) (d : MeantDocument Place) where
       stand x y (subst (λ (l : List PlainSet). PlainSelected d l x) same a) (subst (λ (l : List PlainSet). PlainSelected d l y) same b)
 
   -- ---- what stays so while more is kept
-
-  abbrev pub HasMore : {X : Type 0} → List X → List X → Type 0
-  HasMore {X} old new = (x : X) → Contains old x → Contains new x
 
   pub looked_more : (old new : List (List PlainSet)) → HasMore old new → (a b : PlainSet) → AreLookedAt old a b → AreLookedAt new a b
   looked_more old new more a b h = (h.0, (more h.0 h.1.0, h.1.1))

@@ -77,6 +77,10 @@ IsAmong sets v = Contains (plain_sets sets) (unplaced_set v)
 abbrev pub HaveBoth : List Sets → StandingField Place → StandingField Place → Type 0
 HaveBoth next f g = IsBare f.set ⊎ (IsBare g.set ⊎ ((sets : Sets) × (Contains next sets × (IsAmong sets f.set × IsAmong sets g.set))))
 
+-- these sets are some of those of one of the lists
+abbrev pub ArePart : List Sets → Sets → Type 0
+ArePart lists part = (sets : Sets) × (Contains lists sets × ((v : MeantSet Place) → Contains part v → Contains sets v))
+
 -- what a set has itself, without places
 abbrev pub PlainOwn : PlainSet → PlainField → Type 0
 PlainOwn a x = Contains (own_fields a) x
@@ -129,6 +133,10 @@ module _ (d : MeantDocument Place) where
     pub fields : IsUnderWay (PlainBelow d) (Together pass s) (Agree pass s) (PlainStarts d o) (λ x y. IsLeft left x y ⊎ IsLooked kept.looked x y) (StandIn kept.lists)
     pub sets : AllStand kept.expanded kept
     pub pairs : PairsAreDone pass s twos kept
+
+  -- whatever the one list of sets selects, the other does
+  abbrev pub SelectsAsMuch : Sets → Sets → Type 0
+  SelectsAsMuch sets part = (x : StandingField Place) → IsSelected d part x → IsSelected d sets x
 
   -- whether some of the sets selects a field
   abbrev pub HaveFields : Bool → List Sets → Type 0
@@ -190,10 +198,6 @@ module _ (pass : Pass) (s : Judged) (d : MeantDocument Place) where
   abbrev pub ComeFrom : List Sets → Sets → Type 0
   ComeFrom lists next = (sets : Sets) × (Contains lists sets × ((group : List (StandingField Place)) × (IsGroupIn sets group × AreOf group next)))
 
-  -- these sets are some of those of one of the lists
-  abbrev pub ArePart : List Sets → Sets → Type 0
-  ArePart lists part = (sets : Sets) × (Contains lists sets × ((v : MeantSet Place) → Contains part v → Contains sets v))
-
   -- lists of sets are examined of which each was left; pairs of their sets are looked at
   pub record SetsExamined (lists : List Sets) (old new : Kept) (added : List (Broken Place)) (next : List Sets) : Type 0 where
     pub right : (fault : Broken Place) → Contains added fault → TellsIn lists fault
@@ -208,17 +212,13 @@ module _ (pass : Pass) (s : Judged) (d : MeantDocument Place) where
     pub settled : added ≡ [] → (o : MeantOperation Place) (left twos : List (List PlainSet))
         → AreUnderWay d pass s o (all_plain lists ++ left) twos old → AreUnderWay d pass s o (left ++ all_plain next) (twos ++ all_plain here) new × AllStand d (all_plain lists) new
 
-  -- whatever the one list of sets selects, the other does
-  abbrev pub SelectsAsMuch : Sets → Sets → Type 0
-  SelectsAsMuch sets part = (x : StandingField Place) → IsSelected d part x → IsSelected d sets x
-
   -- a pair is looked at that was left: sets that the two spread are looked at with the other, at this level, and the sets below fields
   -- of the two that go together, at the next
   pub record PairExamined (two : Sets) (old new : Kept) (added : List (Broken Place)) : Type 0 where
     pub right : (fault : Broken Place) → Contains added fault → TellsIn (two ∷ []) fault
     pub here : List Sets
     pub is_here : new.here ≡ old.here ++ here
-    pub within : (part : Sets) → Contains here part → SelectsAsMuch two part
+    pub within : (part : Sets) → Contains here part → SelectsAsMuch d two part
     pub later : List Sets
     pub is_later : new.next ≡ old.next ++ later
     pub under : (sets : Sets) → Contains later sets → ComeFrom (two ∷ []) sets
@@ -231,7 +231,7 @@ module _ (pass : Pass) (s : Judged) (d : MeantDocument Place) where
     pub right : (fault : Broken Place) → Contains added fault → TellsIn old.here fault
     pub here : List Sets
     pub is_here : new.here ≡ old.here ++ here
-    pub within : (part : Sets) → Contains new.here part → (two : Sets) × (Contains old.here two × SelectsAsMuch two part)
+    pub within : (part : Sets) → Contains new.here part → (two : Sets) × (Contains old.here two × SelectsAsMuch d two part)
     pub later : List Sets
     pub is_later : new.next ≡ old.next ++ later
     pub under : (sets : Sets) → Contains later sets → ComeFrom old.here sets

@@ -1,8 +1,9 @@
-use Rattle.std.proofs.Common.{◌∙◌, ◌<◌, ◌++◌, length, take, refl, sym, ap, arith}
-use Rattle.std.specs.Prelude.{flat_map}
+use Rattle.std.proofs.Common.{◌≡◌, ◌∙◌, ◌<◌, ◌++◌, ◌∷◌, [], length, take, refl, sym, ap, append-nil, arith}
+use Rattle.std.specs.Prelude.{None, Some, option_map, option_to_list, flat_map}
 use Rattle.std.proofs.lemmas.List.{take_all}
 use Rattle.rule_field_sets.specs.Laws.{meant_lent}
-use Rattle.rule_field_sets.proofs.Selected.{front_more, spread_part, spread_all}
+use Rattle.rule_field_sets.proofs.Selected.{front_more, meant_value, spread_part, spread_all, lent_push}
+use Rattle.rule_field_sets.proofs.own.spread_sets_of.Goals.{in-Some+in_ok-push, in_default}
 use Rattle.rule_field_sets.proofs.own.spread_sets_of.Goals as goal
 
 pub loop-selection-init : goal.loop-selection-init
@@ -13,11 +14,18 @@ loop-selection-preserved c =
     let so_far = c.loop-selection.invariant in
     let xs = c.deref-selection-items.result.now in
     let i = c.loop-selection.selection-index in
+    let x = c.selection-item.result in
     let within : i < length xs = omega arith in
     let part = spread_part c.args.fragments.now in
+    let more = sym (front_more part xs i x.now within c.selection-item.is) in
     record {
       items = so_far.items;
-      found = c.in_ok-push_spread.ensures ∙ ap (λ l. l ++ part c.selection-item.result.now) so_far.found ∙ sym (front_more part xs i c.selection-item.result.now within c.selection-item.is);
+      found = elim c.match-spread_of.branch [
+        | in-Some+in_ok-push w ↦ ap (λ v. meant_lent v.items) w.found-is ∙ lent_push c.loop-selection.found.items _ w.in-Some.spread w.in_ok-push.ensures.items
+            ∙ (λ k. so_far.found k ++ option_to_list ((ap (option_map (λ s. meant_value s.now)) (sym w.in-Some.is) ∙ c.spread_of.ensures) k)) ∙ more
+        | in_default w ↦ ap (λ v. meant_lent v.items) w.found-is ∙ sym (append-nil (meant_lent c.loop-selection.found.items))
+            ∙ (λ k. so_far.found k ++ option_to_list ((ap (option_map (λ s. meant_value s.now)) (sym w.in_default.is) ∙ c.spread_of.ensures) k)) ∙ more
+      ];
     }
 
 pub returns : goal.returns
