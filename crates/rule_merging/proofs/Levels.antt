@@ -59,7 +59,7 @@ module _ (pass : Pass) (s : Judged) (d : MeantDocument Place) where
   one_comes lists next u = (u.0, (Contains-first u.0 [] u.0 refl, u.1.1))
 
   module _ (lists : List Sets) (old mid now new : Kept) (added more : List (Broken Place)) (next : List Sets) (first : SetsExamined pass s d lists old mid added next)
-      (pairs : PairsExamined pass s d (length now.here) mid now more) (is : new ≡ record now { here = now.next; next = [] }) (none : old.next ≡ []) where
+      (n : ℕ) (all : more ≡ [] → length now.here ≤ n) (pairs : PairsExamined pass s d n mid now more) (is : new ≡ record now { here = now.next; next = [] }) (none : old.next ≡ []) where
     -- pairs of the level are of what was left
     from_level : (two : Sets) → Contains mid.here two → (sets : Sets) × (Contains (lists ++ old.here) sets × SelectsAsMuch d sets two)
     from_level two c = elim (Contains-append_cases old.here first.here two (subst (λ (l : List Sets). Contains l two) first.is_here c)) [
@@ -93,7 +93,7 @@ module _ (pass : Pass) (s : Judged) (d : MeantDocument Place) where
           subst (λ t. AreUnderWay d pass s o (all_plain next) t mid) (sym (ap all_plain first.is_here ∙ map-append plain_sets old.here first.here)) half in
           let done = pairs.settled (right_empty added more e) o (all_plain next) whole in
           let rest : AreUnderWay d pass s o (all_plain next) (all_plain now.next) now =
-          subst (λ t. AreUnderWay d pass s o (all_plain next) t now) (ap (λ l. all_plain l ++ all_plain pairs.later) (drop_all (length now.here) now.here (omega arith)) ∙ ap all_plain (sym next_pairs)) done in
+          subst (λ t. AreUnderWay d pass s o (all_plain next) t now) (ap (λ l. all_plain l ++ all_plain pairs.later) (drop_all n now.here (all (right_empty added more e))) ∙ ap all_plain (sym next_pairs)) done in
           subst (λ (l : List Sets). AreUnderWay d pass s o (all_plain next) (all_plain l) new) (sym (ap (λ (k : Kept). k.here) is))
           (under_again pass s d o (all_plain next) (all_plain now.next) now new now.next [] is rest);
     }

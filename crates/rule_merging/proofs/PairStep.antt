@@ -133,12 +133,12 @@ module _ (pass : Pass) (s : Judged) (d : MeantDocument Place) where
       none_later : looks.later ≡ []
       none_later = none_in looks.later looks.under
 
-      stand_own : (x y : PlainField) → PlainOwn (unplaced_set a) x → PlainOwn (unplaced_set b) y → Together pass s x y → StandIn new.lists x y
-      stand_own x y p q t =
+      stand_own : added ≡ [] → (x y : PlainField) → PlainOwn (unplaced_set a) x → PlainOwn (unplaced_set b) y → Together pass s x y → StandIn new.lists x y
+      stand_own none x y p q t =
           let m = own_of a ones is_own x p in
           let n = own_of b others is_own_too y q in
           let go : Together pass s (content_of m.0) (content_of n.0) = subst (λ v. Together pass s v (content_of n.0)) (sym m.1.1) (subst (Together pass s x) (sym n.1.1) t) in
-          let stand = paired.stand m.0 n.0 ((m.1.0, n.1.0), together_up pass s (field_of m.0) (field_of n.0) go) in
+          let stand = paired.stand none m.0 n.0 ((m.1.0, n.1.0), together_up pass s (field_of m.0) (field_of n.0) go) in
           subst (λ (ls : List (List PlainField)). StandIn ls x y) (sym looks.lists) (subst (λ v. StandIn mid.lists v y) m.1.1 (subst (StandIn mid.lists (content_of m.0)) n.1.1 stand))
 
       looked_one : (v : PlainSet) → PlainSpreads d (unplaced_set a) v → AreLookedAt new.looked v (unplaced_set b)
@@ -160,12 +160,12 @@ module _ (pass : Pass) (s : Judged) (d : MeantDocument Place) where
       turned : (u v : PlainSet) → AreLookedAt new.looked u v → AreLookedAt new.looked v u
       turned u v (known, (there, same)) = (known, (there, same_trans known (u ∷ v ∷ []) (v ∷ u ∷ []) same (swapped u v)))
 
-      done : DoneIn pass s d new (unplaced_set a) (unplaced_set b)
-      done = record { own = stand_own; one = looked_one; other = λ v h. turned v (unplaced_set a) (looked_other v h) }
+      done : added ≡ [] → DoneIn pass s d new (unplaced_set a) (unplaced_set b)
+      done none = record { own = stand_own none; one = looked_one; other = λ v h. turned v (unplaced_set a) (looked_other v h) }
 
-      done_turned : DoneIn pass s d new (unplaced_set b) (unplaced_set a)
-      done_turned = record {
-        own = λ x y p q t. let h = stand_own y x q p (together_turned pass s x y t) in (h.0, (h.1.0, (h.1.1.1, h.1.1.0)));
+      done_turned : added ≡ [] → DoneIn pass s d new (unplaced_set b) (unplaced_set a)
+      done_turned none = record {
+        own = λ x y p q t. let h = stand_own none y x q p (together_turned pass s x y t) in (h.0, (h.1.0, (h.1.1.1, h.1.1.0)));
         one = looked_other;
         other = λ v h. turned v (unplaced_set b) (looked_one v h);
       }
@@ -177,11 +177,11 @@ module _ (pass : Pass) (s : Judged) (d : MeantDocument Place) where
       looked_on k c = looks.keeps k (paired.keeps k c)
 
       -- the pair that was left is done
-      pair_on : (twos : List (List PlainSet)) → (u v : PlainSet) → HasLooked (plain_sets two ∷ twos) (u ∷ v ∷ []) → IsOpen d (twos ++ all_plain (looks.here ++ paired.later)) u v ⊎ DoneIn pass s d new u v
-      pair_on twos u v (known, (there, same)) = elim (Contains-cons (plain_sets two) twos known there) [
+      pair_on : added ≡ [] → (twos : List (List PlainSet)) → (u v : PlainSet) → HasLooked (plain_sets two ∷ twos) (u ∷ v ∷ []) → IsOpen d (twos ++ all_plain (looks.here ++ paired.later)) u v ⊎ DoneIn pass s d new u v
+      pair_on none twos u v (known, (there, same)) = elim (Contains-cons (plain_sets two) twos known there) [
         | inl e ↦ inr (elim (two_same (unplaced_set a) (unplaced_set b) u v (subst (λ (l : List PlainSet). HaveSame l (u ∷ v ∷ [])) (sym e) same)) [
-          | inl (p, q) ↦ subst (λ x. DoneIn pass s d new x v) p (subst (DoneIn pass s d new (unplaced_set a)) q done)
-          | inr (p, q) ↦ subst (λ x. DoneIn pass s d new x v) q (subst (DoneIn pass s d new (unplaced_set b)) p done_turned)
+          | inl (p, q) ↦ subst (λ x. DoneIn pass s d new x v) p (subst (DoneIn pass s d new (unplaced_set a)) q (done none))
+          | inr (p, q) ↦ subst (λ x. DoneIn pass s d new x v) q (subst (DoneIn pass s d new (unplaced_set b)) p (done_turned none))
         ])
         | inr r ↦ inl (inl (known, (Contains-append_left twos (all_plain (looks.here ++ paired.later)) known r, same)))
       ]
@@ -219,7 +219,7 @@ module _ (pass : Pass) (s : Judged) (d : MeantDocument Place) where
           sets = λ vs c. all_more pass s d old.expanded old new lists_more looked_on under.sets vs (subst (λ (k : List (List PlainSet)). Contains k vs) (looks.expanded ∙ paired.expanded) c);
           pairs = pairs_on pass s d (plain_sets two ∷ twos) (twos ++ all_plain (looks.here ++ paired.later)) old new lists_more looked_on
               (known_or_open pass s d (looks.here ++ paired.later) old.looked new.looked (twos ++ all_plain (looks.here ++ paired.later)) (λ l c. Contains-append_right twos (all_plain (looks.here ++ paired.later)) l c) fresh_pairs)
-              (pair_on twos) under.pairs;
+              (pair_on e twos) under.pairs;
         };
       }
         where

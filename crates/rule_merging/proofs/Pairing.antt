@@ -1,7 +1,8 @@
 -- Fields of two sets that are looked at together: two by two they are compared, and the sets below them looked at.
-use Rattle.std.proofs.Common.{◌≡◌, ◌⊎◌, ◌∙◌, ℕ, ◌+◌, ◌<◌, None, List, [], ◌∷◌, ◌++◌, map, take, length, get_or, Contains, refl, sym, ap, subst, append_assoc, append-nil, inl, inr}
+use Rattle.std.proofs.Common.{◌≡◌, ◌⊎◌, ◌∙◌, ℕ, ◌+◌, ◌<◌, None, List, [], ◌∷◌, ◌++◌, map, take, length, get_or, Contains, refl, sym, ap, subst, append_assoc, append-nil, arith, inl, inr}
 use Rattle.std.specs.Prelude.{Option, Some, option_map}
 use Rattle.std.specs.List.Sorted.{IsPermutation}
+use Rattle.std.proofs.lemmas.List.{length-append, length-map}
 use Rattle.std.proofs.lemmas.List.Elements.{Contains-append_left, Contains-append_right, Contains-append_cases}
 use Rattle.graphql_names.specs.Placed.{Place}
 use Rattle.schema_components.proofs.Places.{Contains-rest}
@@ -28,11 +29,20 @@ use Rattle.rule_merging_laws.proofs.SettledFacts.{by_head}
 use Rattle.rule_field_sets.specs.Own.{filled}
 use Rattle.rule_field_sets.specs.Laws.{HasField}
 use Rattle.rule_merging.specs.Remembered.{Kept, HasLooked}
-use Rattle.rule_merging.specs.Examined.{Sets, AreOf, AreLookedAt, IsLooked}
+use Rattle.rule_field_groups.specs.in_ground.Broken.{broken_of, brokens_of}
+use Rattle.rule_merging.specs.Examined.{Sets, Breaches, AreOf, AreLookedAt, IsLooked}
 use Rattle.rule_merging.specs.Pairs.{HasSame, Looks, itself, both, twos_below}
 use Rattle.rule_merging.specs.Twos.{TwoFields, are_two, are_of, IsListOf, both_of, GoTogether, TellsOfTwo, IsFresh, FieldsPaired}
 use Rattle.rule_merging.proofs.Bare.{bare_selects}
 use Rattle.rule_merging.proofs.Examining.{left_empty, right_empty, in_last, agree_sym, agree_trans, agree_down, together_up, stand_more, is_looked_more, HasMore, none_in, swapped}
+
+-- where more is told, something is added
+pub more_told : {X : Type 0} (told later added : List X) → later ≡ told ++ added → added ≡ [] → length told < length later → ⊥
+more_told told later added is none longer = omega (arith, ap length is, length-append told added, ap length none, longer)
+
+-- places of breaches
+pub brokens_long : (old new : Breaches) (before after : ℕ) → before ≡ length old.items → after ≡ length new.items → before < after → length (brokens_of old) < length (brokens_of new)
+brokens_long old new before after e f longer = omega (arith, e, f, longer, length-map old.items broken_of, length-map new.items broken_of)
 
 module _ (pass : Pass) (s : Judged) (d : MeantDocument Place) where
   -- what was fresh stays so
@@ -52,7 +62,7 @@ module _ (pass : Pass) (s : Judged) (d : MeantDocument Place) where
     more = λ l c. c;
     keeps = λ k c. c;
     fresh = λ k c. inl c;
-    stand = λ p q w. absurd (none p q w);
+    stand = λ e p q w. absurd (none p q w);
     agree = λ e l c. inl c;
   })
 
@@ -69,7 +79,7 @@ module _ (pass : Pass) (s : Judged) (d : MeantDocument Place) where
     more = h.more;
     keeps = h.keeps;
     fresh = h.fresh;
-    stand = λ p q w. h.stand p q (back p q w.0, w.1);
+    stand = λ e p q w. h.stand e p q (back p q w.0, w.1);
     agree = h.agree;
   }
 
@@ -97,9 +107,9 @@ module _ (pass : Pass) (s : Judged) (d : MeantDocument Place) where
       ]
       | inr (two, (there, same)) ↦ inr (two, (Contains-append_right first.later then'.later two there, same))
     ];
-    stand = λ p q w. elim w.0 [
-      | inl v ↦ stand_more pass s d mid.lists new.lists then'.more (content_of p) (content_of q) (first.stand p q (v, w.1))
-      | inr v ↦ then'.stand p q (v, w.1)
+    stand = λ e p q w. elim w.0 [
+      | inl v ↦ stand_more pass s d mid.lists new.lists then'.more (content_of p) (content_of q) (first.stand (left_empty added more e) p q (v, w.1))
+      | inr v ↦ then'.stand (right_empty added more e) p q (v, w.1)
     ];
     agree = λ e l c. elim (then'.agree (right_empty added more e) l c) [
       | inl was ↦ elim (first.agree (left_empty added more e) l was) [
@@ -108,6 +118,22 @@ module _ (pass : Pass) (s : Judged) (d : MeantDocument Place) where
       ]
       | inr fresh ↦ inr fresh
     ];
+  }
+
+  -- up to the first that is told of
+  paired_early : (W W' : TwoFields) → ((p q : FieldSelection) → W p q → W' p q) → (old new : Kept) (added : List (Broken Place)) → (added ≡ [] → ⊥) → FieldsPaired pass s d W old new added → FieldsPaired pass s d W' old new added
+  paired_early W W' to old new added some h = record {
+    right = λ fault c. let t = h.right fault c in (t.0, (t.1.0, ((to t.0 t.1.0 t.1.1.0.0, t.1.1.0.1), t.1.1.1)));
+    expanded = h.expanded;
+    here = h.here;
+    later = h.later;
+    is_later = h.is_later;
+    under = λ two c. let u = h.under two c in (u.0, (u.1.0, ((to u.0 u.1.0 u.1.1.0.0, u.1.1.0.1), u.1.1.1)));
+    more = h.more;
+    keeps = h.keeps;
+    fresh = h.fresh;
+    stand = λ e. absurd (some e);
+    agree = h.agree;
   }
 
   -- the same of breaches as they stand before and after
@@ -123,6 +149,9 @@ module _ (pass : Pass) (s : Judged) (d : MeantDocument Place) where
     a ++ b,
     (is_too ∙ ap (λ l. l ++ b) is ∙ append_assoc told a b, paired_as (λ p q. W p q ⊎ W' p q) W'' to back old new (a ++ b) (paired_both W W' old mid new a b first then')),
   )
+
+  pub told_early : (W W' : TwoFields) → ((p q : FieldSelection) → W p q → W' p q) → (old new : Kept) (told later : List (Broken Place)) → length told < length later → PairedTold W old new told later → PairedTold W' old new told later
+  told_early W W' to old new told later longer (a, (is, h)) = (a, (is, paired_early W W' to old new a (λ none. more_told told later a is none longer) h))
 
   -- ---- two fields
 
@@ -162,7 +191,7 @@ module _ (pass : Pass) (s : Judged) (d : MeantDocument Place) where
       more = λ l c. c;
       keeps = λ k c. c;
       fresh = λ k c. inl c;
-      stand = these old.lists (two_known list two known same old.lists there);
+      stand = λ e. these old.lists (two_known list two known same old.lists there);
       agree = λ e l c. inl c;
     })))
 
@@ -310,7 +339,7 @@ module _ (pass : Pass) (s : Judged) (d : MeantDocument Place) where
             | inl was ↦ inl (subst (λ (ls : List (List PlainSet)). Contains ls k) looked was)
             | inr more ↦ inr (subst (λ (l : List Sets). HasSame (l ++ looks.later) k) none more)
           ];
-          stand = these new.lists (kept, (subst (λ (ls : List (List PlainField)). Contains ls kept) (sym lists) (in_last old.lists kept), ((same (content_of one)).0 (has_one list two), (same (content_of other)).0 (has_other list two))));
+          stand = λ e. these new.lists (kept, (subst (λ (ls : List (List PlainField)). Contains ls kept) (sym lists) (in_last old.lists kept), ((same (content_of one)).0 (has_one list two), (same (content_of other)).0 (has_other list two))));
           agree = λ e l c. elim (Contains-append_cases old.lists (kept ∷ []) l (subst (λ (ls : List (List PlainField)). Contains ls l) lists c)) [
             | inl a ↦ inl a
             | inr b ↦ inr (subst (IsFresh pass s d new.looked) (sym (only kept l b)) (list_fresh new.looked has list two kept same (tells.agree e)))

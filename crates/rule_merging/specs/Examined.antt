@@ -1,5 +1,5 @@
 -- Private: leads to `MergingBreaks` and `FieldsMerge`. What the examination of a group, of a list, of a level and of all levels comes to.
-use Rattle.std.specs.Prelude.{◌≡◌, ◌++◌, ◌∷◌, ◌⊎◌, ℕ, Bool, true, false, None, List, [], map, length, drop, Vec, Contains}
+use Rattle.std.specs.Prelude.{◌≡◌, ◌++◌, ◌∷◌, ◌⊎◌, ◌≤◌, ℕ, Bool, true, false, None, List, [], map, length, drop, Vec, Contains}
 use Rattle.std.specs.declared.alloc.Global.{Global}
 use Rattle.graphql_names.specs.Placed.{Place}
 use Rattle.fault_document_data.specs.declared.build_error.BuildError.{BuildError}
@@ -285,12 +285,12 @@ ExaminesFields e list examined examined' old new next next' = (examined'.expande
 abbrev pub ExaminesPair : Examination → Sets → Kept → Kept → Breaches → Breaches → Type 0
 ExaminesPair e two examined examined' old new = (added : List (Broken Place)) × ((brokens_of new ≡ brokens_of old ++ added) × PairExamined e.pass (schema_of e) (document_of e) two examined examined' added)
 
--- the first pairs of a level, and all of them
+-- the first pairs of a level, and all of them if nothing is told
 abbrev pub ExaminesFirst : Examination → ℕ → Kept → Kept → Breaches → Breaches → Type 0
 ExaminesFirst e n examined examined' old new = (added : List (Broken Place)) × ((brokens_of new ≡ brokens_of old ++ added) × PairsExamined e.pass (schema_of e) (document_of e) n examined examined' added)
 
 abbrev pub ExaminesPairs : Examination → Kept → Kept → Breaches → Breaches → Type 0
-ExaminesPairs e examined examined' old new = ExaminesFirst e (length examined'.here) examined examined' old new
+ExaminesPairs e examined examined' old new = (n : ℕ) × (((brokens_of new ≡ brokens_of old) → length examined'.here ≤ n) × ExaminesFirst e n examined examined' old new)
 
 abbrev pub ExaminesLevel : Examination → List Sets → Kept → Kept → Breaches → Breaches → List Sets → Type 0
 ExaminesLevel e lists examined examined' old new next = (added : List (Broken Place)) × ((brokens_of new ≡ brokens_of old ++ added)

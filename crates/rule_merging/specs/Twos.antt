@@ -64,8 +64,8 @@ module _ (pass : Pass) (s : Judged) (d : MeantDocument Place) where
     pub more : (list : List PlainField) → Contains old.lists list → Contains new.lists list
     pub keeps : (known : List PlainSet) → Contains old.looked known → Contains new.looked known
     pub fresh : (known : List PlainSet) → Contains new.looked known → Contains old.looked known ⊎ HasSame later known
-    pub stand : (p q : FieldSelection) → GoTogether Wanted p q → StandIn new.lists (content_of p) (content_of q)
     -- where nothing is told
+    pub stand : added ≡ [] → (p q : FieldSelection) → GoTogether Wanted p q → StandIn new.lists (content_of p) (content_of q)
     pub agree : added ≡ [] → (list : List PlainField) → Contains new.lists list → Contains old.lists list ⊎ IsFresh new.looked list
 
 abbrev pub PairsFields : Examination → TwoFields → Kept → Kept → Breaches → Breaches → Type 0

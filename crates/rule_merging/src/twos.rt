@@ -51,7 +51,8 @@ impl<'doc> Examination<'doc> {
         examined.look_below(set_below(one), set_below(other))
     }
 
-    /// Compares a field with each of the others.
+    /// Compares a field with each of the others, up to the first that is told of: all that do not merge could be as many as fields
+    /// times fields.
     fn examine_with_each(
         &self,
         one: FieldSelection<'doc>,
@@ -63,13 +64,17 @@ impl<'doc> Examination<'doc> {
         ensures examined { OnOk result (PairsFields self.now (are_of (one.entry ∷ []) others.now) (kept_of examined.old) (kept_of examined.new) breaches.old breaches.new) }
         ensures counted { GrowsByTwo self.now (are_of (one.entry ∷ []) others.now) examined.old examined.new comparisons.old comparisons.new }
     {
+        let told = breaches.len();
         for other in others {
+            if breaches.len() > told {
+                return Ok(());
+            }
             self.examine_two_fields(one, *other, examined, breaches, comparisons)?;
         }
         Ok(())
     }
 
-    /// Compares each field of the one list with each of the other.
+    /// Compares each field of the one list with each of the other, up to the first that is told of.
     fn examine_each(
         &self,
         ones: &[FieldSelection<'doc>],
@@ -81,7 +86,11 @@ impl<'doc> Examination<'doc> {
         ensures examined { OnOk result (PairsFields self.now (are_of ones.now others.now) (kept_of examined.old) (kept_of examined.new) breaches.old breaches.new) }
         ensures counted { GrowsByTwo self.now (are_of ones.now others.now) examined.old examined.new comparisons.old comparisons.new }
     {
+        let told = breaches.len();
         for one in ones {
+            if breaches.len() > told {
+                return Ok(());
+            }
             self.examine_with_each(*one, others, examined, breaches, comparisons)?;
         }
         Ok(())
@@ -109,7 +118,7 @@ impl<'doc> Examination<'doc> {
         examined.look_at_each(&spreads, one)
     }
 
-    /// Examines the pairs of this level, and those that come to it.
+    /// Examines the pairs of this level, and those that come to it, up to the first that is told of.
     pub(crate) fn examine_pairs(
         &self,
         examined: &mut Remembered<'doc>,
@@ -119,8 +128,12 @@ impl<'doc> Examination<'doc> {
         ensures examined { OnOk result (ExaminesPairs self.now (kept_of examined.old) (kept_of examined.new) breaches.old breaches.new) }
         ensures counted { GrowsHere self.now examined.old examined.new comparisons.old comparisons.new }
     {
+        let told = breaches.len();
         let mut done = 0;
         while done < examined.here.len() {
+            if breaches.len() > told {
+                return Ok(());
+            }
             let pair = examined.here[done];
             self.examine_pair(pair, examined, breaches, comparisons)?;
             done += 1;

@@ -1,4 +1,4 @@
-use Rattle.std.proofs.Common.{◌≡◌, ◌∙◌, ◌++◌, List, map, sym, ap, subst, append_assoc}
+use Rattle.std.proofs.Common.{◌≡◌, ◌∙◌, ◌++◌, List, map, sym, ap, subst, append_assoc, append-nil}
 use Rattle.rule_field_groups.specs.in_ground.Broken.{brokens_of}
 use Rattle.rule_merging.specs.Counted.{AreListed}
 use Rattle.rule_merging.specs.Remembered.{Kept, remembered, kept_of}
@@ -38,12 +38,13 @@ returns-clause-examined c =
     let now = kept_of c.examine_pairs.new.examined in
     let new = kept_of c.advance.new.self in
     let first = c.in_ok-next.ensures.examined in
-    let pairs = c.in_ok-examine_pairs.ensures.examined in (
+    let all = c.in_ok-examine_pairs.ensures.examined in
+    let pairs = all.1.1 in (
       first.0 ++ pairs.0,
       (
         pairs.1.0 ∙ ap (λ l. l ++ pairs.0) first.1.1.0 ∙ append_assoc (brokens_of c.args.breaches.now) first.0 pairs.0,
         λ none. level_of e.pass s d lists old mid now new first.0 pairs.0 (sets_in c.in_ok-next.next)
-            (subst (λ l. SetsExamined e.pass s d lists old mid first.0 l) (sym first.1.1.1.0) first.1.1.1.1) pairs.1.1 c.advance.ensures none,
+            (subst (λ l. SetsExamined e.pass s d lists old mid first.0 l) (sym first.1.1.1.0) first.1.1.1.1) all.0 (λ e. all.1.0 (pairs.1.0 ∙ ap (λ l. brokens_of c.examine_lists.new.breaches ++ l) e ∙ append-nil (brokens_of c.examine_lists.new.breaches))) pairs.1.1 c.advance.ensures none,
       ),
     )
 

@@ -71,10 +71,8 @@ loop-done-preserved c =
 
 pub returns-clause-examined : goal.returns-clause-examined
 returns-clause-examined c =
-    let e = c.args.self.now in
     let here = c.loop-done.examined.here.items in
-    let end : c.loop-done.done ≡ length (kept_of c.loop-done.examined).here = omega (arith, c.len.ensures, c.loop-done-test.false, c.loop-done.invariant.within, length-map here two_of) in
-    subst (λ n. ExaminesFirst e n (kept_of c.args.examined.now) (kept_of c.loop-done.examined) c.args.breaches.now c.loop-done.breaches) end c.loop-done.invariant.examined
+    (c.loop-done.done, ((λ e. omega (arith, c.len.ensures, c.loop-done-test.false, length-map here two_of)), c.loop-done.invariant.examined))
 
 pub returns-clause-counted : goal.returns-clause-counted
 returns-clause-counted c = c.loop-done.invariant.counted
