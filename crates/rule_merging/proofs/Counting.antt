@@ -1,13 +1,11 @@
 -- How often shapes are compared, and that the members of each list that is examined are last fields of chains.
-use Rattle.std.proofs.Common.{◌≡◌, ◌∙◌, ℕ, suc, ◌+◌, ◌<◌, ◌≤◌, None, List, [], ◌∷◌, ◌++◌, map, length, get_or, take, drop, Contains, refl, sym, ap, subst, append_assoc, append-nil, add-one, arith, inl, inr}
+use Rattle.std.proofs.Common.{◌≡◌, ◌∙◌, ℕ, ◌+◌, ◌<◌, ◌≤◌, None, List, [], ◌∷◌, ◌++◌, map, length, get_or, take, drop, Contains, refl, sym, ap, subst, append_assoc, append-nil, arith, inl, inr}
 use Rattle.std.specs.List.{sum}
 use Rattle.std.specs.List.Sorted.{IsPermutation}
 use Rattle.std.proofs.lemmas.List.{length-map, take-append-drop}
 use Rattle.std.proofs.lemmas.List.Sorted.{length_permutation}
 use Rattle.std.proofs.lemmas.Option.{slice_get_within}
-use Rattle.std.proofs.lemmas.List.Sums.{sum-map, sum_by-append}
 use Rattle.std.proofs.lemmas.List.Elements.{Contains-append_left, Contains-append_cases}
-use Rattle.std.proofs.Math.Seq.{drop-cons}
 use Rattle.graphql_names.specs.Placed.{Place}
 use Rattle.rule_definitions.proofs.Lists.{not_in_nil, only, Contains-cons, Contains-first}
 use Rattle.rule_cycle_search.specs.Paths.{HasNoRepeat}
@@ -36,19 +34,10 @@ use Rattle.rule_field_groups.specs.Compared.{compared}
 use Rattle.rule_merging.specs.Counted.{DifferInMembers, AreApart, IsLast, AreLast, AreListed, Grows, IsCountedBy}
 use Rattle.rule_number_lists.specs.NumberLists.{HaveSame}
 use Rattle.rule_number_lists.proofs.Standing.{same_order, same_trans, same_sym, no_repeat_order}
+use Rattle.rule_field_groups.proofs.Counts.{sums}
 use Rattle.rule_field_groups.proofs.Lists.{slice_get-push_cases, contains_from_get}
 
 -- ---- sums
-
-sums : {X : Type 0} (f : X → ℕ) (xs ys : List X) → sum (map f (xs ++ ys)) ≡ sum (map f xs) + sum (map f ys)
-sums f xs ys = omega (arith, sum-map f (xs ++ ys), sum-map f xs, sum-map f ys, sum_by-append f xs ys)
-
-drop_first : {X : Type 0} (xs : List X) (i : ℕ) (x : X) → i < length xs → x ≡ get_or xs i x → drop i xs ≡ x ∷ drop (i + 1) xs
-drop_first xs i x h e = drop-cons xs i x h ∙ (rw add-one (ap (λ y. y ∷ drop (suc i) xs) (sym e)))
-
--- what is left of a list, its first one taken
-pub left_of : {X Y : Type 0} (f : Y → ℕ) (u : X → Y) (xs : List X) (i : ℕ) (x : X) → i < length xs → x ≡ get_or xs i x → sum (map f (map u (drop i xs))) ≡ f (u x) + sum (map f (map u (drop (i + 1) xs)))
-left_of f u xs i x h e = omega (arith, ap (λ l. sum (map f (map u l))) (drop_first xs i x h e), sums f (u x ∷ []) (map u (drop (i + 1) xs)))
 
 -- where nothing is compared
 no_sum : {X : Type 0} (lists : List (List X)) → sum (map (compared Selections) lists) ≡ 0

@@ -31,14 +31,18 @@ use Rattle.rule_merging_laws.proofs.PlainFacts.{arguments_plain, selected_plain}
 use Rattle.rule_merging_laws.proofs.Merges.{going_breaks, bound_passed}
 use Rattle.rule_field_groups.specs.declared.pass.Pass.{Pass}
 use Rattle.rule_field_groups.specs.declared.pass.Pass.TheVariants.{Shapes, Selections}
-use Rattle.rule_field_groups.specs.Passes.{Together, Agree, Conflict, TellsGroup}
-use Rattle.rule_field_groups.specs.Below.{contents_of, meant_sets, plain_sets, IsMergedIn, AreSetsOf}
+use Rattle.rule_field_groups.specs.Passes.{Together, Agree, Conflict, TellsEach}
+use Rattle.rule_field_groups.specs.Under.{Sets, all_sets, AreOf, HaveBoth, AreListsBelow}
+use Rattle.rule_field_groups.specs.Below.{contents_of, meant_sets, plain_sets, IsMergedIn}
+use Rattle.rule_field_groups.specs.declared.groups.KeyGroup.{KeyGroup}
+use Rattle.rule_field_groups.specs.KeyGroups.{parts_of, parts_in}
 use Rattle.rule_field_groups.proofs.Lists.{taken_more}
+use Rattle.std.proofs.lemmas.List.Concat.{flat_map-append}
 use Rattle.rule_merging.proofs.Bare.{IsIn, bare_selects, bare_plain}
 use Rattle.rule_number_lists.specs.NumberLists.{HaveSame}
 use Rattle.rule_number_lists.proofs.Standing.{same_sym}
 use Rattle.rule_merging.specs.Remembered.{Kept, nothing_kept, HasLooked, Expands}
-use Rattle.rule_merging.specs.Examined.{Sets, all_sets, all_plain, with_each, with_sets, if_any, AreOf, HaveBoth, PlainSelected, IsLeft, AllStand, AreSettled, AreUnderWay, HaveFields, GroupExamined, GroupsExamined, ListExamined, SetsExamined, AreTwosOf, AllExamined}
+use Rattle.rule_merging.specs.Examined.{all_plain, with_each, with_sets, PlainSelected, IsLeft, AllStand, AreSettled, AreUnderWay, HaveFields, GroupsExamined, ListExamined, SetsExamined, AreTwosOf, AllExamined}
 
 -- ---- lists
 
@@ -61,9 +65,20 @@ items_in v = v.items
 abbrev pub sets_at : Vec SelectedSet Global → Sets
 sets_at v = meant_sets v.items
 
+-- lists of sets behind others
+pub sets_appended : (old more new : List (Vec SelectedSet Global)) → new ≡ old ++ more → all_sets (map items_in new) ≡ all_sets (map items_in old) ++ all_sets (map items_in more)
+sets_appended old more new is = ap (λ l. all_sets (map items_in l)) is ∙ ap all_sets (map-append items_in old more) ∙ map-append meant_sets (map items_in old) (map items_in more)
+
 -- the front with the next one
 pub front_more : {X Y : Type 0} (f : X → Y) (xs : List X) (i : ℕ) (x : X) → i < length xs → x ≡ get_or xs i x → map f (take (i + 1) xs) ≡ map f (take i xs) ++ f x ∷ []
 front_more f xs i x h e = ap (map f) (taken_more xs i x h e) ∙ map-append f (take i xs) (x ∷ [])
+
+-- the parts of the groups in front with those of the next one
+pub parts_more : (xs : List KeyGroup) (i : ℕ) (x : KeyGroup) → i < length xs → x ≡ get_or xs i x → map fields_of (parts_in (take (i + 1) xs)) ≡ map fields_of (parts_in (take i xs)) ++ map fields_of (parts_of x)
+parts_more xs i x h e =
+    ap (λ l. map fields_of (parts_in l)) (taken_more xs i x h e)
+    ∙ ap (map fields_of) (flat_map-append parts_of (take i xs) (x ∷ []) ∙ ap (λ l. parts_in (take i xs) ++ l) (append-nil (parts_of x)))
+    ∙ map-append fields_of (parts_in (take i xs)) (parts_of x)
 
 no_items : {X : Type 0} (xs : List X) → length xs ≡ 0 → xs ≡ []
 no_items [] e = refl
@@ -113,20 +128,6 @@ both_on next later f g on (inl h) = inl h
 both_on next later f g on (inr (inl h)) = inr (inl h)
 both_on next later f g on (inr (inr (sets, (c, both)))) = inr (inr (sets, (on sets c, both)))
 
-sets_under : (group : List (StandingField Place)) (sets : List SelectedSet) → AreSetsOf group (meant_sets sets) → (vs : Sets) → Contains (all_sets (if_any sets)) vs → AreOf group vs
-sets_under group [] are vs c = not_in_nil vs c
-sets_under group (x ∷ xs) are vs c = λ v k. are.within v (subst (λ (l : Sets). Contains l v) (only (meant_sets (x ∷ xs)) vs c) k)
-
-sets_below : (group : List (StandingField Place)) (sets : List SelectedSet) → AreSetsOf group (meant_sets sets) → (f g : StandingField Place) → Contains group f → Contains group g → HaveBoth (all_sets (if_any sets)) f g
-sets_below group [] are f g a b = elim (are.covers f a) [ inl bare ↦ inl bare | inr c ↦ not_in_nil (unplaced_set f.set) c ]
-sets_below group (x ∷ xs) are f g a b = elim (are.covers f a) [
-  | inl bare ↦ inl bare
-  | inr c ↦ elim (are.covers g b) [
-    | inl bare ↦ inr (inl bare)
-    | inr k ↦ inr (inr (meant_sets (x ∷ xs), (Contains-first (meant_sets (x ∷ xs)) [] (meant_sets (x ∷ xs)) refl, (c, k))))
-  ]
-]
-
 -- ---- two by two
 
 pub no_twos : AreTwosOf [] []
@@ -158,9 +159,8 @@ twos_more front v twos are = record {
 module _ (pass : Pass) (s : Judged) (d : MeantDocument Place) where
   -- ---- groups
 
-  pub group_examined : (group : List (StandingField Place)) (added : List (Broken Place)) (sets : List SelectedSet) → TellsGroup pass s group added → AreSetsOf group (meant_sets sets)
-      → GroupExamined pass s d group added (all_sets (if_any sets))
-  group_examined group added sets tells are = record { tells = tells; under = sets_under group sets are; below = sets_below group sets are }
+  pub key_examined : (groups : List (List (StandingField Place))) (added : List (Broken Place)) (lists : List Sets) → TellsEach pass s groups added → AreListsBelow groups lists → GroupsExamined pass s d groups added lists
+  key_examined groups added lists tells are = record { right = tells.right; under = are.under; agree = tells.agree; below = are.below }
 
   pub no_groups : GroupsExamined pass s d [] [] []
   no_groups = record {
@@ -170,26 +170,25 @@ module _ (pass : Pass) (s : Judged) (d : MeantDocument Place) where
     below = λ group c. not_in_nil group c;
   }
 
-  -- one more group
-  groups_more : (groups : List (List (StandingField Place))) (added : List (Broken Place)) (next : List Sets) (group : List (StandingField Place)) (more : List (Broken Place)) (below : List Sets)
-      → GroupsExamined pass s d groups added next → GroupExamined pass s d group more below → GroupsExamined pass s d (groups ++ group ∷ []) (added ++ more) (next ++ below)
-  groups_more groups added next group more below so_far here = record {
+  -- more groups
+  groups_more : (groups : List (List (StandingField Place))) (added : List (Broken Place)) (next : List Sets) (others : List (List (StandingField Place))) (more : List (Broken Place)) (below : List Sets)
+      → GroupsExamined pass s d groups added next → GroupsExamined pass s d others more below → GroupsExamined pass s d (groups ++ others) (added ++ more) (next ++ below)
+  groups_more groups added next others more below so_far here = record {
     right = λ fault c. elim (Contains-append_cases added more fault c) [
-      | inl a ↦ let t = so_far.right fault a in (t.0, (Contains-append_left groups (group ∷ []) t.0 t.1.0, t.1.1))
-      | inr b ↦ (group, (in_last groups group, here.tells.right fault b))
+      | inl a ↦ let t = so_far.right fault a in (t.0, (Contains-append_left groups others t.0 t.1.0, t.1.1))
+      | inr b ↦ let t = here.right fault b in (t.0, (Contains-append_right groups others t.0 t.1.0, t.1.1))
     ];
     under = λ sets c. elim (Contains-append_cases next below sets c) [
-      | inl a ↦ let u = so_far.under sets a in (u.0, (Contains-append_left groups (group ∷ []) u.0 u.1.0, u.1.1))
-      | inr b ↦ (group, (in_last groups group, here.under sets b))
+      | inl a ↦ let u = so_far.under sets a in (u.0, (Contains-append_left groups others u.0 u.1.0, u.1.1))
+      | inr b ↦ let u = here.under sets b in (u.0, (Contains-append_right groups others u.0 u.1.0, u.1.1))
     ];
-    agree = λ e g c. elim (Contains-append_cases groups (group ∷ []) g c) [
+    agree = λ e g c. elim (Contains-append_cases groups others g c) [
       | inl a ↦ so_far.agree (left_empty added more e) g a
-      | inr b ↦ subst (AgreeWithHead (Agree pass s)) (sym (only group g b)) (here.tells.agree (right_empty added more e))
+      | inr b ↦ here.agree (right_empty added more e) g b
     ];
-    below = λ g c f h in_f in_h. elim (Contains-append_cases groups (group ∷ []) g c) [
+    below = λ g c f h in_f in_h. elim (Contains-append_cases groups others g c) [
       | inl a ↦ both_on next (next ++ below) f h (λ sets k. Contains-append_left next below sets k) (so_far.below g a f h in_f in_h)
-      | inr b ↦ both_on below (next ++ below) f h (λ sets k. Contains-append_right next below sets k)
-          (here.below f h (subst (λ k. Contains k f) (only group g b) in_f) (subst (λ k. Contains k h) (only group g b) in_h))
+      | inr b ↦ both_on below (next ++ below) f h (λ sets k. Contains-append_right next below sets k) (here.below g b f h in_f in_h)
     ];
   }
 
@@ -197,17 +196,15 @@ module _ (pass : Pass) (s : Judged) (d : MeantDocument Place) where
   abbrev pub GroupsTold : List (Broken Place) → List (Broken Place) → List Sets → List Sets → List (List (StandingField Place)) → Type 0
   GroupsTold told later next last groups = (added : List (Broken Place)) × ((below : List Sets) × ((later ≡ told ++ added) × ((last ≡ next ++ below) × GroupsExamined pass s d groups added below)))
 
-  pub groups_step : (told mid later : List (Broken Place)) (next between last : List Sets) (groups : List (List (StandingField Place))) (group : List (StandingField Place))
-      → GroupsTold told mid next between groups
-      → ((added : List (Broken Place)) × ((below : List Sets) × ((later ≡ mid ++ added) × ((last ≡ between ++ below) × GroupExamined pass s d group added below))))
-      → GroupsTold told later next last (groups ++ group ∷ [])
-  groups_step told mid later next between last groups group (a, (n, (is, (lies, so_far)))) (b, (m, (is_too, (lies_too, here)))) = (
+  pub groups_step : (told mid later : List (Broken Place)) (next between last : List Sets) (groups others : List (List (StandingField Place)))
+      → GroupsTold told mid next between groups → GroupsTold mid later between last others → GroupsTold told later next last (groups ++ others)
+  groups_step told mid later next between last groups others (a, (n, (is, (lies, so_far)))) (b, (m, (is_too, (lies_too, here)))) = (
     a ++ b,
     (
       n ++ m,
       (
         is_too ∙ ap (λ l. l ++ b) is ∙ append_assoc told a b,
-        (lies_too ∙ ap (λ l. l ++ m) lies ∙ append_assoc next n m, groups_more groups a n group b m so_far here),
+        (lies_too ∙ ap (λ l. l ++ m) lies ∙ append_assoc next n m, groups_more groups a n others b m so_far here),
       ),
     ),
   )

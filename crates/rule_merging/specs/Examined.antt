@@ -1,12 +1,11 @@
--- Private: leads to `MergingBreaks` and `FieldsMerge`. What the examination of a group, of a list, of a level and of all levels comes to.
+-- Private: leads to `MergingBreaks` and `FieldsMerge`. What the examination of groups, of a list, of a level and of all levels comes to.
 use Rattle.std.specs.Prelude.{◌≡◌, ◌++◌, ◌∷◌, ◌⊎◌, ℕ, Bool, true, false, List, [], map, Vec, Contains}
 use Rattle.std.specs.declared.alloc.Global.{Global}
 use Rattle.graphql_names.specs.Placed.{Place}
 use Rattle.fault_document_data.specs.declared.build_error.BuildError.{BuildError}
-use Rattle.rule_field_groups.specs.declared.below.SelectedSet.{SelectedSet}
 use Rattle.document_typing.specs.in_schema.SchemaOf.{schema_tree}
 use Rattle.document_meaning.specs.MeantTree.{MeantSet, MeantOperation, MeantDocument}
-use Rattle.document_meaning.specs.Unplaced.{unplaced_set, unplaced_document}
+use Rattle.document_meaning.specs.Unplaced.{unplaced_document}
 use Rattle.document_typing.specs.DocumentView.{document_meant}
 use Rattle.rule_definitions.specs.Judged.{Judged, judged}
 use Rattle.rule_document_definitions.specs.DocumentFaults.{Broken}
@@ -19,9 +18,9 @@ use Rattle.rule_field_groups.specs.in_ground.Fields.{fields_of}
 use Rattle.rule_field_groups.specs.in_ground.declared.field_selection.FieldSelection.{FieldSelection}
 use Rattle.rule_merging_laws.specs.Contents.{PlainField, PlainSet, PlainBelow, PlainStarts, IsSelected}
 use Rattle.rule_merging_laws.specs.Settled.{StandIn, StartsStand, IsSettledIn, IsUnderWay}
-use Rattle.rule_field_groups.specs.Passes.{Together, Agree, Conflict, TellsGroup}
-use Rattle.rule_field_groups.specs.Grouped.{lists_of}
-use Rattle.rule_field_groups.specs.Below.{contents_of, meant_sets, plain_sets, IsMergedIn, IsBare}
+use Rattle.rule_field_groups.specs.Passes.{Together, Agree, Conflict}
+pub use Rattle.rule_field_groups.specs.Under.{Sets, all_sets, sets_in, AreOf, IsAmong, HaveBoth}
+use Rattle.rule_field_groups.specs.Below.{contents_of, plain_sets, IsMergedIn}
 use Rattle.rule_field_groups.specs.declared.pass.Pass.{Pass}
 use Rattle.rule_merging.specs.Remembered.{Kept, remembered}
 use Rattle.rule_merging.specs.Counted.{AreLast, AreListed, Grows}
@@ -38,16 +37,6 @@ document_of e = document_meant e.document.now
 abbrev pub Breaches : Type 0
 Breaches = Vec (Place × BuildError) Global
 
--- sets whose fields are examined together; such lists
-abbrev pub Sets : Type 0
-Sets = List (MeantSet Place)
-
-abbrev pub all_sets : List (List SelectedSet) → List Sets
-all_sets lists = map meant_sets lists
-
-abbrev pub sets_in : Vec (Vec SelectedSet Global) Global → List Sets
-sets_in lists = all_sets (lists_of lists)
-
 -- without places
 abbrev pub all_plain : List Sets → List (List PlainSet)
 all_plain lists = map plain_sets lists
@@ -55,23 +44,6 @@ all_plain lists = map plain_sets lists
 -- a set with each of the others
 abbrev pub with_each : MeantSet Place → Sets → List Sets
 with_each v sets = map (λ w. v ∷ w ∷ []) sets
-
--- a list, if it has members
-abbrev pub if_any : {X : Type 0} → List X → List (List X)
-if_any [] = []
-if_any (x ∷ xs) = (x ∷ xs) ∷ []
-
--- each of the sets is that of a field of the group
-abbrev pub AreOf : List (StandingField Place) → Sets → Type 0
-AreOf group sets = (v : MeantSet Place) → Contains sets v → (f : StandingField Place) × (Contains group f × (f.set ≡ v))
-
--- the set says the same as one of these
-abbrev pub IsAmong : Sets → MeantSet Place → Type 0
-IsAmong sets v = Contains (plain_sets sets) (unplaced_set v)
-
--- where both select something, one of these lists has the sets of both
-abbrev pub HaveBoth : List Sets → StandingField Place → StandingField Place → Type 0
-HaveBoth next f g = IsBare f.set ⊎ (IsBare g.set ⊎ ((sets : Sets) × (Contains next sets × (IsAmong sets f.set × IsAmong sets g.set))))
 
 module _ (d : MeantDocument Place) where
   -- contents that sets select, without places
@@ -102,14 +74,6 @@ module _ (d : MeantDocument Place) where
   HaveFields false lists = (sets : Sets) → Contains lists sets → (x : StandingField Place) → IsSelected d sets x → ⊥
 
 module _ (pass : Pass) (s : Judged) (d : MeantDocument Place) where
-  -- ---- a group
-
-  -- what is told of a group, and the lists of sets below it: of any two of its fields one of these has both sets
-  pub record GroupExamined (group : List (StandingField Place)) (added : List (Broken Place)) (next : List Sets) : Type 0 where
-    pub tells : TellsGroup pass s group added
-    pub under : (sets : Sets) → Contains next sets → AreOf group sets
-    pub below : (f g : StandingField Place) → Contains group f → Contains group g → HaveBoth next f g
-
   -- ---- groups
 
   -- each of these is told of two fields of one of the groups
@@ -170,9 +134,9 @@ module _ (pass : Pass) (s : Judged) (d : MeantDocument Place) where
 
 -- ---- the same of breaches and lists of the program
 
-abbrev pub ExaminesGroup : Examination → List (StandingField Place) → Breaches → Breaches → List Sets → List Sets → Type 0
-ExaminesGroup e group old new next next' = (added : List (Broken Place)) × ((below : List Sets) × ((brokens_of new ≡ brokens_of old ++ added) × ((next' ≡ next ++ below)
-    × GroupExamined e.pass (schema_of e) (document_of e) group added below)))
+abbrev pub ExaminesGroups : Examination → List (List (StandingField Place)) → Breaches → Breaches → List Sets → List Sets → Type 0
+ExaminesGroups e groups old new next next' = (added : List (Broken Place)) × ((below : List Sets) × ((brokens_of new ≡ brokens_of old ++ added) × ((next' ≡ next ++ below)
+    × GroupsExamined e.pass (schema_of e) (document_of e) groups added below)))
 
 abbrev pub ExaminesList : Examination → List FieldSelection → Breaches → Breaches → List Sets → List Sets → Type 0
 ExaminesList e list old new next next' = (added : List (Broken Place)) × ((below : List Sets) × ((brokens_of new ≡ brokens_of old ++ added) × ((next' ≡ next ++ below)

@@ -1,18 +1,20 @@
 //! The examination of lists, level by level.
-ghost use Rattle.std.specs.Prelude.{◌≡◌, ◌≤◌, ◌+◌, ◌++◌, ◌∷◌, [], map, IfOk, OnOk};
+ghost use Rattle.std.specs.Prelude.{◌≡◌, ◌≤◌, ◌+◌, ◌∷◌, [], map, IfOk, OnOk};
 ghost use Rattle.rule_field_groups.specs.in_ground.Fields.{fields_of};
 ghost use Rattle.rule_field_groups.specs.Compared.{compared};
-ghost use Rattle.rule_field_groups.specs.Grouped.{lists_of};
+ghost use Rattle.rule_field_groups.specs.KeyGroups.{parts_of, compared_in};
+ghost use Rattle.rule_field_groups.specs.Under.{sets_in};
 ghost use Rattle.rule_field_groups.specs.Below.{contents_of, meant_at, meant_sets};
 ghost use Rattle.rule_cycle_search.specs.Paths.{HasNoRepeat};
 ghost use Rattle.rule_merging.specs.Remembered.{kept_of};
-ghost use Rattle.rule_merging.specs.Examined.{if_any, sets_in, document_of, with_each, HaveFields, ExaminesGroup, ExaminesList, ExaminesFields, ExaminesSets, ExaminesTwos, ExaminesAll, GrowsOver, GrowsBy};
+ghost use Rattle.rule_merging.specs.Examined.{document_of, with_each, HaveFields, ExaminesGroups, ExaminesList, ExaminesFields, ExaminesSets, ExaminesTwos, ExaminesAll, GrowsOver, GrowsBy};
 
 use crate::remembered::Remembered;
 use document_typed_operations::ExecutableDocument;
 use document_typing::Schema;
 use rule_field_groups::{
-    Breach, FieldSelection, Pass, SelectedSet, check_group, groups_of, merged_list, sets_of,
+    Breach, FieldSelection, KeyGroup, Pass, SelectedSet, check_key_group, groups_of, lists_below,
+    merged_list,
 };
 use std::alloc::{AllocError, Global};
 
@@ -25,19 +27,6 @@ pub(crate) struct Examination<'doc> {
     pub(crate) pass: Pass,
     pub(crate) schema: &'doc Schema,
     pub(crate) document: &'doc ExecutableDocument,
-}
-
-/// Adds the sets, if there are some.
-fn push_filled<'doc>(
-    sets: Vec<SelectedSet<'doc>>,
-    next: &mut Vec<Vec<SelectedSet<'doc>>>,
-) -> Result<(), AllocError>
-    ensures { OnOk result (lists_of next.new ≡ lists_of next.old ++ if_any sets.entry.items) }
-{
-    if !sets.is_empty() {
-        next.push(sets)?;
-    }
-    Ok(())
 }
 
 /// A level of one list, of this set alone.
@@ -55,21 +44,21 @@ fn first_level<'doc>(
 }
 
 impl<'doc> Examination<'doc> {
-    /// Compares the fields of a group, and adds the sets below it, if there are some.
+    /// Compares the fields of one key, and adds the lists of sets below them.
     fn examine_group(
         &self,
-        group: &[FieldSelection<'doc>],
+        group: &KeyGroup<'doc>,
         next: &mut Vec<Vec<SelectedSet<'doc>>>,
         breaches: &mut Vec<Breach>,
         comparisons: &mut u128,
     ) -> Result<(), AllocError>
-        ensures examined { OnOk result (ExaminesGroup self.now (fields_of group.now) breaches.old breaches.new (sets_in next.old) (sets_in next.new)) }
+        ensures examined { OnOk result (ExaminesGroups self.now (map fields_of (parts_of group.now)) breaches.old breaches.new (sets_in next.old) (sets_in next.new)) }
         ensures more { comparisons.old ≤ comparisons.new }
-        ensures counted { comparisons.new ≤ comparisons.old + compared self.now.pass group.now }
+        ensures counted { comparisons.new ≤ comparisons.old + compared_in self.now.pass group.now }
     {
-        check_group(self.pass, self.schema, group, breaches, comparisons)?;
-        let sets = sets_of(*next.allocator(), group)?;
-        push_filled(sets, next)
+        check_key_group(self.pass, self.schema, group, breaches, comparisons)?;
+        let mut lists = lists_below(*next.allocator(), group)?;
+        next.append(&mut lists)
     }
 
     /// Examines a list: compares the fields of each group, and adds the sets below the groups.
