@@ -36,8 +36,8 @@ use Rattle.rule_field_groups.specs.Under.{Sets, all_sets, AreOf, HaveBoth, AreLi
 use Rattle.rule_field_groups.specs.Below.{contents_of, meant_sets, plain_sets, IsMergedIn}
 use Rattle.rule_field_groups.specs.declared.groups.KeyGroup.{KeyGroup}
 use Rattle.rule_field_groups.specs.KeyGroups.{parts_of, parts_in}
+use Rattle.rule_field_groups.proofs.Counts.{flat_push}
 use Rattle.rule_field_groups.proofs.Lists.{taken_more}
-use Rattle.std.proofs.lemmas.List.Concat.{flat_map-append}
 use Rattle.rule_merging.proofs.Bare.{IsIn, bare_selects, bare_plain}
 use Rattle.rule_number_lists.specs.NumberLists.{HaveSame}
 use Rattle.rule_number_lists.proofs.Standing.{same_sym}
@@ -76,9 +76,7 @@ front_more f xs i x h e = ap (map f) (taken_more xs i x h e) ∙ map-append f (t
 -- the parts of the groups in front with those of the next one
 pub parts_more : (xs : List KeyGroup) (i : ℕ) (x : KeyGroup) → i < length xs → x ≡ get_or xs i x → map fields_of (parts_in (take (i + 1) xs)) ≡ map fields_of (parts_in (take i xs)) ++ map fields_of (parts_of x)
 parts_more xs i x h e =
-    ap (λ l. map fields_of (parts_in l)) (taken_more xs i x h e)
-    ∙ ap (map fields_of) (flat_map-append parts_of (take i xs) (x ∷ []) ∙ ap (λ l. parts_in (take i xs) ++ l) (append-nil (parts_of x)))
-    ∙ map-append fields_of (parts_in (take i xs)) (parts_of x)
+    ap (λ l. map fields_of (parts_in l)) (taken_more xs i x h e) ∙ ap (map fields_of) (flat_push parts_of (take i xs) x) ∙ map-append fields_of (parts_in (take i xs)) (parts_of x)
 
 no_items : {X : Type 0} (xs : List X) → length xs ≡ 0 → xs ≡ []
 no_items [] e = refl

@@ -58,7 +58,8 @@ impl<'doc> Examination<'doc> {
     {
         check_key_group(self.pass, self.schema, group, breaches, comparisons)?;
         let mut lists = lists_below(*next.allocator(), group)?;
-        next.append(&mut lists)
+        next.append(&mut lists)?;
+        Ok(())
     }
 
     /// Examines a list: compares the fields of each group, and adds the sets below the groups.
