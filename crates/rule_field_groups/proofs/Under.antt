@@ -17,7 +17,7 @@ use Rattle.rule_field_groups.specs.declared.below.SelectedSet.{SelectedSet}
 use Rattle.rule_field_groups.specs.declared.groups.OwnFields.{OwnFields}
 use Rattle.rule_field_groups.specs.KeyGroups.{with_own}
 use Rattle.rule_field_groups.specs.Below.{meant_at, meant_sets, plain_sets, IsBare, AreSetsOf, NotesSet}
-use Rattle.rule_field_groups.specs.Under.{Sets, all_sets, joined, AreOf, IsAmong, AreFurther, AddsFurther, HaveBoth, AreListsBelow}
+use Rattle.rule_field_groups.specs.Under.{Sets, all_sets, joined, AreOf, IsAmong, AreFurther, AddsFurther, HaveBoth, BelowSoFar, JoinsEach, AreListsBelow}
 use Rattle.rule_field_groups.proofs.Counts.{front_with}
 use Rattle.rule_field_groups.proofs.Lists.{taken_more}
 use Rattle.rule_field_groups.proofs.Sets.{among_more}
@@ -63,13 +63,6 @@ further_step others fields old new i x h e adds so_far =
     subst (λ l. AreFurther l others (meant_sets new)) (sym (ap fields_of (taken_more fields i x h e) ∙ map-append field_of (take i fields) (x ∷ []))) (adds (fields_of (take i fields)) so_far)
 
 -- ---- the lists
-
--- as far as lists were made: of what is shared, whose sets are these, and of what is on some types
-pub record BelowSoFar (shared : List (StandingField Place)) (first : Sets) (owns : List (List (StandingField Place))) (lists : List Sets) : Type 0 where
-  pub under : (sets : Sets) → Contains lists sets → AreOf shared sets ⊎ ((own : List (StandingField Place)) × (Contains owns own × AreOf (shared ++ own) sets))
-  pub shared_there : (v : MeantSet Place) → IsAmong first v → Contains lists first
-  pub own_there : (own : List (StandingField Place)) → Contains owns own → (then' : Sets) × (((f : StandingField Place) → Contains own f → IsBare f.set ⊎ (IsAmong first f.set ⊎ IsAmong then' f.set))
-      × ((v : MeantSet Place) → IsAmong then' v → Contains lists (first ++ then')))
 
 some_joined : (first then' : Sets) (v : MeantSet Place) → IsAmong then' v → Contains (joined first then') (first ++ then')
 some_joined first [] v c = not_in_nil (unplaced_set v) c
@@ -172,16 +165,19 @@ module _ (shared : List (StandingField Place)) (first : Sets) (owns : List (List
             have_both t.0 t.1.1 f g (placed t.0 own t.1.0 f (subst (λ l. Contains l f) e a)) (placed t.0 own t.1.0 g (subst (λ l. Contains l g) e b))
       ]
 
--- of the fields of one key
-module _ (shared : List FieldSelection) (first : Sets) (are : AreSetsOf (fields_of shared) first) where
-  pub own_below_step : (owns : List OwnFields) (i : ℕ) (x : OwnFields) → i < length owns → x ≡ get_or owns i x → (then' : Sets) (old new : List Sets) → AreFurther (fields_of x.fields.items) first then'
-      → new ≡ old ++ joined first then' → BelowSoFar (fields_of shared) first (map (λ o. fields_of o.fields.items) (take i owns)) old
-      → BelowSoFar (fields_of shared) first (map (λ o. fields_of o.fields.items) (take (i + 1) owns)) new
-  own_below_step owns i x h e then' old new further is so_far =
-      subst (λ ls. BelowSoFar (fields_of shared) first ls new) (sym (front_with (λ (o : OwnFields). fields_of o.fields.items) owns i x h e))
-      (own_below (fields_of shared) (fields_of x.fields.items) first then' (map (λ o. fields_of o.fields.items) (take i owns)) old new are further is so_far)
+-- of the types in front, and of one more
+pub none_joined : (first : Sets) (lists : List Sets) → JoinsEach first [] lists lists
+none_joined first lists shared are so_far = so_far
 
-  pub parts_below : (owns : List OwnFields) (lists : List Sets) → BelowSoFar (fields_of shared) first (map (λ o. fields_of o.fields.items) owns) lists
-      → AreListsBelow (map fields_of (with_own shared (map (λ o. o.fields.items) owns))) lists
-  parts_below owns lists so_far =
-      subst (λ gs. AreListsBelow gs lists) (sym (own_fields_parts shared owns)) (are_below (fields_of shared) first (map (λ o. fields_of o.fields.items) owns) lists are so_far)
+pub joined_more : (first : Sets) (owns : List OwnFields) (i : ℕ) (x : OwnFields) → i < length owns → x ≡ get_or owns i x → (further : Sets) (old mid new : List Sets) → AreFurther (fields_of x.fields.items) first further
+    → new ≡ mid ++ joined first further → JoinsEach first (map (λ o. fields_of o.fields.items) (take i owns)) old mid → JoinsEach first (map (λ o. fields_of o.fields.items) (take (i + 1) owns)) old new
+joined_more first owns i x h e further old mid new are is so_far shared of begun =
+    subst (λ ls. BelowSoFar shared first ls new) (sym (front_with (λ (o : OwnFields). fields_of o.fields.items) owns i x h e))
+    (own_below shared (fields_of x.fields.items) first further (map (λ o. fields_of o.fields.items) (take i owns)) mid new of are is (so_far shared of begun))
+
+-- the lists below the fields of one key
+pub parts_below : (shared : List FieldSelection) (owns : List OwnFields) (first : Sets) (begun lists : List Sets) → AreSetsOf (fields_of shared) first → begun ≡ [] ++ joined [] first
+    → JoinsEach first (map (λ o. fields_of o.fields.items) owns) begun lists → AreListsBelow (map fields_of (with_own shared (map (λ o. o.fields.items) owns))) lists
+parts_below shared owns first begun lists are is joins =
+    subst (λ gs. AreListsBelow gs lists) (sym (own_fields_parts shared owns))
+    (are_below (fields_of shared) first (map (λ o. fields_of o.fields.items) owns) lists are (joins (fields_of shared) are (shared_below (fields_of shared) first begun are is)))

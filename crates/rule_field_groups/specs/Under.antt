@@ -6,7 +6,7 @@ use Rattle.document_meaning.specs.MeantTree.{MeantSet}
 use Rattle.document_meaning.specs.Unplaced.{unplaced_set}
 use Rattle.rule_document_definitions.specs.Selected.{StandingField}
 use Rattle.rule_field_groups.specs.Grouped.{lists_of}
-use Rattle.rule_field_groups.specs.Below.{meant_sets, plain_sets, IsBare}
+use Rattle.rule_field_groups.specs.Below.{meant_sets, plain_sets, IsBare, AreSetsOf}
 use Rattle.rule_field_groups.specs.declared.below.SelectedSet.{SelectedSet}
 
 -- sets whose fields are examined together; such lists
@@ -47,6 +47,16 @@ AddsFurther field others old new = (fields : List (StandingField Place)) → Are
 -- where both select something, one of these lists has the sets of both
 abbrev pub HaveBoth : List Sets → StandingField Place → StandingField Place → Type 0
 HaveBoth lists f g = IsBare f.set ⊎ (IsBare g.set ⊎ ((sets : Sets) × (Contains lists sets × (IsAmong sets f.set × IsAmong sets g.set))))
+
+-- as far as lists were made: of what is shared, whose sets are these, and of what is on some types
+pub record BelowSoFar (shared : List (StandingField Place)) (first : Sets) (owns : List (List (StandingField Place))) (lists : List Sets) : Type 0 where
+  pub under : (sets : Sets) → Contains lists sets → AreOf shared sets ⊎ ((own : List (StandingField Place)) × (Contains owns own × AreOf (shared ++ own) sets))
+  pub shared_there : (v : MeantSet Place) → IsAmong first v → Contains lists first
+  pub own_there : (own : List (StandingField Place)) → Contains owns own → (further : Sets) × (((f : StandingField Place) → Contains own f → IsBare f.set ⊎ (IsAmong first f.set ⊎ IsAmong further f.set))
+      × ((v : MeantSet Place) → IsAmong further v → Contains lists (first ++ further)))
+
+abbrev pub JoinsEach : Sets → List (List (StandingField Place)) → List Sets → List Sets → Type 0
+JoinsEach first owns old new = (shared : List (StandingField Place)) → AreSetsOf shared first → BelowSoFar shared first [] old → BelowSoFar shared first owns new
 
 -- lists of sets of fields of one of the groups each: of any two fields of a group one of them has both sets
 pub record AreListsBelow (groups : List (List (StandingField Place))) (lists : List Sets) : Type 0 where

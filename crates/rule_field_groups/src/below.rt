@@ -2,10 +2,10 @@
 ghost use Rattle.std.specs.Prelude.{map, IfOk, OnOk};
 ghost use Rattle.rule_document_ground.specs.Fields.{field_of, fields_of, meant_fragments};
 ghost use Rattle.rule_field_groups.specs.Below.{meant_sets, AreSelected, IsDistinctOf, IsMerged, AreSetsOf, NotesSet};
-ghost use Rattle.rule_field_groups.specs.Under.{sets_in, AreFurther, AddsFurther, JoinsSets, AreListsBelow};
+ghost use Rattle.rule_field_groups.specs.Under.{sets_in, AreFurther, AddsFurther, JoinsSets, JoinsEach, AreListsBelow};
 ghost use Rattle.rule_field_groups.specs.KeyGroups.{parts_of};
 
-use crate::groups::KeyGroup;
+use crate::groups::{KeyGroup, OwnFields};
 use document_typed_operations::FragmentMap;
 use document_typed_selections::SelectionSet;
 use indexmap::IndexSet;
@@ -137,6 +137,22 @@ fn push_joined<'doc>(
     Ok(())
 }
 
+/// Adds for each object type a list of the sets that are shared and those that its fields have beside these.
+fn push_own_lists<'doc>(
+    owns: &[OwnFields<'doc>],
+    shared: &IndexSet<SelectedSet<'doc>>,
+    lists: &mut Vec<Vec<SelectedSet<'doc>>>,
+) -> Result<(), AllocError>
+    ensures { OnOk result (JoinsEach (meant_sets shared.now.keys) (map (λ o. fields_of o.fields.items) owns.now) (sets_in lists.old) (sets_in lists.new)) }
+{
+    let alloc = *lists.allocator();
+    for own in owns {
+        let sets = further_sets(alloc, &own.fields, shared)?;
+        push_joined(shared.as_slice(), sets.as_slice(), lists)?;
+    }
+    Ok(())
+}
+
 /// The lists of sets below the fields of one key: what is shared, and with it what is on each object type. Of any two fields
 /// that go together one of these has both sets. A list that no other set would come to is left out.
 pub fn lists_below<'doc>(
@@ -148,9 +164,6 @@ pub fn lists_below<'doc>(
     let shared = sets_of(alloc, &group.shared)?;
     let mut lists = Vec::new(alloc);
     push_joined(&[], shared.as_slice(), &mut lists)?;
-    for own in &group.own {
-        let sets = further_sets(alloc, &own.fields, &shared)?;
-        push_joined(shared.as_slice(), sets.as_slice(), &mut lists)?;
-    }
+    push_own_lists(&group.own, &shared, &mut lists)?;
     Ok(lists)
 }

@@ -13,7 +13,7 @@ use Rattle.rule_field_groups.proofs.below.note_further.Goals as goal
 pub returns-then-contains : goal.returns-then-contains
 returns-then-contains c =
     further_known (field_of c.args.field) (meant_sets c.args.others.now.keys) (meant_sets c.args.sets.now.keys)
-    (said_there c.args.others.now.keys _ (sym c.contains.ensures ∙ c.if-contains.true) (ap (λ (f : Field). unplaced_set (meant_of_set (typed_set_tree f.selection_set))) c.content.ensures))
+    (said_there c.args.others.now.keys (record { set = record { ref_ptr = c.args.field.field.ref_ptr; now = c.content.result.now.selection_set } }) (sym c.contains.ensures ∙ c.if-contains.true) (ap (λ (f : Field). unplaced_set (meant_of_set (typed_set_tree f.selection_set))) c.content.ensures))
 
 pub returns : goal.returns
 returns c =
