@@ -120,7 +120,7 @@ fn further_sets<'doc>(
     Ok(sets)
 }
 
-/// Adds a list of the first sets and the further ones, unless there are none of these.
+/// Adds a list of the first sets and then the further ones, unless there are no further ones.
 fn push_joined<'doc>(
     first: &[SelectedSet<'doc>],
     further: &[SelectedSet<'doc>],
@@ -137,7 +137,7 @@ fn push_joined<'doc>(
     Ok(())
 }
 
-/// Adds for each object type a list of the sets that are shared and those that its fields have beside these.
+/// Adds a list for each object type: the shared sets, and the further ones of its fields. A type without further ones has none.
 fn push_own_lists<'doc>(
     owns: &[OwnFields<'doc>],
     shared: &IndexSet<SelectedSet<'doc>>,
@@ -153,8 +153,8 @@ fn push_own_lists<'doc>(
     Ok(())
 }
 
-/// The lists of sets below the fields of one key: what is shared, and with it what is on each object type. Of any two fields
-/// that go together one of these has both sets. A list that no other set would come to is left out.
+/// The lists of sets below the fields of one key: the shared sets, and for each object type these and its own. For any two
+/// fields that go together, one of the lists has the sets of both.
 pub fn lists_below<'doc>(
     alloc: Global,
     group: &KeyGroup<'doc>,

@@ -261,7 +261,7 @@ fn conflict(
     }
 }
 
-/// Tells each of the others that does not agree with the first.
+/// Tells each of the other fields that does not agree with the first.
 fn check_others(
     pass: Pass,
     schema: &Schema,
@@ -302,7 +302,7 @@ pub fn check_group(
     }
 }
 
-/// Tells which of the fields that stand before another do not agree with the first of them, and whether this other does not.
+/// Tells each of the fields before another one that does not agree with the first of them; and the other, if it does not.
 fn check_before(
     pass: Pass,
     schema: &Schema,
@@ -324,8 +324,8 @@ fn check_before(
     }
 }
 
-/// Tells which fields on one object type do not agree with the first that is shared, or if none is, with the first of them.
-/// Of two that do not agree the later is told: so many of the fields stand before the first that is shared.
+/// Tells the fields on one object type that do not agree with the first shared one, or with their own first if none is
+/// shared. The later of two is told: the first `early` fields are before the first shared one.
 fn check_own(
     pass: Pass,
     schema: &Schema,
@@ -349,7 +349,7 @@ fn check_own(
     }
 }
 
-/// Tells what does not agree of the fields under one key, in each of its parts.
+/// Tells the fields under one key that do not agree, part by part.
 pub fn check_key_group(
     pass: Pass,
     schema: &Schema,

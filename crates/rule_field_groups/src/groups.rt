@@ -57,7 +57,7 @@ fn insert_under<'doc>(
     Ok(())
 }
 
-/// What fields of a list are filed by.
+/// What the fields of a list are grouped by.
 #[derive(Clone, Copy)]
 enum Filing {
     /// The response key.
@@ -66,7 +66,7 @@ enum Filing {
     Parent,
 }
 
-/// The name by which a field is filed.
+/// The name that a field is grouped by.
 fn filed_name<'doc>(filing: Filing, field: FieldSelection<'doc>) -> &'doc Name
     ensures { result.now.text ≡ filed_name filing field.entry }
 {
@@ -76,7 +76,7 @@ fn filed_name<'doc>(filing: Filing, field: FieldSelection<'doc>) -> &'doc Name
     }
 }
 
-/// The fields of the list under the names by which they are filed.
+/// The fields of the list under the names that they are grouped by.
 fn index_of<'doc>(
     alloc: Global,
     filing: Filing,
@@ -107,7 +107,7 @@ fn groups_in<'doc>(
     Ok(groups)
 }
 
-/// The fields of the list by the names by which they are filed, in the order of the list.
+/// The fields of the list that have one name, for each name, in the order of the list.
 fn filed<'doc>(
     alloc: Global,
     filing: Filing,
@@ -120,8 +120,8 @@ fn filed<'doc>(
     groups_in(alloc, index)
 }
 
-/// The fields of a list under one response key ("fieldsForName"): those that may be selected on any object, and those on each
-/// object type. What is shared goes together with all, what is of one type with that and what is shared.
+/// The fields of a list under one response key ("fieldsForName"): those on abstract types, which are shared by all objects, and
+/// those on each object type. One object may have the shared ones and those of one type.
 #[derive(Drop)]
 pub struct KeyGroup<'doc> {
     pub(crate) shared: Vec<FieldSelection<'doc>>,
@@ -132,11 +132,11 @@ pub struct KeyGroup<'doc> {
 #[derive(Drop)]
 pub(crate) struct OwnFields<'doc> {
     pub(crate) fields: Vec<FieldSelection<'doc>>,
-    /// How many of them stand before the first that is shared.
+    /// How many of them are before the first shared one, in the order of the list.
     pub(crate) early: usize,
 }
 
-/// All of them shared: the shapes of all fields of one key are compared.
+/// A group in which all fields are shared: shapes are compared whatever the types that fields are selected on.
 fn all_shared<'doc>(alloc: Global, shared: Vec<FieldSelection<'doc>>) -> KeyGroup<'doc>
     ensures shared { result.shared.items ≡ shared.entry.items }
     ensures own { own_lists result ≡ [] }
@@ -181,7 +181,7 @@ fn object_fields<'doc>(
     Ok(found)
 }
 
-/// Of the fields on each object type, in the order in which these come, how many stand before the first on an abstract one.
+/// How many of the fields on each object type are before the first one on an abstract type, in the order of these types.
 fn early_counts(
     alloc: Global,
     schema: &Schema,
@@ -201,7 +201,7 @@ fn early_counts(
     Ok(counts)
 }
 
-/// The lists with how many of each stand before the first field that is shared: as counted, or none.
+/// The lists, each with its count of `early`, or 0 where that is shorter.
 fn own_fields<'doc>(
     alloc: Global,
     lists: Vec<Vec<FieldSelection<'doc>>>,
@@ -237,7 +237,7 @@ fn by_parents<'doc>(
     Ok(KeyGroup { shared, own })
 }
 
-/// The fields of one key as they are compared in a pass.
+/// The fields of one key, as a pass compares them.
 fn key_group<'doc>(
     alloc: Global,
     pass: Pass,
@@ -255,8 +255,8 @@ fn key_group<'doc>(
     }
 }
 
-/// The fields of the list by response keys, as they are compared in a pass. Each field stands once, in one part, each part in
-/// the order of the list.
+/// The fields of the list by response keys, as a pass compares them. Each field is in one part, once, and each part is in the
+/// order of the list.
 pub fn groups_of<'doc>(
     alloc: Global,
     pass: Pass,

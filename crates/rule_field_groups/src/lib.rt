@@ -1,8 +1,8 @@
 //! Fields of a list that go together, and what is told of those that do not merge (section 5.3.2, "Field Selection Merging").
 //!
 //! Two passes compare the fields of a list (`Pass`): fields of one response key in shape, and fields that one object may have
-//! in name and arguments. The fields of one key are split by the types that they are selected on (`KeyGroup`), and each is
-//! compared with the first one that goes together with all.
+//! in name and arguments. The fields of one key are split once by the types that they are selected on (`KeyGroup`): those on
+//! abstract types are compared with their first, those on an object type with that one too, or else with their own first.
 //!
 //! For the layer above: `groups_of` gives the groups of a list in a pass, of which the parts are groups of fields that go
 //! together (`AreGroups`, over `Together` of `specs/Passes.antt`, and `parts_of` of `specs/KeyGroups.antt`);

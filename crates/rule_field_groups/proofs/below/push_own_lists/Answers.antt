@@ -21,8 +21,8 @@ loop-own-preserved c =
     let mid = sets_in c.loop-own.lists in
     joined_more (meant_sets keys) c.args.owns.now i x h c.own-item.is (meant_sets c.in_ok-sets.sets.keys) (sets_in c.args.lists.now) mid (sets_in c.push_joined.new.lists)
     (subst (λ (l : List FieldSelection). AreFurther (fields_of l) (meant_sets keys) (meant_sets c.in_ok-sets.sets.keys)) c.deref.ensures.value c.in_ok-sets.ensures)
-    (c.in_ok-push_joined.ensures ∙ ap (λ (l : List SelectedSet). mid ++ joined (meant_sets l) (meant_sets c.as_slice-2.result.now)) c.as_slice.ensures.keys
-    ∙ ap (λ (l : List SelectedSet). mid ++ joined (meant_sets keys) (meant_sets l)) c.as_slice-2.ensures.keys)
+    (c.in_ok-push_joined.ensures ∙ ap (λ (l : List SelectedSet). mid ++ joined (meant_sets l) (meant_sets c.as_slice-in-loop-own.result.now)) c.as_slice.ensures.keys
+    ∙ ap (λ (l : List SelectedSet). mid ++ joined (meant_sets keys) (meant_sets l)) c.as_slice-in-loop-own.ensures.keys)
     c.loop-own.invariant
 
 pub returns : goal.returns

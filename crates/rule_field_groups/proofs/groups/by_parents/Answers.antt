@@ -3,6 +3,7 @@ use Rattle.std.specs.List.{sum}
 use Rattle.graphql_schema.specs.SchemaOf.{schema_tree}
 use Rattle.rule_definitions.specs.Judged.{judged}
 use Rattle.rule_document_ground.specs.declared.field_selection.FieldSelection.{FieldSelection}
+use Rattle.rule_field_groups.specs.declared.groups.OwnFields.{OwnFields}
 use Rattle.rule_field_groups.specs.Grouped.{lists_of, parent_of, AreFiled}
 use Rattle.rule_field_groups.specs.KeyGroups.{is_shared}
 use Rattle.rule_field_groups.proofs.Sharing.{parents_once}
@@ -20,5 +21,5 @@ returns-clause-parents c =
 
 pub returns-clause-once : goal.returns-clause-once
 returns-clause-once c =
-    parents_once (judged (schema_tree c.args.schema.now)) c.args.list.now _ _ c.in_ok-shared.ensures
+    parents_once (judged (schema_tree c.args.schema.now)) c.args.list.now c.in_ok-shared.shared.items (map (λ (o : OwnFields). o.fields.items) c.in_ok-own.own.items) c.in_ok-shared.ensures
     (ap (λ l. sum (map length l)) c.in_ok-own.ensures ∙ c.in_ok-filed.ensures.counted ∙ ap length (c.deref.ensures.value ∙ c.in_ok-objects.ensures))

@@ -28,8 +28,8 @@ returns-in-Shapes-clause-ordered c =
 pub returns-in-Shapes-clause-once : goal.returns-in-Shapes-clause-once
 returns-in-Shapes-clause-once c = shapes_once c.args.list.items c.all_shared.result.shared.items (own_lists c.all_shared.result) c.all_shared.ensures.shared c.all_shared.ensures.own
 
-pub returns-in-Selections-clause-parts : goal.returns-in-Selections-clause-parts
-returns-in-Selections-clause-parts c =
+pub returns-clause-parts : goal.returns-clause-parts
+returns-clause-parts c =
     let s = judged (schema_tree c.args.schema.now) in
     let list = c.args.list.items in
     IfOk-weaker c.by_parents.result _ _
@@ -38,13 +38,13 @@ returns-in-Selections-clause-parts c =
         subst (λ (p : Pass). ArePartsFor p s list (parts_of group)) (sym c.in-Selections.is) (parent_groups s list group.shared.items (own_lists group) k.shared k.own))
     c.by_parents.ensures.parents
 
-pub returns-in-Selections-clause-counted : goal.returns-in-Selections-clause-counted
-returns-in-Selections-clause-counted c =
+pub returns-clause-counted : goal.returns-clause-counted
+returns-clause-counted c =
     IfOk-weaker c.by_parents.result _ _
     (λ (group : KeyGroup) h. subst (λ (p : Pass). compared_in p group ≤ compared p c.args.list.items) (sym c.in-Selections.is) (selections_in group)) c.by_parents.ensures.parents
 
-pub returns-in-Selections-clause-ordered : goal.returns-in-Selections-clause-ordered
-returns-in-Selections-clause-ordered c =
+pub returns-clause-ordered : goal.returns-clause-ordered
+returns-clause-ordered c =
     let s = judged (schema_tree c.args.schema.now) in
     let list = c.args.list.items in
     IfOk-weaker c.by_parents.result _ _
@@ -53,6 +53,6 @@ returns-in-Selections-clause-ordered c =
         ordered_parts s list group.shared.items (own_lists group) k.shared k.own)
     c.by_parents.ensures.parents
 
-pub returns-in-Selections-clause-once : goal.returns-in-Selections-clause-once
-returns-in-Selections-clause-once c =
+pub returns-clause-once : goal.returns-clause-once
+returns-clause-once c =
     IfOk-weaker c.by_parents.result _ _ (λ (group : KeyGroup) h. h ∙ ap length c.deref.ensures.value) c.by_parents.ensures.once
