@@ -110,14 +110,16 @@ module _ (s : Judged) where
         → (parent : List ℕ) × ((y : FieldSelection) → Contains part y → Contains list y × IsOnOne s parent y)
     of_part part (inl e) = ([], λ y c. on_any [] y (subst (λ l. Contains l y) e c))
     of_part part (inr (own, (there, e))) =
-        let n = filed.only own there in
-        (n.0, λ y c. elim (Contains-append_cases shared own y (subst (λ l. Contains l y) e c)) [
-          | inl a ↦ on_any n.0 y a
-          | inr b ↦
-              let p = of_filter (has parent_of n.0) objects y (subst (λ l. Contains l y) n.1 b) in
-              let q = of_filter (λ x. not (is_shared s x)) list y p.0 in
-              (q.0, inl (sym (named_so n.0 (parent_of y) p.1)))
-        ])
+        let n = filed.only own there in (
+          n.0,
+          λ y c. elim (Contains-append_cases shared own y (subst (λ l. Contains l y) e c)) [
+            | inl a ↦ on_any n.0 y a
+            | inr b ↦
+                let p = of_filter (has parent_of n.0) objects y (subst (λ l. Contains l y) n.1 b) in
+                let q = of_filter (λ x. not (is_shared s x)) list y p.0 in
+                (q.0, inl (sym (named_so n.0 (parent_of y) p.1)))
+          ],
+        )
 
     -- the parts by parents are groups of fields that one object may have
     pub parent_groups : AreParentGroups s list (with_own shared owns)
@@ -305,11 +307,25 @@ module _ (pass : Pass) (s : Judged) (keyed : List (Vec FieldSelection Global)) (
 
   pub group_counted : compared_in pass group ≤ compared pass fields.items → sum (map (compared_in pass) groups) ≤ sum (map (compared pass) (map items keyed)) → sum (map (compared_in pass) new) ≤ sum (map (compared pass) (map items (keyed ++ fields ∷ [])))
   group_counted here so_far =
-      omega (arith, here, so_far, ap (λ l. sum (map (compared_in pass) l)) is, sum_push (compared_in pass) groups group,
-      ap (λ l. sum (map (compared pass) l)) keys_more, sum_push (compared pass) (map items keyed) fields.items)
+      omega (
+        arith,
+        here,
+        so_far,
+        ap (λ l. sum (map (compared_in pass) l)) is,
+        sum_push (compared_in pass) groups group,
+        ap (λ l. sum (map (compared pass) l)) keys_more,
+        sum_push (compared pass) (map items keyed) fields.items,
+      )
 
   pub group_once : sum (map length (lists_in_group group)) ≡ length fields.items → sum (map length (flat_map lists_in_group groups)) ≡ sum (map length (map items keyed))
       → sum (map length (flat_map lists_in_group new)) ≡ sum (map length (map items (keyed ++ fields ∷ [])))
   group_once here so_far =
-      omega (arith, here, so_far, ap (λ l. sum (map length l)) (given_more lists_in_group), sums length (flat_map lists_in_group groups) (lists_in_group group),
-      ap (λ l. sum (map length l)) keys_more, sum_push length (map items keyed) fields.items)
+      omega (
+        arith,
+        here,
+        so_far,
+        ap (λ l. sum (map length l)) (given_more lists_in_group),
+        sums length (flat_map lists_in_group groups) (lists_in_group group),
+        ap (λ l. sum (map length l)) keys_more,
+        sum_push length (map items keyed) fields.items,
+      )

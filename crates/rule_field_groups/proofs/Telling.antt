@@ -365,9 +365,13 @@ module _ (pass : Pass) (s : Judged) where
                 let part = part_of_shared shared owns in
                 (part.0, (part.1.0, (f, (g, (part.1.1 f (subst (λ l. Contains l f) (sym e) r.1.1.1.1.0), (part.1.1 g (subst (λ l. Contains l g) (sym e) r.1.1.1.1.1.0), r.1.1.1.1.1.1))))))
             | inr m ↦
-                let own = contains_unmap (λ l. take 1 shared ++ l) owns r.0 m in
-                (shared ++ own.0, (part_of_own shared owns own.0 own.1.0,
-                (f, (g, (in_own shared own.0 f (subst (λ l. Contains l f) (sym own.1.1) r.1.1.1.1.0), (in_own shared own.0 g (subst (λ l. Contains l g) (sym own.1.1) r.1.1.1.1.1.0), r.1.1.1.1.1.1))))))
+                let own = contains_unmap (λ l. take 1 shared ++ l) owns r.0 m in (
+                  shared ++ own.0,
+                  (
+                    part_of_own shared owns own.0 own.1.0,
+                    (f, (g, (in_own shared own.0 f (subst (λ l. Contains l f) (sym own.1.1) r.1.1.1.1.0), (in_own shared own.0 g (subst (λ l. Contains l g) (sym own.1.1) r.1.1.1.1.1.0), r.1.1.1.1.1.1)))),
+                  ),
+                )
           ]
 
       agree : added ≡ [] → (group : List (StandingField Place)) → Contains (with_own shared owns) group → AgreeWithHead (Agree pass s) group

@@ -363,7 +363,15 @@ pub fn check_key_group(
 {
     check_group(pass, schema, &group.shared, breaches, comparisons)?;
     for own in &group.own {
-        check_own(pass, schema, &group.shared, &own.fields, own.early, breaches, comparisons)?;
+        check_own(
+            pass,
+            schema,
+            &group.shared,
+            &own.fields,
+            own.early,
+            breaches,
+            comparisons,
+        )?;
     }
     Ok(())
 }

@@ -21,9 +21,13 @@ loop-own-init c =
       told = subst (λ (l : List FieldSelection). AddsEach c.args.pass s (with_first c.args.pass s (fields_of l) []) c.args.breaches.now c.check_group.new.breaches) c.deref.ensures.value
           (adds_shared c.args.pass s (fields_of c.deref.result.now) c.args.breaches.now c.check_group.new.breaches c.in_ok-check_group.ensures.told);
       more = c.check_group.ensures.more;
-      counted = omega (arith, c.check_group.ensures.counted, ap (compared c.args.pass) c.deref.ensures.value,
-          ap (λ l. sum (map (λ (o : OwnFields). compared c.args.pass o.fields.items) l)) c.deref-own-items.ensures.value,
-          ap sum (map-map (compared c.args.pass) (λ (o : OwnFields). o.fields.items) group.own.items));
+      counted = omega (
+        arith,
+        c.check_group.ensures.counted,
+        ap (compared c.args.pass) c.deref.ensures.value,
+        ap (λ l. sum (map (λ (o : OwnFields). compared c.args.pass o.fields.items) l)) c.deref-own-items.ensures.value,
+        ap sum (map-map (compared c.args.pass) (λ (o : OwnFields). o.fields.items) group.own.items),
+      );
     }
 
 pub loop-own-preserved : goal.loop-own-preserved

@@ -34,8 +34,8 @@ returns-clause-parts c =
     let list = c.args.list.items in
     IfOk-weaker c.by_parents.result _ _
     (λ (group : KeyGroup) h.
-        let k = subst (λ l. IsByParents s l group) c.deref.ensures.value h in
-        subst (λ (p : Pass). ArePartsFor p s list (parts_of group)) (sym c.in-Selections.is) (parent_groups s list group.shared.items (own_lists group) k.shared k.own))
+    let k = subst (λ l. IsByParents s l group) c.deref.ensures.value h in
+    subst (λ (p : Pass). ArePartsFor p s list (parts_of group)) (sym c.in-Selections.is) (parent_groups s list group.shared.items (own_lists group) k.shared k.own))
     c.by_parents.ensures.parents
 
 pub returns-clause-counted : goal.returns-clause-counted
@@ -49,8 +49,8 @@ returns-clause-ordered c =
     let list = c.args.list.items in
     IfOk-weaker c.by_parents.result _ _
     (λ (group : KeyGroup) h.
-        let k = subst (λ l. IsByParents s l group) c.deref.ensures.value h in
-        ordered_parts s list group.shared.items (own_lists group) k.shared k.own)
+    let k = subst (λ l. IsByParents s l group) c.deref.ensures.value h in
+    ordered_parts s list group.shared.items (own_lists group) k.shared k.own)
     c.by_parents.ensures.parents
 
 pub returns-clause-once : goal.returns-clause-once
