@@ -10,7 +10,7 @@ use Rattle.rule_field_groups.proofs.Lists.{taken_more}
 pub sums : {X : Type 0} (f : X → ℕ) (xs ys : List X) → sum (map f (xs ++ ys)) ≡ sum (map f xs) + sum (map f ys)
 sums f xs ys = omega (arith, sum-map f (xs ++ ys), sum-map f xs, sum-map f ys, sum_by-append f xs ys)
 
-drop_first : {X : Type 0} (xs : List X) (i : ℕ) (x : X) → i < length xs → x ≡ get_or xs i x → drop i xs ≡ x ∷ drop (i + 1) xs
+pub drop_first : {X : Type 0} (xs : List X) (i : ℕ) (x : X) → i < length xs → x ≡ get_or xs i x → drop i xs ≡ x ∷ drop (i + 1) xs
 drop_first xs i x h e = drop-cons xs i x h ∙ (rw add-one (ap (λ y. y ∷ drop (suc i) xs) (sym e)))
 
 -- what is left of a list, its first one taken
