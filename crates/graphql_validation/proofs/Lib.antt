@@ -3,6 +3,7 @@ pub mod Operations
 pub mod Fragments
 pub mod Data
 pub mod Ordered
+pub mod Settled
 pub mod Subscribed
 pub mod WholeAlone
 pub mod OneSet

@@ -5,6 +5,8 @@ ghost use Rattle.rule_document_definitions.specs.Selected.{operations};
 ghost use Rattle.fault_data.specs.Adds.{Adds};
 ghost use Rattle.fault_data.specs.FaultView.{faults_of};
 ghost use Rattle.rule_document_ground.specs.NotedNames.{noted_names};
+ghost use Rattle.rule_document_ground.specs.Reach.{meant_fragments};
+ghost use Rattle.rule_settled_fragments.specs.Settled.{StandIn};
 ghost use Rattle.rule_fragments.specs.Used.{AreUnderOwnNames};
 ghost use Rattle.rule_fragments.specs.Possible.{ArePossibleIfFound};
 ghost use Rattle.rule_document_ground.specs.Broken.{brokens_of};
@@ -18,7 +20,7 @@ ghost use Rattle.graphql_validation.specs.Operations.{OperationFails, ReachesNam
 
 use crate::alone::deferred_breaches;
 use crate::found::{Found, check_fragments, note_fragments};
-use document_typed_operations::{ExecutableDocument, Operation};
+use document_typed_operations::{ExecutableDocument, FragmentMap, Operation};
 use fault_data::Fault;
 use graphql_names::Node;
 use graphql_schema::Schema;
@@ -26,25 +28,26 @@ use rule_document_ground::reach;
 use rule_fragments::{PossibleTypes, check_applications, check_spreads};
 use rule_merging::Breach;
 use rule_selections::check_selections;
+use rule_settled_fragments::settled_fragments;
 use rule_subscriptions::check_subscription;
 use rule_variables::{check_variables, check_variables_alone};
 use std::alloc::{AllocError, Global};
 
-/// Adds the faults of an operation under a schema, and notes the fragments that it reaches. The possible types of the schema
-/// are found where it first needs them.
+/// Adds the faults of an operation under a schema, and notes the fragments that it reaches, where these fragments stand in
+/// for those of its document. The possible types of the schema are found where it first needs them.
 fn check_operation(
     schema: &Schema,
     possible: &mut Option<PossibleTypes>,
     document: &ExecutableDocument,
+    fragments: &FragmentMap,
     operation: &Node<Operation>,
     found: &mut Found,
 ) -> Result<(), AllocError>
-    ensures told { OnOk result (ReachesTyped (meanings (plain (schema_tree schema.now))) (document_meant document.now) (operation_meant operation.now) → ArePossibleIfFound (judged (schema_tree schema.now)) possible.old → Adds found.old.faults found.new.faults (OperationFails (document_meant document.now) (operation_meant operation.now) (schema_tree schema.now))) }
-    ensures noted { OnOk result (NotesNames (noted_names found.old.used) (noted_names found.new.used) (ReachesNamed (document_meant document.now) (operation_meant operation.now))) }
+    ensures told { OnOk result (StandIn (schema_tree schema.now) (document_meant document.now).fragments (meant_fragments fragments.now) → ReachesTyped (meanings (plain (schema_tree schema.now))) (document_meant document.now) (operation_meant operation.now) → ArePossibleIfFound (judged (schema_tree schema.now)) possible.old → Adds found.old.faults found.new.faults (OperationFails (document_meant document.now) (operation_meant operation.now) (schema_tree schema.now))) }
+    ensures noted { OnOk result (StandIn (schema_tree schema.now) (document_meant document.now).fragments (meant_fragments fragments.now) → NotesNames (noted_names found.old.used) (noted_names found.new.used) (ReachesNamed (document_meant document.now) (operation_meant operation.now))) }
     ensures right { OnOk result (ArePossibleIfFound (judged (schema_tree schema.now)) possible.old → ArePossibleIfFound (judged (schema_tree schema.now)) possible.new) }
 {
     let alloc = *found.faults.allocator();
-    let fragments = &document.fragments;
     let reach = reach(alloc, &operation.content().selection_set, fragments)?;
     check_variables_alone(operation, &reach, &mut found.faults)?;
     check_variables(schema, operation, &mut found.faults)?;
@@ -54,25 +57,28 @@ fn check_operation(
     note_fragments(&reach, &mut found.used)
 }
 
-/// Adds the faults of each operation under a schema, and notes the fragments that one of them reaches.
+/// Adds the faults of each operation under a schema, and notes the fragments that one of them reaches. These fragments stand
+/// in for those of the document.
 fn check_operations(
     schema: &Schema,
     possible: &mut Option<PossibleTypes>,
     document: &ExecutableDocument,
+    fragments: &FragmentMap,
     found: &mut Found,
 ) -> Result<(), AllocError>
-    ensures told { OnOk result (AreReachesTyped (schema_tree schema.now) (document_meant document.now) → ArePossibleIfFound (judged (schema_tree schema.now)) possible.old → Adds found.old.faults found.new.faults (λ f. AtOperation (document_meant document.now) (λ o. OperationFails (document_meant document.now) o (schema_tree schema.now) f))) }
-    ensures noted { OnOk result (NotesNames (noted_names found.old.used) (noted_names found.new.used) (λ n. AtOperation (document_meant document.now) (λ o. ReachesNamed (document_meant document.now) o n))) }
+    ensures told { OnOk result (StandIn (schema_tree schema.now) (document_meant document.now).fragments (meant_fragments fragments.now) → AreReachesTyped (schema_tree schema.now) (document_meant document.now) → ArePossibleIfFound (judged (schema_tree schema.now)) possible.old → Adds found.old.faults found.new.faults (λ f. AtOperation (document_meant document.now) (λ o. OperationFails (document_meant document.now) o (schema_tree schema.now) f))) }
+    ensures noted { OnOk result (StandIn (schema_tree schema.now) (document_meant document.now).fragments (meant_fragments fragments.now) → NotesNames (noted_names found.old.used) (noted_names found.new.used) (λ n. AtOperation (document_meant document.now) (λ o. ReachesNamed (document_meant document.now) o n))) }
     ensures right { OnOk result (ArePossibleIfFound (judged (schema_tree schema.now)) possible.old → ArePossibleIfFound (judged (schema_tree schema.now)) possible.new) }
 {
     for operation in document.operations.iter() {
-        check_operation(schema, possible, document, operation, found)?;
+        check_operation(schema, possible, document, fragments, operation, found)?;
     }
     Ok(())
 }
 
-/// The faults of a document under a schema. The possible types of the schema are found once, for the first operation in which
-/// a fragment is on another type than that where it stands; if there is none, never.
+/// The faults of a document under a schema. Where it has several operations, fragments of whose selections nothing is told are
+/// judged once for all of them. The possible types of the schema are found once, for the first fragment that is judged and is
+/// on another type than that where it stands; if there is none, never.
 pub(crate) fn faults_under(
     alloc: Global,
     schema: &Schema,
@@ -82,7 +88,8 @@ pub(crate) fn faults_under(
 {
     let mut possible = None;
     let mut found = Found::new(alloc);
-    check_operations(schema, &mut possible, document, &mut found)?;
+    let fragments = settled_fragments(alloc, schema, &mut possible, document)?;
+    check_operations(schema, &mut possible, document, &fragments, &mut found)?;
     check_fragments(document, found)
 }
 
