@@ -1,6 +1,6 @@
 pub mod WithoutVariables
 pub mod Spreads
-pub mod Quiet
+pub mod Silent
 pub mod Standing
 pub mod Instead
 pub mod SameFaults

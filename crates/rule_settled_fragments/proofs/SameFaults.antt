@@ -12,6 +12,7 @@ use Rattle.rule_definitions.specs.Diagnostics.{InvalidFragmentTarget, InvalidFra
 use Rattle.rule_definitions.specs.Words.{Present}
 use Rattle.rule_definitions.specs.Faults.{wrong}
 use Rattle.rule_definitions.specs.Judged.{judged}
+use Rattle.rule_definitions.specs.Names.{defined_name}
 use Rattle.rule_definitions.specs.Uses.{UsesBreak}
 use Rattle.rule_definitions.specs.Told.{PlacedFault}
 use Rattle.rule_document_definitions.specs.Fragments.{UndefinedFragmentAt, InvalidFragmentTargetAt, InvalidFragmentSpreadAt}
@@ -77,14 +78,21 @@ module _ (s : SchemaTree Place) (d : MeantDocument Place) (instead : Entries (Me
           there : VariablesBreak (places_in s) (judged s) Else o f → VariablesBreak (places_in s) (judged s) d o f
           there (inl h) = inl h
           there (inr (inl h)) = inr (inl h)
-          there (inr (inr (inl (i, (x, (at, (unused, h))))))) = inr (inr (inl (i, (x, (at, ((λ u. unused ((same_uses _).1 u)), h))))))
+          there (inr (inr (inl (i, (x, (at, (unused, h))))))) = inr (inr (inl (i, (x, (at, ((λ u. unused ((same_uses (defined_name x)).1 u)), h))))))
           there (inr (inr (inr h))) = inr (inr (inr h))
 
           here : VariablesBreak (places_in s) (judged s) d o f → VariablesBreak (places_in s) (judged s) Else o f
           here (inl h) = inl h
           here (inr (inl h)) = inr (inl h)
-          here (inr (inr (inl (i, (x, (at, (unused, h))))))) = inr (inr (inl (i, (x, (at, ((λ u. unused ((same_uses _).0 u)), h))))))
+          here (inr (inr (inl (i, (x, (at, (unused, h))))))) = inr (inr (inl (i, (x, (at, ((λ u. unused ((same_uses (defined_name x)).0 u)), h))))))
           here (inr (inr (inr h))) = inr (inr (inr h))
+
+      -- the directives of a selection, of a fragment break a rule
+      abbrev Used : PlacedFault → Standing Place → Type 0
+      Used f x = UsesBreak (places_in s).at (judged s) o.variables (selection_location x.it) (selection_directives x.it) f
+
+      abbrev UsedIn : PlacedFault → MeantFragment Place → Type 0
+      UsedIn f g = UsesBreak (places_in s).at (judged s) o.variables location.FragmentDefinition g.directives f
 
       -- the rules on selections
       pub same_selections : (f : PlacedFault) → SelectionsBreak (places_in s) (judged s) Else o f ↔ SelectionsBreak (places_in s) (judged s) d o f
@@ -96,17 +104,11 @@ module _ (s : SchemaTree Place) (d : MeantDocument Place) (instead : Entries (Me
           at_arguments : AtReachedField Else o (ArgumentsBreak s o.variables f) ↔ AtReachedField d o (ArgumentsBreak s o.variables f)
           at_arguments = at_all s d instead in' o (λ x. Present (as_field x) (ArgumentsBreak s o.variables f)) (λ x w h. quiet x w f (inr (inl (bare (ArgumentsBreak s o.variables f) (λ t. refl) x.position x.parent x.it h))))
 
-          abbrev Used : Standing Place → Type 0
-          Used x = UsesBreak (places_in s).at (judged s) o.variables (selection_location x.it) (selection_directives x.it) f
+          at_uses : AtReached Else o (Used f) ↔ AtReached d o (Used f)
+          at_uses = at_all s d instead in' o (Used f) (λ x w h. quiet x w f (inr (inr (inl h))))
 
-          at_uses : AtReached Else o Used ↔ AtReached d o Used
-          at_uses = at_all s d instead in' o Used (λ x w h. quiet x w f (inr (inr (inl h))))
-
-          abbrev UsedIn : MeantFragment Place → Type 0
-          UsedIn g = UsesBreak (places_in s).at (judged s) o.variables location.FragmentDefinition g.directives f
-
-          at_fragments : AtReachedFragment Else o UsedIn ↔ AtReachedFragment d o UsedIn
-          at_fragments = at_all_fragments s d instead in' o UsedIn (λ g. refl)
+          at_fragments : AtReachedFragment Else o (UsedIn f) ↔ AtReachedFragment d o (UsedIn f)
+          at_fragments = at_all_fragments s d instead in' o (UsedIn f) (λ g. refl)
 
           there : SelectionsBreak (places_in s) (judged s) Else o f → SelectionsBreak (places_in s) (judged s) d o f
           there (inl h) = inl (at_missing.0 h)
@@ -132,31 +134,31 @@ module _ (s : SchemaTree Place) (d : MeantDocument Place) (instead : Entries (Me
             λ h. elim h [ inl u ↦ inl (named.1 u) | inr u ↦ inr (inlined.1 u) ],
           )
 
+      -- a spread of a fragment on this condition, at this place, is told
+      abbrev Told : PlacedFault → List ℕ → Standing Place → Text Place × Place → Type 0
+      Told f n x g = (MayApply (judged s) x.parent g.0.it → ⊥) × (f ≡ wrong (selection_place x.it) (InvalidFragmentSpread (Some n) x.parent g.0.it g.1 ((places_in s).at (TypeAt x.parent))))
+
+      abbrev head : MeantFragment Place → Text Place × Place
+      head g = (g.type_condition, g.place)
+
       -- InvalidFragmentSpread
       pub same_spreads : (f : PlacedFault) → InvalidFragmentSpreadAt (judged s) Else o f (places_in s) ↔ InvalidFragmentSpreadAt (judged s) d o f (places_in s)
       same_spreads f = (there, here)
         where
-          -- a spread of a fragment on this condition, at this place, is told
-          abbrev Told : List ℕ → Standing Place → Text Place × Place → Type 0
-          Told n x g = (MayApply (judged s) x.parent g.0.it → ⊥) × (f ≡ wrong (selection_place x.it) (InvalidFragmentSpread (Some n) x.parent g.0.it g.1 ((places_in s).at (TypeAt x.parent))))
-
-          abbrev head : MeantFragment Place → Text Place × Place
-          head g = (g.type_condition, g.place)
-
           heads : (h g : MeantFragment Place) → StandsInFor s h g → head h ≡ head g
           heads h g i = let same = same_head h g i in λ k. (same.0 k, same.1 k)
 
           there : InvalidFragmentSpreadAt (judged s) Else o f (places_in s) → InvalidFragmentSpreadAt (judged s) d o f (places_in s)
           there (x, (r, inl (n, (is, (h, (named, (apart, told))))))) =
               let g = stood_for s d instead in' n h named in
-              (x, (reached_more s d instead in' (own o) x r, inl (n, (is, (g.0, (g.1.0, subst (Told n x) (heads h g.0 g.1.1) (apart, told)))))))
+              (x, (reached_more s d instead in' (own o) x r, inl (n, (is, (g.0, (g.1.0, subst (Told f n x) (heads h g.0 g.1.1) (apart, told)))))))
           there (x, (r, inr h)) = (x, (reached_more s d instead in' (own o) x r, inr h))
 
           here : InvalidFragmentSpreadAt (judged s) d o f (places_in s) → InvalidFragmentSpreadAt (judged s) Else o f (places_in s)
           here (x, (r, inl (n, (is, (g, (named, (apart, told))))))) =
               let i = in'.there n g named in
               elim (reached_less s d instead in' (own o) x r) [
-                | inl k ↦ (x, (k, inl (n, (is, (i.0, (i.1.0, subst (Told n x) (sym (heads i.0 g i.1.1)) (apart, told)))))))
+                | inl k ↦ (x, (k, inl (n, (is, (i.0, (i.1.0, subst (Told f n x) (sym (heads i.0 g i.1.1)) (apart, told)))))))
                 | inr w ↦ absurd (true≢false (sym (ap is_some (sym (no_spread s d instead in' o x w) ∙ is))))
               ]
           here (x, (r, inr h)) = elim (reached_less s d instead in' (own o) x r) [

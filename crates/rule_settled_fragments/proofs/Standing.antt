@@ -6,14 +6,14 @@ use Rattle.std.proofs.lemmas.Slice.Eq.{bytes_eq-Decides}
 use Rattle.indexmap.specs.IndexMap.{IndexMap, insert_entry}
 use Rattle.graphql_names.specs.Node.{content, place}
 use Rattle.graphql_names.specs.NameValue.{NameValue}
-use Rattle.graphql_names.specs.Placed.{Place, node_tree}
+use Rattle.graphql_names.specs.Placed.{Place, Placed, node_tree}
 use Rattle.graphql_names.specs.declared.node.Node.{Node}
 use Rattle.schema_components.specs.Names.{Entries, same_text}
 use Rattle.schema_types.specs.SchemaTree.{SchemaTree}
 use Rattle.schema_types.specs.TypeView.{name_text}
 use Rattle.schema_types.specs.Addresses.{under}
 use Rattle.document_walks.proofs.Finding.{some_is}
-use Rattle.document_typed_operations.specs.TypedDocument.{typed_fragment_tree}
+use Rattle.document_typed_operations.specs.TypedDocument.{TypedFragment, typed_fragment_tree}
 use Rattle.document_typed_operations.specs.declared.operation.Fragment.{Fragment}
 use Rattle.document_meaning.specs.MeantTree.{MeantFragment}
 use Rattle.document_typing.specs.DocumentView.{meant_by_fragment}
@@ -23,7 +23,7 @@ use Rattle.rule_settled_fragments.specs.Settled.{emptied, IsQuiet, StandIn}
 
 -- what entries mean
 abbrev pub meant_entries : List (NameValue × Node Fragment) → Entries (MeantFragment Place)
-meant_entries es = map (λ e. (e.0, meant_by_fragment e.1)) (map (λ (e : NameValue × Node Fragment). (e.0.text, node_tree typed_fragment_tree e.1)) es)
+meant_entries es = map (λ (e : List ℕ × Placed Place (TypedFragment Place)). (e.0, meant_by_fragment e.1)) (map (λ (e : NameValue × Node Fragment). (e.0.text, node_tree typed_fragment_tree e.1)) es)
 
 -- the fragments of a document stand in for themselves
 pub stand_in_same : (s : SchemaTree Place) (fragments : Entries (MeantFragment Place)) → StandIn s fragments fragments
@@ -73,15 +73,16 @@ module _ (k : NameValue) (v : Node Fragment) (n : List ℕ) where
       by : (b : Bool) → bytes_eq n k.text ≡ b → Replaced (looked b (k.text, fragment_meant v) None) None
       by true is = inr ((bytes_eq-Decides n k.text).0 is, refl)
       by false is = inl refl
-  replaced (e ∷ es) = by (bytes_eq k.text e.0.text) refl
+  replaced (e ∷ es) = by (bytes_eq k.text e.0.text) refl (replaced es)
     where
       old_is : under n (meant_entries (e ∷ es)) ≡ looked (bytes_eq n e.0.text) (e.0.text, fragment_meant e.1) (under n (meant_entries es))
       old_is = under_first n (e.0.text, fragment_meant e.1) (meant_entries es)
 
-      by : (b : Bool) → bytes_eq k.text e.0.text ≡ b → Replaced (under n (meant_entries (if b then (e.0, v) ∷ es else e ∷ insert_entry (same_text name_text) es k v))) (under n (meant_entries (e ∷ es)))
-      by true same = subst (λ p. Replaced p.0 p.1) (λ i. (sym (under_first n (e.0.text, fragment_meant v) (meant_entries es)) i, sym old_is i)) (first_is (bytes_eq n e.0.text) e (under n (meant_entries es)) refl same)
-      by false same = subst (λ p. Replaced p.0 p.1) (λ i. (sym (under_first n (e.0.text, fragment_meant e.1) (meant_entries (insert_entry (same_text name_text) es k v))) i, sym old_is i))
-          (later_is (bytes_eq n e.0.text) e (under n (meant_entries (insert_entry (same_text name_text) es k v))) (under n (meant_entries es)) (replaced es))
+      by : (b : Bool) → bytes_eq k.text e.0.text ≡ b → Replaced (under n (meant_entries (insert_entry (same_text name_text) es k v))) (under n (meant_entries es))
+          → Replaced (under n (meant_entries (if b then (e.0, v) ∷ es else e ∷ insert_entry (same_text name_text) es k v))) (under n (meant_entries (e ∷ es)))
+      by true same rest = subst (λ (p : Option (MeantFragment Place) × Option (MeantFragment Place)). Replaced p.0 p.1) (λ i. (sym (under_first n (e.0.text, fragment_meant v) (meant_entries es)) i, sym old_is i)) (first_is (bytes_eq n e.0.text) e (under n (meant_entries es)) refl same)
+      by false same rest = subst (λ (p : Option (MeantFragment Place) × Option (MeantFragment Place)). Replaced p.0 p.1) (λ i. (sym (under_first n (e.0.text, fragment_meant e.1) (meant_entries (insert_entry (same_text name_text) es k v))) i, sym old_is i))
+          (later_is (bytes_eq n e.0.text) e (under n (meant_entries (insert_entry (same_text name_text) es k v))) (under n (meant_entries es)) rest)
 
 -- a quiet fragment stands there without its selections
 pub stand_in_more : (s : SchemaTree Place) (fragments old new : Entries (MeantFragment Place)) (k : NameValue) (g : MeantFragment Place) (v : Node Fragment) → under k.text fragments ≡ Some g → IsQuiet s g → fragment_meant v ≡ emptied g

@@ -149,7 +149,7 @@ module _ (at : Address → Place) (s : Judged) where
     taken_well taker gives well f (inr (inr (inl (j, (a, (is, (first, (i, (v, (defined, (same, (once, (n, (variable, h)))))))))))))) =
         let u = names a.it.value.place a.it.value.it n variable in gives j a is u.0 u.1
     taken_well taker gives well f (inr (inr (inr (j, (a, (is, (first, (i, (v, (defined, (same, (once, h)))))))))))) =
-        well f (inr (inr (inr (j, (a, (is, (first, (i, (v, (defined, (same, (once, type_breaks at s variables f _ a.it.value.place a.it.value.it (gives j a is) h)))))))))))
+        well f (inr (inr (inr (j, (a, (is, (first, (i, (v, (defined, (same, (once, type_breaks at s variables f _ a.it.value.place a.it.value.it (gives j a is) h))))))))))))
 
   -- the directives at one place break no rule where there are no variables
   abbrev pub AreUsedWell : DirectiveLocation → Directives Place → Type 0

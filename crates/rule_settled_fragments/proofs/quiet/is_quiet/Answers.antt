@@ -11,7 +11,7 @@ use Rattle.rule_definitions.proofs.Listing.{empty_is, gains_both}
 use Rattle.rule_document_ground.specs.Reach.{reached_members, reached_fragments_of}
 use Rattle.rule_fragments.specs.SpreadViews.{fragment_meant}
 use Rattle.rule_settled_fragments.specs.Settled.{nothing}
-use Rattle.rule_settled_fragments.proofs.Quiet.{nothing_breaks, no_fragments, ReachesFromSet, quiet_set}
+use Rattle.rule_settled_fragments.proofs.Silent.{nothing_breaks, no_fragments, ReachesFromSet, quiet_set}
 use Rattle.rule_settled_fragments.proofs.quiet.is_quiet.Goals as goal
 
 pub returns-clause-quiet : goal.returns-clause-quiet

@@ -11,8 +11,8 @@ use Rattle.rule_fragments.specs.SpreadViews.{fragment_meant}
 use Rattle.rule_settled_fragments.proofs.Standing.{meant_entries, Replaced, replaced, stand_in_more}
 use Rattle.rule_settled_fragments.proofs.settled.settle.Goals as goal
 
-pub returns-then-is_quiet-clause-settled : goal.returns-then-is_quiet-clause-settled
-returns-then-is_quiet-clause-settled c = λ possible in'.
+pub returns-in_ok-insert-clause-settled : goal.returns-in_ok-insert-clause-settled
+returns-in_ok-insert-clause-settled c = λ possible in'.
     let s = schema_tree c.args.schema.now in
     let fs = meant_fragments c.args.fragments.now in
     let name = c.args.name.now in

@@ -5,11 +5,17 @@ use Rattle.rule_settled_fragments.specs.Settled.{StandIn}
 use Rattle.rule_settled_fragments.proofs.Standing.{stand_in_same, copied}
 use Rattle.rule_settled_fragments.proofs.settled.settled_fragments.Goals as goal
 
+pub returns-then-len-lt2-clause-settled : goal.returns-then-len-lt2-clause-settled
+returns-then-len-lt2-clause-settled c =
+    let s = schema_tree c.args.schema.now in
+    let fs = meant_fragments c.args.document.now.fragments in
+    λ possible. subst (StandIn s fs) (sym (copied c.args.document.now.fragments.entries c.in_ok-instead.instead.entries c.in_ok-instead.ensures.cases)) (stand_in_same s fs)
+
 pub loop-name-init : goal.loop-name-init
 loop-name-init c =
     let s = schema_tree c.args.schema.now in
     let fs = meant_fragments c.args.document.now.fragments in (
-      λ possible. subst (StandIn s fs) (sym (copied c.args.document.now.fragments.entries c.in_ok-instead.instead.entries c.in_ok-instead.ensures)) (stand_in_same s fs),
+      λ possible. subst (StandIn s fs) (sym (copied c.args.document.now.fragments.entries c.in_ok-instead.instead.entries c.in_ok-instead.ensures.cases)) (stand_in_same s fs),
       λ possible. possible,
     )
 

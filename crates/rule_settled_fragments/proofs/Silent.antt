@@ -3,14 +3,14 @@ use Rattle.std.proofs.Common.{◌≡◌, ◌⊎◌, ◌∙◌, ◌&&◌, ℕ, Bo
 use Rattle.std.specs.List.{list_all}
 use Rattle.std.proofs.lemmas.List.Elements.{Contains-append_right}
 use Rattle.graphql_names.specs.NameValue.{NameValue}
-use Rattle.graphql_names.specs.Placed.{Place, node_tree}
+use Rattle.graphql_names.specs.Placed.{Place, Placed, node_tree}
 use Rattle.graphql_names.specs.declared.node.Node.{Node}
 use Rattle.schema_components.proofs.Places.{not_in_nil, Contains-cons}
 use Rattle.schema_types.specs.SchemaTree.{SchemaTree}
 use Rattle.schema_types.specs.Plain.{plain}
 use Rattle.schema_types.specs.Addresses.{TypeAt}
 use Rattle.document_typed_selections.specs.TypedTree.{TypedSet}
-use Rattle.document_typed_operations.specs.TypedDocument.{TypedOperation, typed_fragment_tree}
+use Rattle.document_typed_operations.specs.TypedDocument.{TypedOperation, TypedFragment, typed_fragment_tree}
 use Rattle.document_typed_operations.specs.declared.operation.Fragment.{Fragment}
 use Rattle.document_meaning.specs.MeantTree.{MeantOperation, MeantFragment, meant_of_set}
 use Rattle.document_typing.specs.DocumentView.{meant_by_fragment, meant_by_operation}
@@ -39,12 +39,12 @@ use Rattle.rule_settled_fragments.specs.Settled.{nothing, query_on, spreads_none
 -- what all of a list pass, one of it passes
 one_passes : {X : Type 0} (test : X → Bool) (xs : List X) (x : X) → list_all test xs ≡ true → Contains xs x → test x ≡ true
 one_passes test [] x all c = absurd (not_in_nil x c)
-one_passes test (y ∷ ys) x all c = by (test y) refl all (Contains-cons y ys x c)
+one_passes test (y ∷ ys) x all c = by (test y) refl all (Contains-cons y ys x c) (λ rest k. one_passes test ys x rest k)
   where
-    by : (b : Bool) → test y ≡ b → (b && list_all test ys) ≡ true → (y ≡ x) ⊎ Contains ys x → test x ≡ true
-    by true e rest (inl same) = subst (λ z. test z ≡ true) same e
-    by true e rest (inr c) = one_passes test ys x rest c
-    by false e rest q = absurd (true≢false (sym rest))
+    by : (b : Bool) → test y ≡ b → (b && list_all test ys) ≡ true → (y ≡ x) ⊎ Contains ys x → (list_all test ys ≡ true → Contains ys x → test x ≡ true) → test x ≡ true
+    by true e rest (inl same) more = subst (λ z. test z ≡ true) same e
+    by true e rest (inr k) more = more rest k
+    by false e rest q more = absurd (true≢false (sym rest))
 
 none_there : {X : Type 0} (o : Option X) → not (is_some o) ≡ true → o ≡ None
 none_there None e = refl
@@ -56,7 +56,7 @@ nothing_breaks old new (added, (is, lists)) empty f r = not_in_nil f (subst (λ 
 
 -- a map of nothing
 pub no_fragments : {S : Type 0} (fragments : IndexMap NameValue (Node Fragment) S) → fragments.entries ≡ [] → [] ≡ meant_fragments fragments
-no_fragments fragments none = sym (ap (λ es. map (λ e. (e.0, meant_by_fragment e.1)) (map (λ (e : NameValue × Node Fragment). (e.0.text, node_tree typed_fragment_tree e.1)) es)) none)
+no_fragments fragments none = sym (ap (λ es. map (λ (e : List ℕ × Placed Place (TypedFragment Place)). (e.0, meant_by_fragment e.1)) (map (λ (e : NameValue × Node Fragment). (e.0.text, node_tree typed_fragment_tree e.1)) es)) none)
 
 -- the rules that are told of an operation in a document of nothing
 abbrev pub IsTold : SchemaTree Place → MeantOperation Place → PlacedFault → Type 0
