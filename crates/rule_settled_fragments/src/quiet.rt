@@ -1,11 +1,11 @@
 //! Fragments of whose selections nothing is told.
-ghost use Rattle.std.specs.Prelude.{◌≡◌, true, is_some, not, IfOk, IsTrue, OnOk};
+ghost use Rattle.std.specs.Prelude.{◌≡◌, ◌↔◌, [], is_some, not, IfOk, IsTrue, OnOk};
 ghost use Rattle.std.specs.List.{list_all};
-ghost use Rattle.schema_types.specs.Plain.{plain};
 ghost use Rattle.graphql_schema.specs.SchemaOf.{schema_tree};
 ghost use Rattle.document_typed_selections.specs.TypedTree.{typed_selection_tree, typed_set_tree};
 ghost use Rattle.document_typed_operations.specs.TypedDocument.{typed_operation_tree};
 ghost use Rattle.document_meaning.specs.MeantTree.{meant};
+ghost use Rattle.fault_data.specs.FaultView.{faults_of};
 ghost use Rattle.rule_definitions.specs.Judged.{judged};
 ghost use Rattle.rule_document_definitions.specs.Selected.{spread_name};
 ghost use Rattle.rule_document_ground.specs.Reach.{reached_members};
@@ -15,6 +15,7 @@ ghost use Rattle.rule_settled_fragments.specs.Settled.{spreads_none, query_on, I
 
 use document_typed_operations::{Fragment, Operation};
 use document_typed_selections::{Selection, SelectionSet};
+use fault_data::Fault;
 use graphql_names::Node;
 use graphql_schema::Schema;
 use indexmap::IndexMap;
@@ -61,6 +62,13 @@ fn query_on(alloc: Global, set: &SelectionSet) -> Result<Operation, AllocError>
     })
 }
 
+/// Whether there is nothing to tell.
+fn is_nothing(faults: &Vec<Fault>) -> bool
+    ensures { IsTrue result ↔ (faults_of faults.now ≡ []) }
+{
+    faults.is_empty()
+}
+
 /// Whether the fragment spreads none, and breaks no rule by its selections, in an operation without variables. So it uses no
 /// variable, and breaks none in any other.
 pub(crate) fn is_quiet(
@@ -82,5 +90,5 @@ pub(crate) fn is_quiet(
     let mut faults = Vec::new(alloc);
     check_selections(schema, &operation, &reach, &mut faults)?;
     check_applications(schema, possible, &none, &reach, &mut faults)?;
-    Ok(faults.is_empty())
+    Ok(is_nothing(&faults))
 }
