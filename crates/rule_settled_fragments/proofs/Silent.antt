@@ -101,11 +101,16 @@ module _ (s : SchemaTree Place) (g : MeantFragment Place) (o : MeantOperation Pl
 abbrev pub ReachesFromSet : TypedSet Place → List (Member Place) → List (MeantFragment Place) → Type 0
 ReachesFromSet set members spread = (holder : Position) → IsReach nothing (standing_in holder (meant_of_set set)) members spread
 
+pub query_reaches : (set : TypedSet Place) (t : TypedOperation Place) (p : Place) → t ≡ query_on set → (members : List (Member Place)) (spread : List (MeantFragment Place)) → ReachesFromSet set members spread
+    → IsReach nothing (own (meant_by_operation (record { it = t; place = p }))) members spread
+query_reaches set t p is members spread reach =
+    subst (λ (t : TypedOperation Place). IsReach nothing (own (meant_by_operation (record { it = t; place = p }))) members spread) (sym is) (reach (InOperation None))
+
 pub quiet_set : (s : SchemaTree Place) (g : MeantFragment Place) (set : TypedSet Place) → g.set ≡ meant_of_set set → (t : TypedOperation Place) (p : Place) → t ≡ query_on set
     → (members : List (Member Place)) (spread : List (MeantFragment Place)) → ReachesFromSet set members spread → list_all spreads_none members ≡ true
     → (ReachesTyped (meanings (plain s)) nothing (meant_by_operation (record { it = t; place = p })) → (f : PlacedFault) → IsTold s (meant_by_operation (record { it = t; place = p })) f → ⊥) → IsQuiet s g
 quiet_set s g set has t p is members spread reach none untold =
     quiet s g (meant_by_operation (record { it = t; place = p })) members spread
     (subst (λ v. IsReach nothing (standing_in (InFragment g.name.it) v) members spread) (sym has) (reach (InFragment g.name.it)))
-    (subst (λ (t : TypedOperation Place). IsReach nothing (own (meant_by_operation (record { it = t; place = p }))) members spread) (sym is) (reach (InOperation None)))
+    (query_reaches set t p is members spread reach)
     (ap (λ (t : TypedOperation Place). t.variables) is) none untold

@@ -11,7 +11,7 @@ use Rattle.rule_definitions.proofs.Listing.{gains_both}
 use Rattle.rule_document_ground.specs.Reach.{reached_members, reached_fragments_of}
 use Rattle.rule_fragments.specs.SpreadViews.{fragment_meant}
 use Rattle.rule_settled_fragments.specs.Settled.{nothing, query_on}
-use Rattle.rule_settled_fragments.proofs.Silent.{nothing_breaks, no_fragments, ReachesFromSet, quiet_set}
+use Rattle.rule_settled_fragments.proofs.Silent.{nothing_breaks, no_fragments, ReachesFromSet, query_reaches, quiet_set}
 use Rattle.rule_settled_fragments.proofs.quiet.is_quiet.Goals as goal
 
 pub returns-clause-quiet : goal.returns-clause-quiet
@@ -28,7 +28,8 @@ returns-clause-quiet c = λ empty possible.
     let a = faults_of c.new-faults.result in
     let b = faults_of c.check_selections.new.faults in
     let e = faults_of c.check_applications.new.faults in
-    quiet_set s g set refl (typed_operation_tree (content o)) (place o)
-    (ap typed_operation_tree c.in_ok-operation.ensures.content ∙ c.in_ok-query_on.ensures ∙ ap (λ (x : Fragment). query_on (typed_set_tree x.selection_set)) c.content.ensures) m sp reaches
+    let query = ap typed_operation_tree c.in_ok-operation.ensures.content ∙ c.in_ok-query_on.ensures ∙ ap (λ (x : Fragment). query_on (typed_set_tree x.selection_set)) c.content.ensures in
+    let at = query_reaches set (typed_operation_tree (content o)) (place o) query m sp reaches in
+    quiet_set s g set refl (typed_operation_tree (content o)) (place o) query m sp reaches
     (sym c.spreads_none.ensures ∙ c.if-not-spreads_none.false)
-    (λ typed f. nothing_breaks a e (gains_both a b e (c.in_ok-check_selections.ensures nothing refl typed) (c.in_ok-check_applications.ensures.told nothing (operation_meant o) refl none possible)) (c.is_nothing.ensures.0 empty) f)
+    (λ typed f. nothing_breaks a e (gains_both a b e (c.in_ok-check_selections.ensures nothing at typed) (c.in_ok-check_applications.ensures.told nothing (operation_meant o) at none possible)) (c.is_nothing.ensures.0 empty) f)
