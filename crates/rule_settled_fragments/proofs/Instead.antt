@@ -83,13 +83,22 @@ module _ (s : SchemaTree Place) (d : MeantDocument Place) (instead : Entries (Me
           ]
         ]
       ]
-      | inr w ↦ inr (w.0, (w.1.0, (w.1.1.0, next w.1.1.1 (elim leads [
-        | inl f ↦ inl f
-        | inr l ↦ elim l [
-          | inl i ↦ inr (inl i)
-          | inr h ↦ absurd (true≢false (sym (ap is_some (sym (w.1.0.spreads x w.1.1.1) ∙ h.1.0))))
-        ]
-      ]))))
+      | inr w ↦ inr (
+        w.0,
+        (
+          w.1.0,
+          (
+            w.1.1.0,
+            next w.1.1.1 (elim leads [
+              | inl f ↦ inl f
+              | inr l ↦ elim l [
+                | inl i ↦ inr (inl i)
+                | inr h ↦ absurd (true≢false (sym (ap is_some (sym (w.1.0.spreads x w.1.1.1) ∙ h.1.0))))
+              ]
+            ]),
+          ),
+        ),
+      )
     ]
 
     -- what stands in a fragment is reached where its own selections are
