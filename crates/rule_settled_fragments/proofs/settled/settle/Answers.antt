@@ -22,5 +22,5 @@ returns-in_ok-insert-clause-settled c = λ possible in'.
     let new = c.insert.new.self in
     let found = sym (ap (option_map meant_node) c.in-Some.ensures.value ∙ found_under c.args.fragments.now name) in
     let entries = c.in_ok-insert.ensures.entries ∙ ap (λ n. insert_entry (same_text name_text) old.entries n v) c.in_ok-name.ensures.same in
-    stand_in_more s fs (meant_fragments old) (meant_fragments new) name (fragment_meant f) v found (c.in_ok-is_quiet.ensures.quiet c.if-is_quiet.true possible) c.in_ok-emptied.ensures
+    stand_in_more s fs (meant_fragments old) (meant_fragments new) name (fragment_meant f) v found (c.in_ok-is_quiet.ensures.quiet c.if-branch.true possible) c.in_ok-emptied.ensures
     (λ n. subst (λ es. Replaced name v n (under n (meant_entries es)) (under n (meant_fragments old))) (sym entries) (replaced name v n old.entries)) in'
