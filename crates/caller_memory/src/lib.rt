@@ -1,12 +1,19 @@
 //! What a caller that is not Rattle holds and lends: a value in a box as its pointer, texts one behind the other with their
-//! ends, and room for an answer.
+//! ends, room for an answer, and stack.
 //!
 //! For the layer above: a pointer owns the value that its ghost field names (`box_pointer.rt`), texts are cut where they end
-//! (`texts.rt`), and bytes are put into room that they fit into (`room.rt`).
+//! (`texts.rt`), bytes are put into room that they fit into (`room.rt`), and a nesting is compared with the stack that there is
+//! (`stack.rt`).
 //!
-//! Begin with `specs/Cut.antt` and `specs/Room.antt`.
+//! Begin with `specs/Cut.antt`, `specs/Room.antt` and `specs/Stack.antt`.
 #![tactic(auto)]
 
 mod box_pointer;
+mod room;
+mod stack;
+mod texts;
 
 pub use box_pointer::BoxPointer;
+pub use room::put;
+pub use stack::suffices;
+pub use texts::{TextsFault, texts_at};

@@ -1,0 +1,199 @@
+-- What the parts of a call answer, from what they are told: a lemma for each way in which one ends.
+use Rattle.std.proofs.Common.{◌≡◌, ◌≢◌, ℕ, List, [], ◌∷◌, ◌++◌, length, drop, ◌⊎◌, inl, inr, refl, sym, ap, subst, ◌∙◌, arith, map}
+use Rattle.std.specs.Prelude.{IsUtf8, Ok, Err, IfOk, IfSome, Option, Some, None}
+use Rattle.std.specs.List.{All}
+use Rattle.graphql_faults.specs.DetailsView.{diagnostics_of}
+use Rattle.verdict_definitions.specs.Texts.{SourceText, Terms}
+use Rattle.verdict_definitions.specs.Judge.{IsCertain, AreSchemasCertain, IsDocumentCertain}
+use Rattle.verdict_definitions.specs.Answer.{Refuses, RefusedBytes}
+use Rattle.graphql_names.specs.Placed.{Place}
+use Rattle.document_meaning.specs.MeantTree.{MeantDocument}
+use Rattle.checker_texts.specs.declared.refusal.Refusal.{Refusal}
+use Rattle.checker_texts.specs.declared.refusal.Refusal.TheVariants.{Faults, Memory, Failed}
+use Rattle.checker_schemas.specs.CheckedSchemaValue.{IsCheckedSchemaOf}
+use Rattle.checker_schemas.specs.Refusals.{RefusalOfSchemas}
+use Rattle.checker_documents.specs.CheckedView.{CheckedSchemaParts, schema_value}
+use Rattle.checker_documents.specs.CheckerValue.{IsCheckedDocumentOf}
+use Rattle.checker_documents.specs.DocumentRefusals.{RefusalOfDocument}
+use Rattle.graphql_checked.specs.Verdicts.{first_terms}
+use Rattle.graphql_checked.proofs.Verdicts.{yes_pair, refused_pair, certain_document}
+use Rattle.caller_memory.specs.Cut.{IsCut}
+use Rattle.caller_memory.specs.Room.{IsPut}
+use Rattle.caller_memory.proofs.Cuts.{one_cut}
+use Rattle.graphql_checked_c.specs.Told.{IsStatus, IsUntold, IsYesOfPair, IsReportOfPair, IsCertainPair, OneIsNotUtf8, HasNotUtf8, IsNoCut, AreCertainTexts, IsYesOver, IsReportOver, IsCertainOver, TellsRefusal, AnswersPair, AnswersTexts, AnswersOver, report_of}
+
+-- ---- statuses
+
+-- a status other than this one
+other : {n m : ℕ} {X : Type 0} {status : ℕ} → status ≡ n → (n ≡ m → ⊥) → status ≡ m → X
+other is apart also = absurd (apart (sym is ∙ also))
+
+-- nothing is put where there are no bytes
+pub put_nothing : (bytes old new : List ℕ) (needed : ℕ) → bytes ≡ [] → IsPut bytes old new needed → IsUntold old new needed
+put_nothing bytes old new needed none put =
+    let zero_needed : needed ≡ 0 = put.told ∙ ap length none in
+    (zero_needed, put.fits (omega (arith, zero_needed)) ∙ ap (λ (b : List ℕ). b ++ drop needed old) none ∙ ap (λ n. drop n old) zero_needed)
+
+-- ---- one schema text and a document
+
+module _ (nesting : ℕ) (schema document : SourceText) (status : ℕ) (bytes : List ℕ) where
+  pub pair_not_utf8 : OneIsNotUtf8 schema document → status ≡ 3 → bytes ≡ [] → AnswersPair nesting schema document status bytes
+  pair_not_utf8 one is none = record {
+    yes = other is (λ e. omega (arith, e));
+    report = other is (λ e. omega (arith, e));
+    encoding = λ _. one;
+    status = inr (inr (inl is));
+    measured = other is (λ e. omega (arith, e));
+    certain = λ certain. absurd (neither one certain);
+    untold = λ _. none;
+  }
+    where
+    neither : OneIsNotUtf8 schema document → IsCertainPair nesting schema document → ⊥
+    neither (inl not) certain = not certain.0
+    neither (inr not) certain = not certain.1.0
+
+  pub pair_memory : status ≡ 4 → bytes ≡ [] → AnswersPair nesting schema document status bytes
+  pair_memory is none = record {
+    yes = other is (λ e. omega (arith, e));
+    report = other is (λ e. omega (arith, e));
+    encoding = other is (λ e. omega (arith, e));
+    status = inr (inr (inr (inl is)));
+    measured = other is (λ e. omega (arith, e));
+    certain = λ _. inr is;
+    untold = λ _. none;
+  }
+
+  pub pair_yes : IsYesOfPair nesting schema document → status ≡ 0 → bytes ≡ [] → AnswersPair nesting schema document status bytes
+  pair_yes yes is none = record {
+    yes = λ _. yes;
+    report = other is (λ e. omega (arith, e));
+    encoding = other is (λ e. omega (arith, e));
+    status = inl is;
+    measured = other is (λ e. omega (arith, e));
+    certain = λ _. inl is;
+    untold = λ _. none;
+  }
+
+  pub pair_report : IsReportOfPair nesting schema document bytes → (IsCertain (first_terms nesting) (schema ∷ []) document → ⊥) → status ≡ 1 → AnswersPair nesting schema document status bytes
+  pair_report report uncertain is = record {
+    yes = other is (λ e. omega (arith, e));
+    report = λ _. report;
+    encoding = other is (λ e. omega (arith, e));
+    status = inr (inl is);
+    measured = other is (λ e. omega (arith, e));
+    certain = λ certain. absurd (uncertain certain.1.1);
+    untold = λ not. absurd (not is);
+  }
+
+-- ---- schema texts that are opened
+
+module _ (nesting : ℕ) (texts ends : List ℕ) (status : ℕ) (bytes : List ℕ) where
+  pub texts_memory : status ≡ 4 → bytes ≡ [] → AnswersTexts nesting texts ends status bytes
+  texts_memory is none = record {
+    report = other is (λ e. omega (arith, e));
+    encoding = other is (λ e. omega (arith, e));
+    order = other is (λ e. omega (arith, e));
+    status = inr (inr (inr (inl is)));
+    undone = other is (λ e. omega (arith, e));
+    measured = other is (λ e. omega (arith, e));
+    certain = λ _. is;
+    untold = λ _. none;
+  }
+
+  pub texts_uncut : IsNoCut texts ends → status ≡ 7 → bytes ≡ [] → AnswersTexts nesting texts ends status bytes
+  texts_uncut uncut is none = record {
+    report = other is (λ e. omega (arith, e));
+    encoding = other is (λ e. omega (arith, e));
+    order = λ _. uncut;
+    status = inr (inr (inr (inr (inr (inl is)))));
+    undone = other is (λ e. omega (arith, e));
+    measured = other is (λ e. omega (arith, e));
+    certain = λ certain. absurd (uncut certain.0 certain.1.0);
+    untold = λ _. none;
+  }
+
+  pub texts_not_utf8 : HasNotUtf8 texts ends → status ≡ 3 → bytes ≡ [] → AnswersTexts nesting texts ends status bytes
+  texts_not_utf8 (schemas, (cut, not)) is none = record {
+    report = other is (λ e. omega (arith, e));
+    encoding = λ _. (schemas, (cut, not));
+    order = other is (λ e. omega (arith, e));
+    status = inr (inr (inl is));
+    undone = other is (λ e. omega (arith, e));
+    measured = other is (λ e. omega (arith, e));
+    certain = λ certain. absurd (not (subst (All IsUtf8) (one_cut texts ends certain.0 schemas certain.1.0 cut) certain.1.1.0));
+    untold = λ _. none;
+  }
+
+  pub texts_refused : (schemas : List SourceText) → IsCut texts ends schemas → (refusal : Refusal) → RefusalOfSchemas (first_terms nesting) schemas refusal
+      → (AreSchemasCertain (first_terms nesting) schemas → refusal ≡ Memory) → TellsRefusal refusal status bytes → AnswersTexts nesting texts ends status bytes
+  texts_refused schemas cut (Faults list) refuses complete (inl (is, told)) = record {
+    report = λ _. (schemas, (cut, (diagnostics_of list, (refuses, told))));
+    encoding = other is (λ e. omega (arith, e));
+    order = other is (λ e. omega (arith, e));
+    status = inr (inl is);
+    undone = other is (λ e. omega (arith, e));
+    measured = other is (λ e. omega (arith, e));
+    certain = λ certain.
+      let e : Faults list ≡ Memory = complete (subst (AreSchemasCertain (first_terms nesting)) (one_cut texts ends certain.0 schemas certain.1.0 cut) certain.1.1.1) in absurd cc;
+    untold = λ not. absurd (not is);
+  }
+  texts_refused schemas cut (Faults list) refuses complete (inr (is, none)) = texts_memory is none
+  texts_refused schemas cut Memory refuses complete (is, none) = texts_memory is none
+  texts_refused schemas cut Failed refuses complete tells = absurd tells
+
+-- ---- a document over a schema that is held
+
+module _ (told : List ℕ → Type 0) (schema : CheckedSchemaParts) (document : SourceText) (status : ℕ) (bytes : List ℕ) where
+  pub over_done : told bytes → status ≡ 0 → AnswersOver told schema document status bytes
+  over_done done is = record {
+    done = λ _. done;
+    report = other is (λ e. omega (arith, e));
+    encoding = other is (λ e. omega (arith, e));
+    status = inl is;
+    prefixed = other is (λ e. omega (arith, e));
+    certain = λ _. inl is;
+    untold = λ not. absurd (not is);
+  }
+
+  pub over_memory : status ≡ 4 → bytes ≡ [] → AnswersOver told schema document status bytes
+  over_memory is none = record {
+    done = other is (λ e. omega (arith, e));
+    report = other is (λ e. omega (arith, e));
+    encoding = other is (λ e. omega (arith, e));
+    status = inr (inr (inr (inl is)));
+    prefixed = other is (λ e. omega (arith, e));
+    certain = λ _. inr is;
+    untold = λ _ _. none;
+  }
+
+  pub over_not_utf8 : (IsUtf8 document → ⊥) → status ≡ 3 → bytes ≡ [] → AnswersOver told schema document status bytes
+  over_not_utf8 not is none = record {
+    done = other is (λ e. omega (arith, e));
+    report = other is (λ e. omega (arith, e));
+    encoding = λ _. not;
+    status = inr (inr (inl is));
+    prefixed = other is (λ e. omega (arith, e));
+    certain = λ certain. absurd (not certain.0);
+    untold = λ _ _. none;
+  }
+
+  pub over_refused : (refusal : Refusal) → RefusalOfDocument (schema_value schema) document refusal
+      → (IsDocumentCertain (schema_value schema).schema schema.nesting schema.number document → refusal ≡ Memory)
+      → TellsRefusal refusal status bytes → AnswersOver told schema document status bytes
+  over_refused (Faults list) refuses complete (inl (is, bytes_are)) = record {
+    done = other is (λ e. omega (arith, e));
+    report = λ _ terms schemas of. record { faults = diagnostics_of list; refused = refused_pair terms schemas document (schema_value schema) of (diagnostics_of list) refuses; is = bytes_are };
+    encoding = other is (λ e. omega (arith, e));
+    status = inr (inl is);
+    prefixed = other is (λ e. omega (arith, e));
+    certain = λ (utf8, (terms, (schemas, (of, certain)))).
+      let e : Faults list ≡ Memory = complete (certain_document terms schemas document (schema_value schema) of certain) in absurd cc;
+    untold = λ _ not. absurd (not is);
+  }
+  over_refused (Faults list) refuses complete (inr (is, none)) = over_memory is none
+  over_refused Memory refuses complete (is, none) = over_memory is none
+  over_refused Failed refuses complete tells = absurd tells
+
+-- a document that is accepted is one of whatever texts the schema is of
+pub yes_over : (schema : CheckedSchemaParts) (document : SourceText) (meant : MeantDocument Place) → IsCheckedDocumentOf (schema_value schema) document meant → IsYesOver schema document
+yes_over schema document meant checked = λ terms schemas of. yes_pair terms schemas document (schema_value schema) of meant checked
