@@ -1,10 +1,11 @@
 -- Texts that are cut one by one.
 --     Going      so many texts are cut, and these bytes and ends are left: what is left is cut exactly where the whole is
-use Rattle.std.proofs.Common.{◌≡◌, ◌≢◌, ℕ, ◌+◌, ◌-◌, ◌<◌, ◌≤◌, List, [], ◌∷◌, ◌++◌, length, drop, map, take, get_or, Bor, ◌⊎◌, inl, inr, refl, sym, ap, ◌∙◌, subst, arith}
+use Rattle.std.proofs.Common.{◌≡◌, ◌≢◌, ℕ, suc, ◌+◌, ◌==◌, true, false, ◌-◌, ◌<◌, ◌≤◌, List, [], ◌∷◌, ◌++◌, length, drop, map, take, get_or, Bor, ◌⊎◌, inl, inr, refl, sym, ap, ◌∙◌, subst, arith}
 use Rattle.std.specs.List.{concat}
-use Rattle.std.proofs.Math.Seq.{drop-append_seam, take-append_seam}
-use Rattle.std.proofs.lemmas.List.{append-nil, append_assoc, length-append, length-map, map-append, map_more, get_or-map}
+use Rattle.std.proofs.Math.Seq.{drop-append_seam, take-append_seam, drop-cons}
+use Rattle.std.proofs.lemmas.List.{append-nil, append_assoc, nil_from_length, length-append, length-drop, length-map, map-append, map_more, get_or-map}
 use Rattle.std.proofs.lemmas.List.Elements.{All-push}
+use Rattle.std.proofs.lemmas.Bool.{eqb-true}
 use Rattle.std.specs.Prelude.{Result, Ok, Err, IfErr, IsUtf8}
 use Rattle.std.specs.List.{All}
 use Rattle.caller_memory.specs.Cut.{ends_of, IsCutFrom, IsCut, IsTextsFault}
@@ -74,6 +75,31 @@ module _ (bytes ends : List ℕ) where
     pub cut_whole : left ≡ [] → rest ≡ [] → IsCut bytes ends done
     cut_whole last none = subst (IsCut bytes ends) (append-nil done) (going.whole [] (none, last))
 
+-- the end that is next
+pub next_end : (ends : List ℕ) (i : ℕ) → i < length ends → drop i ends ≡ get_or ends i 0 ∷ drop (i + 1) ends
+next_end ends i inside = let e : suc i ≡ i + 1 = omega arith in subst (λ n. drop i ends ≡ get_or ends i 0 ∷ drop n ends) e (drop-cons ends i 0 inside)
+
+-- a text is pushed
+pub going_pushed : (bytes ends : List ℕ) (start : ℕ) (rest : List ℕ) (i : ℕ) (done new : List (Bor (List ℕ))) (text behind : Bor (List ℕ)) → i < length ends
+    → Going bytes ends start rest (drop i ends) (map (λ t. t.now) done) → rest ≡ text.now ++ behind.now → length text.now ≡ get_or ends i 0 - start → start ≤ get_or ends i 0
+    → new ≡ done ++ text ∷ [] → Going bytes ends (get_or ends i 0) behind.now (drop (i + 1) ends) (map (λ t. t.now) new)
+going_pushed bytes ends start rest i done new text behind inside going parts long after pushed =
+    let on : Going bytes ends (get_or ends i 0) behind.now (drop (i + 1) ends) (map (λ t. t.now) done ++ text.now ∷ []) =
+        going_on bytes ends start rest (drop i ends) (map (λ t. t.now) done) going text.now behind.now (get_or ends i 0) (drop (i + 1) ends) parts (next_end ends i inside) (omega (arith, long, after)) in
+    let same : map (λ (t : Bor (List ℕ)). t.now) new ≡ map (λ t. t.now) done ++ text.now ∷ [] = ap (map (λ (t : Bor (List ℕ)). t.now)) pushed ∙ map-append (λ (t : Bor (List ℕ)). t.now) done (text ∷ []) in
+    subst (Going bytes ends (get_or ends i 0) behind.now (drop (i + 1) ends)) (sym same) on
+
+-- no end is next
+pub none_after : (ends : List ℕ) (i : ℕ) → length ends ≤ i → drop i ends ≡ []
+none_after ends i outside = let long : length (drop i ends) ≡ length ends - i = length-drop i ends in nil_from_length (drop i ends) (omega (arith, long, outside))
+
+-- nothing, and something, by the length
+pub none_long : (rest : List ℕ) → (length rest == 0) ≡ true → rest ≡ []
+none_long rest is = nil_from_length rest (eqb-true (length rest) 0 is)
+
+pub some_long : (rest : List ℕ) → (length rest == 0) ≡ false → rest ≢ []
+some_long rest is e = let h : true ≡ false = ap (λ (l : List ℕ). length l == 0) (sym e) ∙ is in absurd cc
+
 -- the fault of texts that are cut, and are then decoded
 pub decoding_fault : {X : Type 0} (bytes ends : List ℕ) (texts : List (List ℕ)) (result : Result X TextsFault) → IsCut bytes ends texts
     → (result ≡ Err NotUtf8 → All IsUtf8 texts → ⊥) → (result ≡ Err Ends → ⊥) → IfErr result (IsTextsFault bytes ends)
@@ -85,17 +111,16 @@ decoding_fault bytes ends texts (Err NotUtf8) is encoding order = (texts, (is, e
 -- ---- texts that are decoded one by one
 
 -- one that is not UTF-8
-pub not_all_utf8 : (pieces : List (Bor (List ℕ))) (i : ℕ) (piece : Bor (List ℕ)) → i < length pieces → get_or pieces i piece ≡ piece → (IsUtf8 piece.now → ⊥)
-    → All IsUtf8 (map (λ t. t.now) pieces) → ⊥
-not_all_utf8 pieces i piece inside is none all =
-    none (subst IsUtf8 (get_or-map (λ (t : Bor (List ℕ)). t.now) pieces i piece [] inside ∙ ap (λ (t : Bor (List ℕ)). t.now) is) (all i [] (omega (arith, inside, length-map pieces (λ (t : Bor (List ℕ)). t.now)))))
+pub not_all_utf8 : (pieces : List (Bor (List ℕ))) (i : ℕ) (d : Bor (List ℕ)) → i < length pieces → (IsUtf8 (get_or pieces i d).now → ⊥) → All IsUtf8 (map (λ t. t.now) pieces) → ⊥
+not_all_utf8 pieces i d inside none all =
+    none (subst IsUtf8 (get_or-map (λ (t : Bor (List ℕ)). t.now) pieces i d [] inside) (all i [] (omega (arith, inside, length-map pieces (λ (t : Bor (List ℕ)). t.now)))))
 
 -- one more is decoded
-pub more_decoded : (pieces texts : List (Bor (List ℕ))) (i : ℕ) (piece text : Bor (List ℕ)) → i < length pieces → get_or pieces i piece ≡ piece → text.now ≡ piece.now
+pub more_decoded : (pieces texts : List (Bor (List ℕ))) (i : ℕ) (d text : Bor (List ℕ)) → i < length pieces → text.now ≡ (get_or pieces i d).now
     → map (λ t. t.now) texts ≡ map (λ t. t.now) (take i pieces) → map (λ t. t.now) (texts ++ text ∷ []) ≡ map (λ t. t.now) (take (i + 1) pieces)
-more_decoded pieces texts i piece text inside is same before =
-    map-append (λ (t : Bor (List ℕ)). t.now) texts (text ∷ []) ∙ ap (λ l. l ++ text.now ∷ []) before ∙ ap (λ t. map (λ (t : Bor (List ℕ)). t.now) (take i pieces) ++ t ∷ []) (same ∙ sym (ap (λ (t : Bor (List ℕ)). t.now) is))
-    ∙ sym (map_more (λ (t : Bor (List ℕ)). t.now) pieces i piece inside)
+more_decoded pieces texts i d text inside same before =
+    map-append (λ (t : Bor (List ℕ)). t.now) texts (text ∷ []) ∙ ap (λ l. l ++ text.now ∷ []) before ∙ ap (λ t. map (λ (t : Bor (List ℕ)). t.now) (take i pieces) ++ t ∷ []) same
+    ∙ sym (map_more (λ (t : Bor (List ℕ)). t.now) pieces i d inside)
 
 -- and is UTF-8 as those before
 pub more_utf8 : (texts : List (Bor (List ℕ))) (text : Bor (List ℕ)) → IsUtf8 text.now → All IsUtf8 (map (λ t. t.now) texts) → All IsUtf8 (map (λ t. t.now) (texts ++ text ∷ []))

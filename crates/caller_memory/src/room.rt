@@ -6,8 +6,9 @@ ghost use Rattle.caller_memory.specs.Room.{IsPut};
 pub fn put(room: &mut [u8], bytes: &[u8]) -> usize
     ensures { IsPut bytes.now room.old room.new result }
 {
-    if bytes.len() <= room.len() {
-        room[..bytes.len()].copy_from_slice(bytes);
+    let needed = bytes.len();
+    if needed <= room.len() {
+        room[..needed].copy_from_slice(bytes);
     }
-    bytes.len()
+    needed
 }

@@ -59,6 +59,7 @@ pub fn texts_at<'a>(
 }
 
 /// The bytes between each end and the one before.
+#[tactic(auto, using(crate::proofs::Cuts::none_before, crate::proofs::Cuts::none_behind, crate::proofs::Cuts::none_over, crate::proofs::Cuts::cut_whole))]
 fn cut<'a>(alloc: Global, bytes: &'a [u8], ends: &[usize]) -> Result<Vec<&'a [u8]>, TextsFault>
     ensures texts { IfOk result (λ texts. IsCut bytes.now ends.now (map (λ t. t.now) texts.items)) }
     ensures fault { result ≡ Err Ends → (texts : List (List ℕ)) → IsCut bytes.now ends.now texts → ⊥ }
@@ -69,7 +70,10 @@ fn cut<'a>(alloc: Global, bytes: &'a [u8], ends: &[usize]) -> Result<Vec<&'a [u8
     let mut start = 0;
     for end in ends {
         let end = *end;
-        if end < start || rest.len() < end - start {
+        if end < start {
+            return Err(TextsFault::Ends);
+        }
+        if rest.len() < end - start {
             return Err(TextsFault::Ends);
         }
         let (text, behind) = rest.split_at(end - start);
