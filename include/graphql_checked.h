@@ -2,7 +2,7 @@
  *
  * Texts go in as bytes with their lengths, and need no zero byte at the end. A status comes out, and a report or a text is put
  * into room of the caller's: `*needed` gets its length, and where it fits it is at the front of the room, without a zero byte.
- * Where it does not fit, the room is unchanged: call again with more.
+ * Where it does not fit, the room is unchanged: call again with more. A pointer may be null where its length is 0.
  *
  * What the proofs say holds of callers that keep to this, which nothing checks:
  *   - a pointer that is not null leads to as many bytes, or numbers, as are said; no other thread writes them during the call;
@@ -56,8 +56,7 @@ uint32_t graphql_check(const uint8_t *schema, size_t schema_length,
                        size_t nesting, size_t stack);
 
 /* The same, with the report where it is refused: the bytes that the program writes, `refused` and a line for each fault. The
- * schema is text 1 and the document text 2. Where it is not refused `*needed` is 0 and the room is unchanged. The room may be
- * null where its length is 0. */
+ * schema is text 1 and the document text 2. Where it is not refused `*needed` is 0 and the room is unchanged. */
 uint32_t graphql_report(const uint8_t *schema, size_t schema_length,
                         const uint8_t *document, size_t document_length,
                         size_t nesting, size_t stack,
