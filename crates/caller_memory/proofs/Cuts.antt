@@ -40,12 +40,12 @@ module _ (bytes ends : List ℕ) where
         first ∙ ap (λ l. end ∷ l) is.1 ∙ ap (λ e. e ∷ ends_of e texts) at,
       ));
       there = λ texts is.
-        let others = going.there texts is in
-        let (t, (ts, (ends_there, (cut, ends_later)))) = first_text end later first others.0 others.1 in
-        let same : length text ≡ length t = omega (arith, at, ends_there) in
-        let whole : text ++ behind ≡ t ++ concat ts = sym parts ∙ cut in
-        let apart : behind ≡ concat ts = sym (drop-append_seam text behind) ∙ ap (drop (length text)) whole ∙ ap (λ n. drop n (t ++ concat ts)) same ∙ drop-append_seam t (concat ts) in
-        (ts, (apart, subst (λ e. later ≡ ends_of e ts) (sym ends_there) ends_later));
+          let others = going.there texts is in
+          let (t, (ts, (ends_there, (cut, ends_later)))) = first_text end later first others.0 others.1 in
+          let same : length text ≡ length t = omega (arith, at, ends_there) in
+          let whole : text ++ behind ≡ t ++ concat ts = sym parts ∙ cut in
+          let apart : behind ≡ concat ts = sym (drop-append_seam text behind) ∙ ap (drop (length text)) whole ∙ ap (λ n. drop n (t ++ concat ts)) same ∙ drop-append_seam t (concat ts) in
+          (ts, (apart, subst (λ e. later ≡ ends_of e ts) (sym ends_there) ends_later));
     }
 
     -- an end that is before the one before
@@ -67,9 +67,9 @@ module _ (bytes ends : List ℕ) where
     pub none_over : left ≡ [] → rest ≢ [] → (texts : List (List ℕ)) → IsCut bytes ends texts → ⊥
     none_over last over texts is = let others = going.there texts is in no_text others.0 others.1
       where
-      no_text : (others : List (List ℕ)) → IsCutFrom start rest left others → ⊥
-      no_text [] none = over none.0
-      no_text (text ∷ others) some = let e : (start + length text) ∷ ends_of (start + length text) others ≡ [] = sym some.1 ∙ last in absurd cc
+        no_text : (others : List (List ℕ)) → IsCutFrom start rest left others → ⊥
+        no_text [] none = over none.0
+        no_text (text ∷ others) some = let e : (start + length text) ∷ ends_of (start + length text) others ≡ [] = sym some.1 ∙ last in absurd cc
 
     -- nothing is left
     pub cut_whole : left ≡ [] → rest ≡ [] → IsCut bytes ends done
@@ -85,7 +85,7 @@ pub going_pushed : (bytes ends : List ℕ) (start : ℕ) (rest : List ℕ) (i : 
     → new ≡ done ++ text ∷ [] → Going bytes ends (get_or ends i 0) behind.now (drop (i + 1) ends) (map (λ t. t.now) new)
 going_pushed bytes ends start rest i done new text behind inside going parts long after pushed =
     let on : Going bytes ends (get_or ends i 0) behind.now (drop (i + 1) ends) (map (λ t. t.now) done ++ text.now ∷ []) =
-        going_on bytes ends start rest (drop i ends) (map (λ t. t.now) done) going text.now behind.now (get_or ends i 0) (drop (i + 1) ends) parts (next_end ends i inside) (omega (arith, long, after)) in
+    going_on bytes ends start rest (drop i ends) (map (λ t. t.now) done) going text.now behind.now (get_or ends i 0) (drop (i + 1) ends) parts (next_end ends i inside) (omega (arith, long, after)) in
     let same : map (λ (t : Bor (List ℕ)). t.now) new ≡ map (λ t. t.now) done ++ text.now ∷ [] = ap (map (λ (t : Bor (List ℕ)). t.now)) pushed ∙ map-append (λ (t : Bor (List ℕ)). t.now) done (text ∷ []) in
     subst (Going bytes ends (get_or ends i 0) behind.now (drop (i + 1) ends)) (sym same) on
 

@@ -20,7 +20,7 @@ use Rattle.graphql_checked.proofs.Verdicts.{yes_pair, refused_pair, certain_docu
 use Rattle.caller_memory.specs.Cut.{IsCut}
 use Rattle.caller_memory.specs.Room.{IsPut}
 use Rattle.caller_memory.proofs.Cuts.{one_cut}
-use Rattle.graphql_checked_c.specs.Told.{IsStatus, IsUntold, IsYesOfPair, IsReportOfPair, IsCertainPair, OneIsNotUtf8, HasNotUtf8, IsNoCut, AreCertainTexts, IsYesOver, IsReportOver, IsCertainOver, TellsRefusal, AnswersPair, AnswersTexts, AnswersOver, report_of}
+use Rattle.graphql_checked_c.specs.Told.{IsStatus, IsToldIn, IsUntold, IsYesOfPair, IsReportOfPair, IsCertainPair, OneIsNotUtf8, HasNotUtf8, IsNoCut, AreCertainTexts, IsYesOver, IsReportOver, IsCertainOver, TellsRefusal, AnswersPair, AnswersTexts, AnswersOver, report_of}
 
 -- ---- statuses
 
@@ -33,6 +33,14 @@ pub put_nothing : (bytes old new : List ℕ) (needed : ℕ) → bytes ≡ [] →
 put_nothing bytes old new needed none put =
     let zero_needed : needed ≡ 0 = put.told ∙ ap length none in
     (zero_needed, put.fits (omega (arith, zero_needed)) ∙ ap (λ (b : List ℕ). b ++ drop needed old) none ∙ ap (λ n. drop n old) zero_needed)
+
+-- what is put is told
+pub put_told : (says : List ℕ → Type 0) (items bytes old new : List ℕ) (needed : ℕ) → says items → bytes ≡ items → IsPut bytes old new needed → IsToldIn old new needed says
+put_told says items bytes old new needed so same put = (bytes, (subst says (sym same) so, put))
+
+-- what is so of the value that there is
+pub some_is : {A : Type 0} (value : Option A) (x : A) (P : A → Type 0) → value ≡ Some x → P x → IfSome value P
+some_is {A} value x P is so = subst (λ (v : Option A). IfSome v P) (sym is) so
 
 -- ---- one schema text and a document
 
@@ -48,9 +56,9 @@ module _ (nesting : ℕ) (schema document : SourceText) (status : ℕ) (bytes : 
     untold = λ _. none;
   }
     where
-    neither : OneIsNotUtf8 schema document → IsCertainPair nesting schema document → ⊥
-    neither (inl not) certain = not certain.0
-    neither (inr not) certain = not certain.1.0
+      neither : OneIsNotUtf8 schema document → IsCertainPair nesting schema document → ⊥
+      neither (inl not) certain = not certain.0
+      neither (inr not) certain = not certain.1.0
 
   pub pair_memory : status ≡ 4 → bytes ≡ [] → AnswersPair nesting schema document status bytes
   pair_memory is none = record {
@@ -134,7 +142,7 @@ module _ (nesting : ℕ) (texts ends : List ℕ) (status : ℕ) (bytes : List �
     undone = other is (λ e. omega (arith, e));
     measured = other is (λ e. omega (arith, e));
     certain = λ certain.
-      let e : Faults list ≡ Memory = complete (subst (AreSchemasCertain (first_terms nesting)) (one_cut texts ends certain.0 schemas certain.1.0 cut) certain.1.1.1) in absurd cc;
+        let e : Faults list ≡ Memory = complete (subst (AreSchemasCertain (first_terms nesting)) (one_cut texts ends certain.0 schemas certain.1.0 cut) certain.1.1.1) in absurd cc;
     untold = λ not. absurd (not is);
   }
   texts_refused schemas cut (Faults list) refuses complete (inr (is, none)) = texts_memory is none
@@ -187,7 +195,7 @@ module _ (told : List ℕ → Type 0) (schema : CheckedSchemaParts) (document : 
     status = inr (inl is);
     prefixed = other is (λ e. omega (arith, e));
     certain = λ (utf8, (terms, (schemas, (of, certain)))).
-      let e : Faults list ≡ Memory = complete (certain_document terms schemas document (schema_value schema) of certain) in absurd cc;
+        let e : Faults list ≡ Memory = complete (certain_document terms schemas document (schema_value schema) of certain) in absurd cc;
     untold = λ _ not. absurd (not is);
   }
   over_refused (Faults list) refuses complete (inr (is, none)) = over_memory is none

@@ -71,7 +71,9 @@ pub(crate) fn take(alloc: Global, handle: &mut Handle) -> Box<Kept>
     ensures taken { handle.old.value ≡ Some result.value }
     ensures empty { handle.new.value ≡ None }
 {
-    replace(handle, Handle::none()).into_pointer(alloc).into_box()
+    replace(handle, Handle::none())
+        .into_pointer(alloc)
+        .into_box()
 }
 
 /// Puts what is to be kept into the handle, which is empty.

@@ -37,7 +37,7 @@ pub extern "C" fn graphql_proved_check(
 ///
 /// `needed` gets the length of the report. Where it fits, the report is at the front of `room`; else `room` is unchanged.
 #[unsafe(no_mangle)]
-#[tactic(auto, using(crate::proofs::Answers::put_nothing))]
+#[tactic(auto, using(crate::proofs::Answers::put_nothing, crate::proofs::Answers::put_told))]
 pub extern "C" fn graphql_proved_report(
     alloc: Global,
     schema: &[u8],

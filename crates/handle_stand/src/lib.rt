@@ -1,0 +1,6 @@
+//! The handle over a stand-in.
+#![tactic(auto)]
+
+mod handle;
+mod schemas;
+mod standing;
