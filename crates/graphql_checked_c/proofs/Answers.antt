@@ -1,26 +1,32 @@
 -- What the parts of a call answer, from what they are told: a lemma for each way in which one ends.
 use Rattle.std.proofs.Common.{◌≡◌, ◌≢◌, ℕ, List, [], ◌∷◌, ◌++◌, length, drop, ◌⊎◌, inl, inr, refl, sym, ap, subst, ◌∙◌, arith, map}
-use Rattle.std.specs.Prelude.{IsUtf8, Ok, Err, IfOk, IfSome, Option, Some, None}
+use Rattle.std.specs.Prelude.{IsUtf8, Result, Ok, Err, IfOk, IfSome, Option, Some, None}
 use Rattle.std.specs.List.{All}
 use Rattle.graphql_faults.specs.DetailsView.{diagnostics_of}
+use Rattle.graphql_faults.specs.declared.diagnostic_list.DiagnosticList.{DiagnosticList}
 use Rattle.verdict_definitions.specs.Texts.{SourceText, Terms}
 use Rattle.verdict_definitions.specs.Judge.{IsCertain, AreSchemasCertain, IsDocumentCertain}
-use Rattle.verdict_definitions.specs.Answer.{Refuses, RefusedBytes}
+use Rattle.verdict_definitions.specs.Answer.{Refuses, RefusedBytes, WritesDocument}
 use Rattle.graphql_names.specs.Placed.{Place}
 use Rattle.document_meaning.specs.MeantTree.{MeantDocument}
 use Rattle.checker_texts.specs.declared.refusal.Refusal.{Refusal}
 use Rattle.checker_texts.specs.declared.refusal.Refusal.TheVariants.{Faults, Memory, Failed}
 use Rattle.checker_schemas.specs.CheckedSchemaValue.{IsCheckedSchemaOf}
 use Rattle.checker_schemas.specs.Refusals.{RefusalOfSchemas}
-use Rattle.checker_documents.specs.CheckedView.{CheckedSchemaParts, schema_value}
-use Rattle.checker_documents.specs.CheckerValue.{IsCheckedDocumentOf}
+use Rattle.checker_documents.specs.CheckedView.{CheckedSchemaParts, CheckedDocumentParts, schema_value, document_value}
+use Rattle.checker_documents.specs.CheckerValue.{IsCheckedDocumentOf, WritesCheckedDocument}
+use Rattle.verdict_definitions.specs.Out.{Layout}
 use Rattle.checker_documents.specs.DocumentRefusals.{RefusalOfDocument}
 use Rattle.graphql_checked.specs.Verdicts.{first_terms}
-use Rattle.graphql_checked.proofs.Verdicts.{yes_pair, refused_pair, certain_document}
+use Rattle.graphql_checked.specs.declared.verdict.Verdict.{Verdict}
+use Rattle.graphql_checked.specs.declared.verdict.Verdict.TheVariants.{Accepted, Refused}
+use Rattle.graphql_checked.specs.declared.verdict.CheckError.{CheckError}
+use Rattle.graphql_checked.specs.declared.verdict.CheckError.TheVariants as error
+use Rattle.graphql_checked.proofs.Verdicts.{yes_pair, refused_pair, certain_document, schemas_not_failed, document_not_failed}
 use Rattle.caller_memory.specs.Cut.{IsCut}
 use Rattle.caller_memory.specs.Room.{IsPut}
 use Rattle.caller_memory.proofs.Cuts.{one_cut}
-use Rattle.graphql_checked_c.specs.Told.{IsStatus, IsToldIn, IsUntold, IsYesOfPair, IsReportOfPair, IsCertainPair, OneIsNotUtf8, HasNotUtf8, IsNoCut, AreCertainTexts, IsYesOver, IsReportOver, IsCertainOver, TellsRefusal, AnswersPair, AnswersTexts, AnswersOver, report_of}
+use Rattle.graphql_checked_c.specs.Told.{IsStatus, IsToldIn, IsUntold, IsYesOfPair, IsReportOfPair, IsCertainPair, OneIsNotUtf8, HasNotUtf8, IsNoCut, AreCertainTexts, IsYesOver, IsReportOver, IsDocumentText, IsCertainOver, TellsRefusal, AnswersPair, AnswersTexts, AnswersOver, report_of}
 
 -- ---- statuses
 
@@ -42,6 +48,17 @@ put_told says items bytes old new needed so same put = (bytes, (subst says (sym 
 pub some_is : {A : Type 0} (value : Option A) (x : A) (P : A → Type 0) → value ≡ Some x → P x → IfSome value P
 some_is {A} value x P is so = subst (λ (v : Option A). IfSome v P) (sym is) so
 
+-- no refusal says that a checker has failed
+pub texts_not_failed : (terms : Terms) (texts : List SourceText) (refusal : Refusal) → RefusalOfSchemas terms texts refusal → refusal ≢ Failed
+texts_not_failed = schemas_not_failed
+
+pub over_not_failed : (schema : CheckedSchemaParts) (document : SourceText) (refusal : Refusal) → RefusalOfDocument (schema_value schema) document refusal → refusal ≢ Failed
+over_not_failed schema document refusal h = document_not_failed (schema_value schema) document refusal h
+
+-- what `check_texts` may answer of a certain pair
+abbrev IsFor : Result Verdict CheckError → Type 0
+IsFor answer = (answer ≡ Ok Accepted) ⊎ (answer ≡ Err error.Memory)
+
 -- ---- one schema text and a document
 
 module _ (nesting : ℕ) (schema document : SourceText) (status : ℕ) (bytes : List ℕ) where
@@ -50,7 +67,7 @@ module _ (nesting : ℕ) (schema document : SourceText) (status : ℕ) (bytes : 
     yes = other is (λ e. omega (arith, e));
     report = other is (λ e. omega (arith, e));
     encoding = λ _. one;
-    status = inr (inr (inl is));
+    known = inr (inr (inl is));
     measured = other is (λ e. omega (arith, e));
     certain = λ certain. absurd (neither one certain);
     untold = λ _. none;
@@ -65,7 +82,7 @@ module _ (nesting : ℕ) (schema document : SourceText) (status : ℕ) (bytes : 
     yes = other is (λ e. omega (arith, e));
     report = other is (λ e. omega (arith, e));
     encoding = other is (λ e. omega (arith, e));
-    status = inr (inr (inr (inl is)));
+    known = inr (inr (inr (inl is)));
     measured = other is (λ e. omega (arith, e));
     certain = λ _. inr is;
     untold = λ _. none;
@@ -76,22 +93,28 @@ module _ (nesting : ℕ) (schema document : SourceText) (status : ℕ) (bytes : 
     yes = λ _. yes;
     report = other is (λ e. omega (arith, e));
     encoding = other is (λ e. omega (arith, e));
-    status = inl is;
+    known = inl is;
     measured = other is (λ e. omega (arith, e));
     certain = λ _. inl is;
     untold = λ _. none;
   }
 
-  pub pair_report : IsReportOfPair nesting schema document bytes → (IsCertain (first_terms nesting) (schema ∷ []) document → ⊥) → status ≡ 1 → AnswersPair nesting schema document status bytes
-  pair_report report uncertain is = record {
+  pub pair_report : (list : DiagnosticList) → Refuses (first_terms nesting) (schema ∷ []) document (diagnostics_of list)
+      → (IsCertain (first_terms nesting) (schema ∷ []) document → IsFor (Ok (Refused list)))
+      → bytes ≡ report_of (diagnostics_of list) → status ≡ 1 → AnswersPair nesting schema document status bytes
+  pair_report list refuses complete told is = record {
     yes = other is (λ e. omega (arith, e));
-    report = λ _. report;
+    report = λ _. record { faults = diagnostics_of list; refused = refuses; is = told };
     encoding = other is (λ e. omega (arith, e));
-    status = inr (inl is);
+    known = inr (inl is);
     measured = other is (λ e. omega (arith, e));
-    certain = λ certain. absurd (uncertain certain.1.1);
+    certain = λ certain. absurd (neither (complete certain.1.1));
     untold = λ not. absurd (not is);
   }
+    where
+    neither : IsFor (Ok (Refused list)) → ⊥
+    neither (inl e) = absurd cc
+    neither (inr e) = absurd cc
 
 -- ---- schema texts that are opened
 
@@ -101,7 +124,7 @@ module _ (nesting : ℕ) (texts ends : List ℕ) (status : ℕ) (bytes : List �
     report = other is (λ e. omega (arith, e));
     encoding = other is (λ e. omega (arith, e));
     order = other is (λ e. omega (arith, e));
-    status = inr (inr (inr (inl is)));
+    known = inr (inr (inr (inl is)));
     undone = other is (λ e. omega (arith, e));
     measured = other is (λ e. omega (arith, e));
     certain = λ _. is;
@@ -113,7 +136,7 @@ module _ (nesting : ℕ) (texts ends : List ℕ) (status : ℕ) (bytes : List �
     report = other is (λ e. omega (arith, e));
     encoding = other is (λ e. omega (arith, e));
     order = λ _. uncut;
-    status = inr (inr (inr (inr (inr (inl is)))));
+    known = inr (inr (inr (inr (inr (inl is)))));
     undone = other is (λ e. omega (arith, e));
     measured = other is (λ e. omega (arith, e));
     certain = λ certain. absurd (uncut certain.0 certain.1.0);
@@ -125,7 +148,7 @@ module _ (nesting : ℕ) (texts ends : List ℕ) (status : ℕ) (bytes : List �
     report = other is (λ e. omega (arith, e));
     encoding = λ _. (schemas, (cut, not));
     order = other is (λ e. omega (arith, e));
-    status = inr (inr (inl is));
+    known = inr (inr (inl is));
     undone = other is (λ e. omega (arith, e));
     measured = other is (λ e. omega (arith, e));
     certain = λ certain. absurd (not (subst (All IsUtf8) (one_cut texts ends certain.0 schemas certain.1.0 cut) certain.1.1.0));
@@ -138,7 +161,7 @@ module _ (nesting : ℕ) (texts ends : List ℕ) (status : ℕ) (bytes : List �
     report = λ _. (schemas, (cut, (diagnostics_of list, (refuses, told))));
     encoding = other is (λ e. omega (arith, e));
     order = other is (λ e. omega (arith, e));
-    status = inr (inl is);
+    known = inr (inl is);
     undone = other is (λ e. omega (arith, e));
     measured = other is (λ e. omega (arith, e));
     certain = λ certain.
@@ -157,7 +180,7 @@ module _ (told : List ℕ → Type 0) (schema : CheckedSchemaParts) (document : 
     done = λ _. done;
     report = other is (λ e. omega (arith, e));
     encoding = other is (λ e. omega (arith, e));
-    status = inl is;
+    known = inl is;
     prefixed = other is (λ e. omega (arith, e));
     certain = λ _. inl is;
     untold = λ not. absurd (not is);
@@ -168,7 +191,7 @@ module _ (told : List ℕ → Type 0) (schema : CheckedSchemaParts) (document : 
     done = other is (λ e. omega (arith, e));
     report = other is (λ e. omega (arith, e));
     encoding = other is (λ e. omega (arith, e));
-    status = inr (inr (inr (inl is)));
+    known = inr (inr (inr (inl is)));
     prefixed = other is (λ e. omega (arith, e));
     certain = λ _. inr is;
     untold = λ _ _. none;
@@ -179,7 +202,7 @@ module _ (told : List ℕ → Type 0) (schema : CheckedSchemaParts) (document : 
     done = other is (λ e. omega (arith, e));
     report = other is (λ e. omega (arith, e));
     encoding = λ _. not;
-    status = inr (inr (inl is));
+    known = inr (inr (inl is));
     prefixed = other is (λ e. omega (arith, e));
     certain = λ certain. absurd (not certain.0);
     untold = λ _ _. none;
@@ -192,10 +215,10 @@ module _ (told : List ℕ → Type 0) (schema : CheckedSchemaParts) (document : 
     done = other is (λ e. omega (arith, e));
     report = λ _ terms schemas of. record { faults = diagnostics_of list; refused = refused_pair terms schemas document (schema_value schema) of (diagnostics_of list) refuses; is = bytes_are };
     encoding = other is (λ e. omega (arith, e));
-    status = inr (inl is);
+    known = inr (inl is);
     prefixed = other is (λ e. omega (arith, e));
-    certain = λ (utf8, (terms, (schemas, (of, certain)))).
-        let e : Faults list ≡ Memory = complete (certain_document terms schemas document (schema_value schema) of certain) in absurd cc;
+    certain = λ h.
+        let e : Faults list ≡ Memory = complete (certain_document h.1.0 h.1.1.0 document (schema_value schema) h.1.1.1.0 h.1.1.1.1) in absurd cc;
     untold = λ _ not. absurd (not is);
   }
   over_refused (Faults list) refuses complete (inr (is, none)) = over_memory is none
@@ -205,3 +228,17 @@ module _ (told : List ℕ → Type 0) (schema : CheckedSchemaParts) (document : 
 -- a document that is accepted is one of whatever texts the schema is of
 pub yes_over : (schema : CheckedSchemaParts) (document : SourceText) (meant : MeantDocument Place) → IsCheckedDocumentOf (schema_value schema) document meant → IsYesOver schema document
 yes_over schema document meant checked = λ terms schemas of. yes_pair terms schemas document (schema_value schema) of meant checked
+
+pub over_yes : (schema : CheckedSchemaParts) (document : SourceText) (meant : MeantDocument Place) (status : ℕ) (bytes : List ℕ) → IsCheckedDocumentOf (schema_value schema) document meant
+    → status ≡ 0 → bytes ≡ [] → AnswersOver (λ bytes. IsYesOver schema document × (bytes ≡ [])) schema document status bytes
+over_yes schema document meant status bytes checked is none =
+    over_done (λ bytes. IsYesOver schema document × (bytes ≡ [])) schema document status bytes (yes_over schema document meant checked, none) is
+
+-- its text is written, or memory ran out
+pub over_written : (layout : Layout) (schema : CheckedSchemaParts) (document : SourceText) (d : CheckedDocumentParts) (status : ℕ) (bytes : List ℕ)
+    → d.schema ≡ schema → d.text ≡ document → IsCheckedDocumentOf (schema_value schema) document (document_value d).document
+    → ((status ≡ 0) × WritesCheckedDocument layout (document_value d) bytes) ⊎ ((status ≡ 4) × (bytes ≡ [])) → AnswersOver (IsDocumentText layout schema document) schema document status bytes
+over_written layout schema document d status bytes over of checked (inl (is, writes)) =
+    over_done (IsDocumentText layout schema document) schema document status bytes
+    (yes_over schema document (document_value d).document checked, subst (λ (s : CheckedSchemaParts). WritesDocument layout s.number document bytes) over (subst (λ (t : SourceText). WritesDocument layout d.schema.number t bytes) of writes)) is
+over_written layout schema document d status bytes over of checked (inr (is, none)) = over_memory (IsDocumentText layout schema document) schema document status bytes is none

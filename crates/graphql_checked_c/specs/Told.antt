@@ -138,7 +138,7 @@ pub record AnswersPair (nesting : ℕ) (schema document : SourceText) (status : 
   pub yes : status ≡ 0 → IsYesOfPair nesting schema document
   pub report : status ≡ 1 → IsReportOfPair nesting schema document bytes
   pub encoding : status ≡ 3 → OneIsNotUtf8 schema document
-  pub status : IsStatus status
+  pub known : IsStatus status
   pub measured : status ≢ 5
   pub certain : IsCertainPair nesting schema document → IsDoneOrMemory status
   pub untold : status ≢ 1 → bytes ≡ []
@@ -147,7 +147,7 @@ pub record AnswersTexts (nesting : ℕ) (texts ends : List ℕ) (status : ℕ) (
   pub report : status ≡ 1 → IsReportOfTexts nesting texts ends bytes
   pub encoding : status ≡ 3 → HasNotUtf8 texts ends
   pub order : status ≡ 7 → IsNoCut texts ends
-  pub status : IsStatus status
+  pub known : IsStatus status
   pub undone : status ≢ 0
   pub measured : status ≢ 5
   pub certain : AreCertainTexts nesting texts ends → status ≡ 4
@@ -158,7 +158,7 @@ pub record AnswersOver (told : List ℕ → Type 0) (schema : CheckedSchemaParts
   pub done : status ≡ 0 → told bytes
   pub report : status ≡ 1 → IsReportOver schema document bytes
   pub encoding : status ≡ 3 → IsUtf8 document → ⊥
-  pub status : IsStatus status
+  pub known : IsStatus status
   pub prefixed : status ≢ 8
   pub certain : IsCertainOver schema document → IsDoneOrMemory status
   pub untold : status ≢ 0 → status ≢ 1 → bytes ≡ []

@@ -13,9 +13,10 @@ use crate::answer::{Answer, ENDS, MEMORY, NOT_UTF8, bare, refusal_answer};
 use caller_memory::{TextsFault, texts_at};
 use graphql_checked::{CheckedSchema, Checker, Limits, Refusal};
 use std::alloc::Global;
+use std::convert::AsStr;
 
 /// The schema of the texts, or why there is none.
-#[tactic(auto, using(crate::proofs::Answers::texts_memory, crate::proofs::Answers::texts_uncut, crate::proofs::Answers::texts_not_utf8, crate::proofs::Answers::texts_refused))]
+#[tactic(auto, using(crate::proofs::Answers::texts_memory, crate::proofs::Answers::texts_uncut, crate::proofs::Answers::texts_not_utf8, crate::proofs::Answers::texts_refused, crate::proofs::Answers::texts_not_failed))]
 pub(crate) fn schema_of_texts(
     alloc: Global,
     texts: &[u8],
@@ -31,21 +32,21 @@ pub(crate) fn schema_of_texts(
         Err(TextsFault::Ends) => return Err(bare(alloc, ENDS)),
         Err(TextsFault::NotUtf8) => return Err(bare(alloc, NOT_UTF8)),
     };
-    match schema_of(alloc, &texts, nesting) {
+    match schema_of(alloc, &texts, Limits { nesting }) {
         Ok(schema) => Ok(schema),
         Err(refusal) => Err(refusal_answer(alloc, refusal)),
     }
 }
 
 /// The schema of the texts, if they are accepted.
-fn schema_of(alloc: Global, texts: &[&str], nesting: usize) -> Result<CheckedSchema, Refusal>
-    ensures schema { IfOk result (λ s. IsCheckedSchemaOf (first_terms nesting) (map (λ t. t.now) texts.now) (schema_value s)) }
-    ensures refused { IfErr result (RefusalOfSchemas (first_terms nesting) (map (λ t. t.now) texts.now)) }
-    ensures complete { IfErr result (λ r. AreSchemasCertain (first_terms nesting) (map (λ t. t.now) texts.now) → r ≡ refusal.Memory) }
+fn schema_of<T: AsStr>(alloc: Global, texts: &[T], limits: Limits) -> Result<CheckedSchema, Refusal>
+    ensures schema { IfOk result (λ s. IsCheckedSchemaOf (first_terms limits.nesting) (map T.text texts.now) (schema_value s)) }
+    ensures refused { IfErr result (RefusalOfSchemas (first_terms limits.nesting) (map T.text texts.now)) }
+    ensures complete { IfErr result (λ r. AreSchemasCertain (first_terms limits.nesting) (map T.text texts.now) → r ≡ refusal.Memory) }
 {
-    let mut checker = Checker::new(alloc, Limits { nesting });
+    let mut checker = Checker::new(alloc, limits);
     for text in texts {
-        checker.add_schema(text)?;
+        checker.add_schema(text.as_str())?;
     }
     checker.finish()
 }

@@ -10,22 +10,30 @@ use crate::answer::{ACCEPTED, Answer, MEMORY, NOT_UTF8, bare, refusal_answer};
 use graphql_checked::{CheckedDocument, CheckedSchema, Layout};
 use std::alloc::{AllocError, Global};
 
-/// The answer of a document.
-#[tactic(auto, using(crate::proofs::Answers::over_done, crate::proofs::Answers::over_memory, crate::proofs::Answers::over_not_utf8, crate::proofs::Answers::over_refused, crate::proofs::Answers::yes_over))]
+/// The answer of a document, as bytes.
+#[tactic(auto, using(crate::proofs::Answers::over_not_utf8))]
 pub(crate) fn checked(alloc: Global, schema: &CheckedSchema, document: &[u8]) -> Answer
     ensures { AnswersOver (λ bytes. IsYesOver schema.now document.now × (bytes ≡ [])) schema.now document.now result.status result.bytes.items }
 {
     let Ok(text) = str::from_utf8(document) else {
         return bare(alloc, NOT_UTF8);
     };
+    checked_text(alloc, schema, text)
+}
+
+/// The answer of a document.
+#[tactic(auto, using(crate::proofs::Answers::over_yes, crate::proofs::Answers::over_refused, crate::proofs::Answers::over_not_failed))]
+fn checked_text(alloc: Global, schema: &CheckedSchema, text: &str) -> Answer
+    ensures { AnswersOver (λ bytes. IsYesOver schema.now text.now × (bytes ≡ [])) schema.now text.now result.status result.bytes.items }
+{
     match schema.check(text) {
         Ok(_) => bare(alloc, ACCEPTED),
         Err(refusal) => refusal_answer(alloc, refusal),
     }
 }
 
-/// The text of a document under the layout, where it is accepted.
-#[tactic(auto, using(crate::proofs::Answers::over_done, crate::proofs::Answers::over_memory, crate::proofs::Answers::over_not_utf8, crate::proofs::Answers::over_refused, crate::proofs::Answers::yes_over))]
+/// The text of a document, as bytes, under the layout, where it is accepted.
+#[tactic(auto, using(crate::proofs::Answers::over_not_utf8))]
 pub(crate) fn document_text(
     alloc: Global,
     schema: &CheckedSchema,
@@ -37,6 +45,19 @@ pub(crate) fn document_text(
     let Ok(text) = str::from_utf8(document) else {
         return bare(alloc, NOT_UTF8);
     };
+    text_of_document(alloc, schema, text, layout)
+}
+
+/// The text of a document under the layout, where it is accepted.
+#[tactic(auto, using(crate::proofs::Answers::over_written, crate::proofs::Answers::over_refused, crate::proofs::Answers::over_not_failed))]
+fn text_of_document(
+    alloc: Global,
+    schema: &CheckedSchema,
+    text: &str,
+    layout: Layout<'_>,
+) -> Answer
+    ensures { AnswersOver (IsDocumentText (prefix_of layout.entry) schema.now text.now) schema.now text.now result.status result.bytes.items }
+{
     match schema.check(text) {
         Ok(checked) => written_document(alloc, &checked, layout),
         Err(refusal) => refusal_answer(alloc, refusal),

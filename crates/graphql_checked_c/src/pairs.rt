@@ -64,8 +64,8 @@ pub extern "C" fn graphql_proved_report(
     answer.status
 }
 
-/// The answer of two texts.
-#[tactic(auto, using(crate::proofs::Answers::pair_not_utf8, crate::proofs::Answers::pair_memory, crate::proofs::Answers::pair_yes, crate::proofs::Answers::pair_report))]
+/// The answer of two texts, as bytes.
+#[tactic(auto, using(crate::proofs::Answers::pair_not_utf8))]
 fn judged(alloc: Global, schema: &[u8], document: &[u8], nesting: usize) -> Answer
     ensures { AnswersPair nesting schema.now document.now result.status result.bytes.items }
 {
@@ -75,6 +75,14 @@ fn judged(alloc: Global, schema: &[u8], document: &[u8], nesting: usize) -> Answ
     let Ok(document) = str::from_utf8(document) else {
         return bare(alloc, NOT_UTF8);
     };
+    judged_texts(alloc, schema, document, nesting)
+}
+
+/// The answer of two texts.
+#[tactic(auto, using(crate::proofs::Answers::pair_memory, crate::proofs::Answers::pair_yes, crate::proofs::Answers::pair_report))]
+fn judged_texts(alloc: Global, schema: &str, document: &str, nesting: usize) -> Answer
+    ensures { AnswersPair nesting schema.now document.now result.status result.bytes.items }
+{
     match check_texts(alloc, &[schema], document, Limits { nesting }) {
         Ok(Verdict::Accepted) => bare(alloc, ACCEPTED),
         Ok(Verdict::Refused(list)) => match refused(alloc, &list) {

@@ -34,7 +34,7 @@ pub record Answers (n : ℕ) (status : ℕ) (bytes : List ℕ) : Type 0 where
   pub yes : status ≡ 0 → Yes n
   pub report : status ≡ 1 → Report n bytes
   pub encoding : status ≡ 3 → Bad n
-  pub status : IsStatus status
+  pub known : IsStatus status
   pub measured : status ≢ 5
   pub certain : Certain n → IsDoneOrMemory status
   pub untold : status ≢ 1 → bytes ≡ []
