@@ -1,17 +1,16 @@
 -- What the parts of a call answer, from what they are told: a lemma for each way in which one ends.
-use Rattle.std.proofs.Common.{◌≡◌, ◌≢◌, ℕ, List, [], ◌∷◌, ◌++◌, length, drop, ◌⊎◌, inl, inr, refl, sym, ap, subst, ◌∙◌, arith, map}
-use Rattle.std.specs.Prelude.{IsUtf8, Result, Ok, Err, IfOk, IfSome, Option, Some, None}
+use Rattle.std.proofs.Common.{◌≡◌, ◌≢◌, ℕ, List, [], ◌∷◌, ◌++◌, length, drop, ◌⊎◌, inl, inr, sym, ap, subst, ◌∙◌, arith}
+use Rattle.std.specs.Prelude.{IsUtf8, Result, Ok, Err, IfSome, Option, Some}
 use Rattle.std.specs.List.{All}
 use Rattle.graphql_faults.specs.DetailsView.{diagnostics_of}
 use Rattle.graphql_faults.specs.declared.diagnostic_list.DiagnosticList.{DiagnosticList}
 use Rattle.verdict_definitions.specs.Texts.{SourceText, Terms}
 use Rattle.verdict_definitions.specs.Judge.{IsCertain, AreSchemasCertain, IsDocumentCertain}
-use Rattle.verdict_definitions.specs.Answer.{Refuses, RefusedBytes, WritesDocument}
+use Rattle.verdict_definitions.specs.Answer.{Refuses, WritesDocument}
 use Rattle.graphql_names.specs.Placed.{Place}
 use Rattle.document_meaning.specs.MeantTree.{MeantDocument}
 use Rattle.checker_texts.specs.declared.refusal.Refusal.{Refusal}
 use Rattle.checker_texts.specs.declared.refusal.Refusal.TheVariants.{Faults, Memory, Failed}
-use Rattle.checker_schemas.specs.CheckedSchemaValue.{IsCheckedSchemaOf}
 use Rattle.checker_schemas.specs.Refusals.{RefusalOfSchemas}
 use Rattle.checker_documents.specs.CheckedView.{CheckedSchemaParts, CheckedDocumentParts, schema_value, document_value}
 use Rattle.checker_documents.specs.CheckerValue.{IsCheckedDocumentOf, WritesCheckedDocument}
@@ -26,7 +25,7 @@ use Rattle.graphql_checked.proofs.Verdicts.{yes_pair, refused_pair, certain_docu
 use Rattle.caller_memory.specs.Cut.{IsCut}
 use Rattle.caller_memory.specs.Room.{IsPut}
 use Rattle.caller_memory.proofs.Cuts.{one_cut}
-use Rattle.graphql_checked_c.specs.Told.{IsStatus, IsToldIn, IsUntold, IsYesOfPair, IsReportOfPair, IsCertainPair, OneIsNotUtf8, HasNotUtf8, IsNoCut, AreCertainTexts, IsYesOver, IsReportOver, IsDocumentText, IsCertainOver, TellsRefusal, AnswersPair, AnswersTexts, AnswersOver, report_of}
+use Rattle.graphql_checked_c.specs.Told.{IsToldIn, IsUntold, IsYesOfPair, IsCertainPair, OneIsNotUtf8, HasNotUtf8, IsNoCut, IsYesOver, IsDocumentText, TellsRefusal, AnswersPair, AnswersTexts, AnswersOver, report_of}
 
 -- ---- statuses
 

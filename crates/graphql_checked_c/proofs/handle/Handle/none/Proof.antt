@@ -1,10 +1,10 @@
 -- `none` makes a handle that owns nothing.
-use Rattle.std.proofs.Common.{◌≡◌, List, [], ◌∷◌, refl}
+use Rattle.std.proofs.Common.{◌≡◌, [], ◌∷◌, refl}
 use Rattle.std.specs.Prelude.{Option, None}
 use mir.Val.{Val}
-use base.Logic.{SProp, ent, emp}
+use base.Logic.{SProp, emp}
 use base.Fml.{ftrue}
-use types.Kit.{‵, raw, ◌⊛◌, ◌$◌, ◌∵◌, !, qed, by, move, keep, drop, split, use0}
+use types.Kit.{‵, raw, ◌⊛◌, ◌$◌, ◌∵◌, !, qed, by, move, keep, split, use0}
 use types.Run.{lit, no_more, and_then, returns, enter}
 use types.ByLocal.{alloc_all, pass_all, free_all, look_at, sets}
 use types.Part.{agg}
@@ -17,7 +17,6 @@ use denote.Signature.{types_at}
 use denote.Triple.Walked.{Stays, walk_of}
 use Rattle.std_alloc.proofs.RcSteps.{Ptr-Good}
 use Rattle.std.proofs.raw_atomic.Walks.{proved_at, leaves}
-use Rattle.libc.specs.Heap.{chunk}
 use Rattle.graphql_checked_c.proofs.Handles.{word, handle_in}
 use Rattle.graphql_checked_c.specs.contracts.handle.Kept as kept
 use Rattle.graphql_checked_c.specs.contracts.handle.Handle.none.{ended, clauses}
