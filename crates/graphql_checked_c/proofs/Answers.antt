@@ -111,9 +111,9 @@ module _ (nesting : ℕ) (schema document : SourceText) (status : ℕ) (bytes : 
     untold = λ not. absurd (not is);
   }
     where
-    neither : IsFor (Ok (Refused list)) → ⊥
-    neither (inl e) = absurd cc
-    neither (inr e) = absurd cc
+      neither : IsFor (Ok (Refused list)) → ⊥
+      neither (inl e) = absurd cc
+      neither (inr e) = absurd cc
 
 -- ---- schema texts that are opened
 

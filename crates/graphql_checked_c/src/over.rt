@@ -50,12 +50,7 @@ pub(crate) fn document_text(
 
 /// The text of a document under the layout, where it is accepted.
 #[tactic(auto, using(crate::proofs::Answers::over_written, crate::proofs::Answers::over_refused, crate::proofs::Answers::over_not_failed))]
-fn text_of_document(
-    alloc: Global,
-    schema: &CheckedSchema,
-    text: &str,
-    layout: Layout<'_>,
-) -> Answer
+fn text_of_document(alloc: Global, schema: &CheckedSchema, text: &str, layout: Layout<'_>) -> Answer
     ensures { AnswersOver (IsDocumentText (prefix_of layout.entry) schema.now text.now) schema.now text.now result.status result.bytes.items }
 {
     match schema.check(text) {

@@ -1,6 +1,6 @@
 //! One schema text and a document, by value.
 
-ghost use Rattle.std.specs.Prelude.{◌≡◌, ◌≢◌, [], ◌⊎◌};
+ghost use Rattle.std.specs.Prelude.{◌≡◌, ◌≢◌};
 ghost use Rattle.graphql_checked_c.specs.Told.{IsYesOfPair, IsReportOfPair, IsCertainPair, OneIsNotUtf8, IsStatus, IsDoneOrMemory, HasStack, IsToldIn, IsUntold, AnswersPair};
 
 use crate::answer::{ACCEPTED, Answer, MEMORY, NOT_UTF8, REFUSED, STACK, bare};

@@ -1,6 +1,6 @@
 //! A schema that C holds: opened of several texts, asked, and closed.
 
-ghost use Rattle.std.specs.Prelude.{◌≡◌, ◌≢◌, [], None, IfSome, IsUtf8, ◌⊎◌};
+ghost use Rattle.std.specs.Prelude.{◌≡◌, ◌≢◌, None, IfSome, IsUtf8, ◌⊎◌};
 ghost use Rattle.graphql_checked_c.specs.Told.{HoldsSchemaOf, IsReportOfTexts, AreCertainTexts, HasNotUtf8, IsNoCut, IsYesOver, IsReportOver, IsCertainOver, IsSchemaText, IsDocumentText, IsNoPrefix, layout_of, KeepsOrNot, IsStatus, IsDoneOrMemory, HasStack, IsToldIn, IsUntold};
 
 use crate::answer::{ACCEPTED, MEMORY, PREFIX, STACK};
