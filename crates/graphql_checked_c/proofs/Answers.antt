@@ -22,10 +22,11 @@ use Rattle.graphql_checked.specs.declared.verdict.Verdict.TheVariants.{Accepted,
 use Rattle.graphql_checked.specs.declared.verdict.CheckError.{CheckError}
 use Rattle.graphql_checked.specs.declared.verdict.CheckError.TheVariants as error
 use Rattle.graphql_checked.proofs.Verdicts.{yes_pair, refused_pair, certain_document, schemas_not_failed, document_not_failed}
+use Rattle.graphql_checked_c.specs.declared.handle.Kept.{Kept}
 use Rattle.caller_memory.specs.Cut.{IsCut}
 use Rattle.caller_memory.specs.Room.{IsPut}
 use Rattle.caller_memory.proofs.Cuts.{one_cut}
-use Rattle.graphql_checked_c.specs.Told.{IsToldIn, IsUntold, IsYesOfPair, IsCertainPair, OneIsNotUtf8, HasNotUtf8, IsNoCut, IsYesOver, IsDocumentText, TellsRefusal, AnswersPair, AnswersTexts, AnswersOver, report_of}
+use Rattle.graphql_checked_c.specs.Told.{IsToldIn, IsUntold, IsYesOfPair, IsCertainPair, OneIsNotUtf8, HasNotUtf8, IsNoCut, IsStatus, IsYesOver, IsReportOver, IsSchemaText, IsDocumentText, TellsRefusal, AnswersPair, AnswersTexts, AnswersOver, report_of}
 
 -- ---- statuses
 
@@ -241,3 +242,52 @@ over_written layout schema document d status bytes over of checked (inl (is, wri
     over_done (IsDocumentText layout schema document) schema document status bytes
     (yes_over schema document (document_value d).document checked, subst (λ (s : CheckedSchemaParts). WritesDocument layout s.number document bytes) over (subst (λ (t : SourceText). WritesDocument layout d.schema.number t bytes) of writes)) is
 over_written layout schema document d status bytes over of checked (inr (is, none)) = over_memory (IsDocumentText layout schema document) schema document status bytes is none
+
+-- ---- what a call puts into the room
+
+-- a status that is neither 0 nor 1
+far : (status : ℕ) → (status ≡ 3) ⊎ (status ≡ 4) ⊎ (status ≡ 5) ⊎ (status ≡ 7) ⊎ (status ≡ 8) → status ≢ 0
+far status (inl e) z = omega (arith, e, z)
+far status (inr (inl e)) z = omega (arith, e, z)
+far status (inr (inr (inl e))) z = omega (arith, e, z)
+far status (inr (inr (inr (inl e)))) z = omega (arith, e, z)
+far status (inr (inr (inr (inr e)))) z = omega (arith, e, z)
+
+module _ (items bytes old new : List ℕ) (needed : ℕ) (same : bytes ≡ items) (put : IsPut bytes old new needed) where
+  -- of a document that is checked
+  pub check_untold : (X : Type 0) (schema : CheckedSchemaParts) (document : SourceText) (status : ℕ) → AnswersOver (λ b. X × (b ≡ [])) schema document status items → status ≢ 1
+      → IsUntold old new needed
+  check_untold X schema document status answers not = put_nothing bytes old new needed (same ∙ nothing answers.known) put
+    where
+      nothing : IsStatus status → items ≡ []
+      nothing (inl is) = (answers.done is).1
+      nothing (inr (inl is)) = absurd (not is)
+      nothing (inr (inr others)) = answers.untold (far status others) not
+
+  -- of the text of a schema
+  pub schema_told : (l m : Layout) (value : Option Kept) (k : Kept) (status : ℕ) → l ≡ m → value ≡ Some k
+      → ((status ≡ 0) × IsSchemaText l k.schema items) ⊎ ((status ≡ 4) × (items ≡ [])) → status ≡ 0 → IfSome value (λ k. IsToldIn old new needed (IsSchemaText m k.schema))
+  schema_told l m value k status layout is (inl (done, written)) zero = some_is value k (λ k. IsToldIn old new needed (IsSchemaText m k.schema)) is
+      (put_told (IsSchemaText m k.schema) items bytes old new needed (subst (λ l. IsSchemaText l k.schema items) layout written) same put)
+  schema_told l m value k status layout is (inr (four, none)) zero = absurd (omega (arith, four, zero))
+
+  pub schema_untold : (X : Type 0) (status : ℕ) → ((status ≡ 0) × X) ⊎ ((status ≡ 4) × (items ≡ [])) → status ≢ 0 → IsUntold old new needed
+  schema_untold X status (inl (done, written)) not = absurd (not done)
+  schema_untold X status (inr (four, none)) not = put_nothing bytes old new needed (same ∙ none) put
+
+  -- of the text of a document
+  pub document_told : (l m : Layout) (value : Option Kept) (k : Kept) (document : SourceText) (status : ℕ) → l ≡ m → value ≡ Some k
+      → AnswersOver (IsDocumentText l k.schema document) k.schema document status items → status ≡ 0 → IfSome value (λ k. IsToldIn old new needed (IsDocumentText m k.schema document))
+  document_told l m value k document status layout is answers zero = some_is value k (λ k. IsToldIn old new needed (IsDocumentText m k.schema document)) is
+      (put_told (IsDocumentText m k.schema document) items bytes old new needed (subst (λ l. IsDocumentText l k.schema document items) layout (answers.done zero)) same put)
+
+  -- a report on a document
+  pub report_told : (told : List ℕ → Type 0) (value : Option Kept) (k : Kept) (document : SourceText) (status : ℕ) → value ≡ Some k
+      → AnswersOver told k.schema document status items → status ≡ 1 → IfSome value (λ k. IsToldIn old new needed (IsReportOver k.schema document))
+  report_told told value k document status is answers one = some_is value k (λ k. IsToldIn old new needed (IsReportOver k.schema document)) is
+      (put_told (IsReportOver k.schema document) items bytes old new needed (answers.report one) same put)
+
+-- the status of a text of a schema
+pub schema_status : (X Y : Type 0) (status : ℕ) → ((status ≡ 0) × X) ⊎ ((status ≡ 4) × Y) → ((status ≡ 0) ⊎ (status ≡ 4)) ⊎ (status ≡ 8)
+schema_status X Y status (inl h) = inl (inl h.0)
+schema_status X Y status (inr h) = inl (inr h.0)

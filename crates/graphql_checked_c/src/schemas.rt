@@ -78,7 +78,7 @@ fn kept(alloc: Global, handle: &mut Handle, schema: CheckedSchema) -> u32
 /// The status is 0 where the document is accepted; 1 where it is refused, and then the report is told as `graphql_proved_report`
 /// does; 3 where it is not UTF-8; 4 where memory ran out.
 #[unsafe(no_mangle)]
-#[tactic(auto, using(crate::proofs::Answers::put_nothing, crate::proofs::Answers::put_told, crate::proofs::Answers::some_is))]
+#[tactic(auto, using(crate::proofs::Answers::check_untold, crate::proofs::Answers::report_told, crate::proofs::Answers::some_is))]
 pub extern "C" fn graphql_proved_schema_check(
     alloc: Global,
     handle: &mut Handle,
@@ -107,7 +107,7 @@ pub extern "C" fn graphql_proved_schema_check(
 /// The status is 0 where the text is told as `graphql_proved_report` tells a report; 4 where memory ran out; 8 where the prefix is
 /// not of spaces and tabs.
 #[unsafe(no_mangle)]
-#[tactic(auto, using(crate::proofs::Answers::put_nothing, crate::proofs::Answers::put_told, crate::proofs::Answers::some_is))]
+#[tactic(auto, using(crate::proofs::Answers::schema_told, crate::proofs::Answers::schema_untold, crate::proofs::Answers::schema_status))]
 pub extern "C" fn graphql_proved_schema_text(
     alloc: Global,
     handle: &mut Handle,
@@ -139,7 +139,7 @@ pub extern "C" fn graphql_proved_schema_text(
 /// The status is 0 where the text is told; 1, 3 and 4 as of `graphql_proved_schema_check`; 8 where the prefix is not of spaces
 /// and tabs.
 #[unsafe(no_mangle)]
-#[tactic(auto, using(crate::proofs::Answers::put_nothing, crate::proofs::Answers::put_told, crate::proofs::Answers::some_is))]
+#[tactic(auto, using(crate::proofs::Answers::put_nothing, crate::proofs::Answers::document_told, crate::proofs::Answers::report_told))]
 pub extern "C" fn graphql_proved_document_text(
     alloc: Global,
     handle: &mut Handle,
