@@ -1,0 +1,2 @@
+pub mod ToldPlaces
+pub mod Reports

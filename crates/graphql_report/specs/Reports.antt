@@ -1,0 +1,42 @@
+-- What a report tells.
+use Rattle.std.specs.Prelude.{◌≡◌, ℕ, List, [], ◌∷◌, map, IsSomeAnd, ⊤, slice_get, string_bytes}
+use Rattle.graphql_names.specs.Placed.{Place}
+use Rattle.graphql_faults.specs.DetailsTree.{DetailsTree, DetailsAt}
+use Rattle.graphql_faults.specs.DetailsNames.{details_name}
+use Rattle.graphql_faults.specs.DetailsMessages.{details_message}
+use Rattle.report_forms.specs.Noted.{others, AreRelated}
+use Rattle.report_forms.specs.Order.{IsOrder}
+use Rattle.report_forms.specs.Places.{IsLocated}
+use Rattle.report_forms.specs.declared.entry.Entry.{Entry}
+use Rattle.report_forms.specs.declared.entry.Related.{Related}
+use Rattle.report_forms.specs.declared.noted.Noted.{Noted}
+use Rattle.report_forms.specs.declared.order.Rank.{Rank}
+use Rattle.report_forms.specs.declared.source.Source.{Source}
+use Rattle.graphql_report.specs.ToldPlaces.{plain, places_of}
+
+-- these are the places that the data of a fault have beside its own, in order, with their words
+pub record HasPlaces (sources : List Source) (own : Place) (details : DetailsTree Place (List Place)) (related : List Related) : Type 0 where
+  pub noted : List Noted
+  pub from_data : map plain noted ≡ places_of details
+  pub each : AreRelated sources (others own noted) related
+
+-- the entry is under the name of the fault's text, at its place, with the name of its rule, its message, and the other places that its
+-- data have
+pub record Tells (sources : List Source) (name : List ℕ) (fault : DetailsAt Place (List Place)) (e : Entry) : Type 0 where
+  pub place : IsLocated sources name fault.place e
+  pub rule : e.rule.now ≡ details_name fault.details
+  pub message : string_bytes e.message ≡ details_message fault.details
+  pub related : HasPlaces sources fault.place fault.details e.related.items
+
+-- the entries tell the faults that have these ranks, one after another
+abbrev pub AreTold : List Source → List ℕ → List (DetailsAt Place (List Place)) → List Rank → List Entry → Type 0
+AreTold sources name faults [] [] = ⊤
+AreTold sources name faults [] (e ∷ es) = ⊥
+AreTold sources name faults (r ∷ rs) [] = ⊥
+AreTold sources name faults (r ∷ rs) (e ∷ es) = IsSomeAnd (slice_get faults r.told) (λ fault. Tells sources name fault e) × AreTold sources name faults rs es
+
+-- the entries tell the faults, each once, in the order of texts and places
+pub record IsReport (sources : List Source) (name : List ℕ) (faults : List (DetailsAt Place (List Place))) (entries : List Entry) : Type 0 where
+  pub ranks : List Rank
+  pub order : IsOrder (map (λ (f : DetailsAt Place (List Place)). f.place) faults) ranks
+  pub told : AreTold sources name faults ranks entries

@@ -1,0 +1,48 @@
+//! An entry of a fault.
+
+ghost use Rattle.std.specs.Prelude.{IfOk};
+ghost use Rattle.graphql_faults.specs.DetailsView.{details_of, details_at};
+ghost use Rattle.graphql_report.specs.Reports.{Tells, HasPlaces};
+
+use crate::fields::fields_of;
+use crate::hints::hint_of;
+use crate::told_places::places_of;
+use graphql_faults::Details;
+use graphql_names::SourceSpan;
+use graphql_schema::Schema;
+use report_forms::{Entry, Related, Source, related};
+use std::alloc::{AllocError, Global};
+
+/// The entry of the fault that is told at that place. `path` is the name of the text where it has no place.
+pub(crate) fn entry_of(
+    alloc: Global,
+    sources: &[Source<'_>],
+    schema: Option<&Schema>,
+    path: &str,
+    place: Option<SourceSpan>,
+    details: &Details,
+) -> Result<Entry, AllocError>
+    ensures { IfOk result (Tells sources.now path.now (details_at (place, details.now))) }
+{
+    let message = details.to_string(alloc)?;
+    let rule = details.name();
+    let mut entry = Entry::at(alloc, sources, path, place, rule, message)?;
+    entry.related = related_of(alloc, sources, place, details)?;
+    entry.hint = hint_of(alloc, sources, schema, place, details)?;
+    entry.fields = fields_of(alloc, details)?;
+    Ok(entry)
+}
+
+/// The places that belong to the fault, without its own.
+fn related_of(
+    alloc: Global,
+    sources: &[Source<'_>],
+    own: Option<SourceSpan>,
+    details: &Details,
+) -> Result<Vec<Related>, AllocError>
+    ensures { IfOk result (λ related. HasPlaces sources.now own (details_of details.now) related.items) }
+{
+    let noted = places_of(alloc, details)?;
+    let related = related(alloc, sources, own, &noted)?;
+    Ok(related)
+}

@@ -1,0 +1,11 @@
+-- One more character of an escaped text.
+use Rattle.std.proofs.Common.{◌≡◌, ℕ, List, [], ◌∷◌, ◌++◌, sym, ◌∙◌, ap, flat_map, append-nil}
+use Rattle.std.proofs.lemmas.List.Concat.{flat_map-append}
+use Rattle.std.proofs.lemmas.Str.{encodes-append}
+use Rattle.std.specs.Str.{encode_utf8_all}
+
+pub mapped_more : (f : ℕ → List ℕ) (out old ys : List ℕ) (c : ℕ) → out ≡ old ++ encode_utf8_all (f c) → old ≡ encode_utf8_all (flat_map f ys)
+    → out ≡ encode_utf8_all (flat_map f (ys ++ c ∷ []))
+mapped_more f out old ys c e h =
+    e ∙ ap (λ l. l ++ encode_utf8_all (f c)) h ∙ sym (encodes-append (flat_map f ys) (f c))
+    ∙ ap encode_utf8_all (sym (flat_map-append f ys (c ∷ []) ∙ ap (λ l. flat_map f ys ++ l) (append-nil (f c))))

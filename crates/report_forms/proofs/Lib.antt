@@ -1,0 +1,5 @@
+pub mod Clean
+pub mod OneLine
+pub mod EscapedTexts
+pub mod Orders
+pub mod RelatedPlaces

@@ -1,0 +1,60 @@
+-- The forms of a fault.
+use Rattle.std.specs.Prelude.{◌≡◌, ℕ, Bool, true, nat_le, List, [], ◌∷◌, ◌++◌, false, codes, decimal, length, max, replicate, Option, Some, None, option_map, string_bytes, chars}
+use Rattle.std.specs.List.{list_all}
+use Rattle.report_forms.specs.Escapes.{escaped_text}
+use Rattle.report_lines.specs.declared.position.Position.{Position}
+use Rattle.report_lines.specs.Shown.{shown_text}
+use Rattle.unicode_width.specs.Width.{str_width}
+use Rattle.report_forms.specs.declared.entry.Place.{Place}
+use Rattle.report_forms.specs.declared.entry.Excerpt.{Excerpt}
+use Rattle.report_forms.specs.declared.entry.Entry.{Entry}
+
+-- where a fault begins
+abbrev pub start_of : Entry → Option Position
+start_of e = option_map (λ (p : Place). p.start) e.place
+
+-- a line and a column, each behind a colon
+abbrev pub position_text : Option Position → List ℕ
+position_text None = []
+position_text (Some p) = codes ":" ++ decimal p.line ++ codes ":" ++ decimal p.column
+
+-- a fault in a line, as its parts are
+abbrev pub heading : Entry → List ℕ
+heading e = string_bytes e.path ++ position_text (start_of e) ++ codes ": error[" ++ e.rule.now ++ codes "]: " ++ string_bytes e.message
+
+-- the columns that a text takes as it is shown
+abbrev pub width_of : List ℕ → ℕ
+width_of text = str_width false (chars (shown_text text))
+
+-- a line behind its number, and under it a mark for each column of the place, one at the least
+abbrev pub numbered_line : ℕ → Excerpt → List ℕ
+numbered_line number e = decimal number ++ codes " | " ++ string_bytes e.before ++ string_bytes e.marked ++ string_bytes e.after
+
+abbrev pub marks : ℕ → Excerpt → List ℕ
+marks number e = replicate (length (decimal number)) 32 ++ codes " | " ++ replicate (width_of (string_bytes e.before)) 32 ++ replicate (max (width_of (string_bytes e.marked)) 1) 94
+
+abbrev pub excerpt_text : ℕ → Excerpt → List ℕ
+excerpt_text number e = shown_text (numbered_line number e) ++ 10 ∷ [] ++ shown_text (marks number e) ++ 10 ∷ []
+
+-- the properties of a place in a workflow command
+abbrev pub properties : Option Place → List ℕ
+properties None = []
+properties (Some p) =
+    codes ",line=" ++ decimal p.start.line ++ codes ",endLine=" ++ decimal p.end.line
+    ++ codes ",col=" ++ decimal p.start.column ++ codes ",endColumn=" ++ decimal p.end.column
+
+-- a fault as a workflow command
+abbrev pub command : Entry → List ℕ
+command e =
+    codes "::error file=" ++ escaped_text true (string_bytes e.path) ++ properties e.place ++ codes ",title=" ++ escaped_text true e.rule.now
+    ++ codes "::" ++ escaped_text false (string_bytes e.message)
+
+-- bytes in one line: none is a control character of ASCII but DELETE
+abbrev pub one_line : List ℕ → Bool
+one_line bytes = list_all (λ byte. nat_le 32 byte) bytes
+
+-- a line, and a line feed behind it
+pub record IsOneLine (text : List ℕ) : Type 0 where
+  pub line : List ℕ
+  pub feed : text ≡ line ++ 10 ∷ []
+  pub plain : one_line line ≡ true

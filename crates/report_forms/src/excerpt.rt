@@ -1,0 +1,73 @@
+//! The line of a fault.
+
+use crate::entry::Excerpt;
+use crate::source::{Source, source_at};
+use graphql_names::SourceSpan;
+use std::alloc::{AllocError, Global};
+
+/// How many characters of a line are taken before a place, in it and after it.
+const MOST: usize = 80;
+
+/// The line in which the place begins, as far as it is near the place. None where it is in no text of these.
+pub fn excerpt_at(
+    alloc: Global,
+    sources: &[Source<'_>],
+    place: Option<SourceSpan>,
+) -> Result<Option<Excerpt>, AllocError> {
+    let Some(span) = place else {
+        return Ok(None);
+    };
+    match source_at(sources, span) {
+        None => Ok(None),
+        Some(source) => Ok(Some(excerpt(alloc, source.lines.text(), span)?)),
+    }
+}
+
+/// The same of a place in this text.
+fn excerpt(alloc: Global, text: &str, span: SourceSpan) -> Result<Excerpt, AllocError> {
+    let (head, rest) = split_at(text, span.offset);
+    let (inside, behind) = split_at(rest, span.length);
+    let marked = first_of_line(inside);
+    let after = if marked.len() == inside.len() {
+        first_of_line(behind)
+    } else {
+        ""
+    };
+    Ok(Excerpt {
+        before: String::from_str(alloc, last_of_line(head))?,
+        marked: String::from_str(alloc, marked)?,
+        after: String::from_str(alloc, after)?,
+    })
+}
+
+/// The text before and after so many bytes; all before, where it can't be cut there.
+fn split_at(text: &str, bytes: usize) -> (&str, &str) {
+    match (text.get(..bytes), text.get(bytes..)) {
+        (Some(head), Some(rest)) => (head, rest),
+        _ => (text, ""),
+    }
+}
+
+/// The characters at the beginning, up to the end of a line and not too many.
+fn first_of_line(text: &str) -> &str {
+    let mut bytes = 0usize;
+    for character in text.chars().take(MOST) {
+        if character == '\n' || character == '\r' {
+            break;
+        }
+        bytes = bytes.saturating_add(character.len_utf8());
+    }
+    text.get(..bytes).unwrap_or("")
+}
+
+/// The characters at the end, from the beginning of a line on and not too many.
+fn last_of_line(text: &str) -> &str {
+    let mut bytes = 0usize;
+    for character in text.chars().rev().take(MOST) {
+        if character == '\n' || character == '\r' {
+            break;
+        }
+        bytes = bytes.saturating_add(character.len_utf8());
+    }
+    text.get(text.len().saturating_sub(bytes)..).unwrap_or("")
+}

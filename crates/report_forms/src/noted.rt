@@ -1,0 +1,82 @@
+//! Places that belong to a fault.
+
+ghost use Rattle.std.specs.Prelude.{◌≡◌, IfOk, OnOk};
+ghost use Rattle.report_forms.specs.Noted.{is_other, others, AreRelated, AddsOther, IsRelated};
+
+use crate::entry::Related;
+use crate::source::{Source, path_of, place_at};
+use graphql_names::SourceSpan;
+use std::alloc::{AllocError, Global};
+
+/// A place that belongs to a fault, if there is one, and what stands there.
+#[derive(Clone, Copy)]
+pub struct Noted {
+    pub place: Option<SourceSpan>,
+    pub words: &'static str,
+}
+
+/// The places that belong to a fault in lines and columns, without its own and without those that are none.
+#[tactic(auto, using(crate::proofs::RelatedPlaces::related_more))]
+pub fn related(
+    alloc: Global,
+    sources: &[Source<'_>],
+    own: Option<SourceSpan>,
+    noted: &[Noted],
+) -> Result<Vec<Related>, AllocError>
+    ensures { IfOk result (λ related. AreRelated sources.now (others own noted.now) related.items) }
+{
+    let mut all = Vec::new(alloc);
+    for one in noted {
+        push_related(alloc, &mut all, sources, own, *one)?;
+    }
+    Ok(all)
+}
+
+/// Adds the place, if there is one that is not the fault's own.
+#[tactic(auto, using(crate::proofs::RelatedPlaces::adds_one, crate::proofs::RelatedPlaces::adds_none))]
+fn push_related(
+    alloc: Global,
+    all: &mut Vec<Related>,
+    sources: &[Source<'_>],
+    own: Option<SourceSpan>,
+    noted: Noted,
+) -> Result<(), AllocError>
+    ensures { OnOk result (AddsOther sources.now own noted all.old.items all.new.items) }
+{
+    if !is_other(own, noted.place) {
+        return Ok(());
+    }
+    let related = related_at(alloc, sources, noted)?;
+    all.push(related)?;
+    Ok(())
+}
+
+/// Whether there is a place, which is not the fault's own.
+fn is_other(own: Option<SourceSpan>, place: Option<SourceSpan>) -> bool
+    ensures { result ≡ is_other own place }
+{
+    match (own, place) {
+        (_, None) => false,
+        (None, Some(_)) => true,
+        (Some(own), Some(span)) => span != own,
+    }
+}
+
+/// The place in lines and columns.
+fn related_at(alloc: Global, sources: &[Source<'_>], noted: Noted) -> Result<Related, AllocError>
+    ensures { IfOk result (λ related. IsRelated sources.now noted related) }
+{
+    let path = match noted.place {
+        None => String::new(alloc),
+        Some(span) => {
+            let path = path_of(sources, span);
+            String::from_str(alloc, path)?
+        }
+    };
+    let words = String::from_str(alloc, noted.words)?;
+    let start = match place_at(sources, noted.place) {
+        None => None,
+        Some(place) => Some(place.start),
+    };
+    Ok(Related { path, start, words })
+}

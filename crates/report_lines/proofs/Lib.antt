@@ -1,0 +1,4 @@
+pub mod Counting
+pub mod LineStarts
+pub mod PlacesBack
+pub mod ShownTexts

@@ -1,0 +1,5 @@
+pub mod Ends
+pub mod Positions
+pub mod LineTexts
+pub mod Starts
+pub mod Shown
