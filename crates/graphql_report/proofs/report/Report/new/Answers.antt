@@ -11,7 +11,7 @@ pub returns : goal.returns
 returns c =
     let told : List (Place × Details) = c.as_slice-told.result.now in
     all_reported c.args.sources.now c.args.path.now (diagnostics_of c.args.faults.now) told c.deref-rank-items.result.now c.loop-rank.rank-index c.loop-rank.entries.items
-        (ap (map details_at) c.as_slice-told.ensures.value ∙ c.iter.ensures)
-        (subst (λ (l : List Rank). IsOrder (map (λ (t : Place × Details). t.0) told) l) (sym c.deref-rank-items.ensures.value) c.in_ok-ranks.ensures)
-        (take_all c.loop-rank.rank-index c.deref-rank-items.result.now c.loop-rank-test.false)
-        c.loop-rank.invariant
+    (ap (map details_at) c.as_slice-told.ensures.value ∙ c.iter.ensures)
+    (subst (λ (l : List Rank). IsOrder (map (λ (t : Place × Details). t.0) told) l) (sym c.deref-rank-items.ensures.value) c.in_ok-ranks.ensures)
+    (take_all c.loop-rank.rank-index c.deref-rank-items.result.now c.loop-rank-test.false)
+    c.loop-rank.invariant
