@@ -237,7 +237,7 @@ def reach(library, clauses):
 
 def areas():
     """The crates of each area of docs/MAP.md, in its order."""
-    text = sources.read("docs/MAP.md").split("\n## The areas, in one picture\n")[1].split("\n## ")[0]
+    text = sources.read("docs/MAP.md").split("\n## The areas\n")[1].split("\n## ")[0]
     known = sources.crates()
     rows = [line.strip("|").split("|", 1) for line in text.split("\n") if line.startswith("| ")]
     return [(area.strip(), [name for name in re.findall(r"`(\w+)`", rest) if name in known]) for area, rest in rows]

@@ -8,13 +8,14 @@ begins with ```console.
 
 --check runs them all and prints each line that differs; its status is then 1. It also compares the places that these pages
 name, as in `examples/refused/unknown_field.graphql:4:5`: each must be that of a fault which one of the runs prints. Runs need
-the program that `./graphql-checked` keeps; where none is built from these sources, it says so, runs nothing, and its status is
-0. --write puts what is printed into examples/*/runs.txt, which must then be read: an expected line comes from the
+the programs that `./graphql-checked` and `./graphql-report` keep; where one is not built from these sources, it says so and leaves
+out its runs. Lines of `--format json` and `--batch` are read back as JSON. --write puts what is printed into examples/*/runs.txt, which must then be read: an expected line comes from the
 specification, not from the program.
 """
 import concurrent.futures
 import difflib
 import glob
+import json
 import os
 import re
 import shlex
@@ -23,6 +24,7 @@ import sys
 
 TOP = os.path.dirname(os.path.dirname(os.path.abspath(__file__)))
 PAGES = ["README.md", "GUIDE.md", "CONTRIBUTING.md"]
+PROGRAMS = ["graphql-checked", "graphql-report"]
 ENVIRONMENT = dict(os.environ, GRAPHQL_CHECKED_BUILD="never", LC_ALL="C.UTF-8")
 
 
@@ -86,11 +88,13 @@ def all_runs():
 
 
 def places(run, lines):
-    """The places of the faults that a run prints: file, line and column, counted from 1, columns in bytes."""
+    """The places of the faults that a run prints: file, line and column, counted from 1, columns in bytes where only an offset
+    is printed."""
     words = shlex.split(run.command.split("|")[0].split(";")[0])
     texts = [word for word in words if word.endswith(".graphql")]
     texts = texts[1:] + texts[:1]
     for line in lines:
+        yield from re.findall(r"^(examples/[\w/.-]+:\d+:\d+): ", line)
         place = re.match(r"(\d+):(\d+): ", line)
         if place and 1 <= int(place.group(1)) <= len(texts):
             path, offset = texts[int(place.group(1)) - 1], int(place.group(2))
@@ -99,9 +103,24 @@ def places(run, lines):
             yield f"{path}:{line}:{column}"
 
 
-def is_built():
-    """Whether a program is built from these sources."""
-    return subprocess.run(["./graphql-checked", "--help"], cwd=TOP, env=ENVIRONMENT, stdin=subprocess.DEVNULL, capture_output=True).returncode == 0
+def is_built(program):
+    """Whether the program is built from these sources."""
+    return subprocess.run([f"./{program}", "--help"], cwd=TOP, env=ENVIRONMENT, stdin=subprocess.DEVNULL, capture_output=True).returncode == 0
+
+
+def is_json(line):
+    """Whether the line is JSON."""
+    try:
+        json.loads(line)
+        return True
+    except ValueError:
+        return False
+
+
+def unread(run, lines):
+    """The lines of a run that are to be JSON, and are not."""
+    wanted = re.search(r"--format json|--batch", run.command)
+    return [line for line in lines if wanted and line.startswith("{") and not is_json(line)]
 
 
 def rewritten(path):
@@ -113,25 +132,31 @@ def rewritten(path):
 
 
 def main(words):
-    if not is_built():
-        print("examples: no program is built from these sources, so nothing was run; ./graphql-checked builds one")
-        return 0
+    missing = [program for program in PROGRAMS if not is_built(program)]
+    for program in missing:
+        print(f"examples: {program} is not built from these sources, so its runs are left out; ./{program} builds it")
+    if missing and "--write" in words:
+        return 1
     if "--write" in words:
         for path in example_files():
             text = rewritten(path)
             with open(os.path.join(TOP, path), "w", encoding="utf-8") as file:
                 file.write(text)
         return 0
-    wrong, known, runs = 0, set(), all_runs()
+    wrong, known = 0, set()
+    runs = [run for run in all_runs() if not any(program in run.command for program in missing)]
     with concurrent.futures.ThreadPoolExecutor(4) as pool:
         printed = list(pool.map(Run.lines, runs))
     for run, found in zip(runs, printed):
         known |= set(places(run, found))
+        for line in unread(run, found):
+            wrong += 1
+            print(f"{run.path}:{run.line}: prints what is not JSON: {line}")
         if found != run.wanted:
             wrong += 1
             print(f"{run.path}:{run.line}: $ {run.command}")
             print("\n".join(line for line in difflib.unified_diff(run.wanted, found, "wanted", "printed", lineterm="", n=1)))
-    for path in pages():
+    for path in [] if missing else pages():
         for place in sorted(set(re.findall(r"\b(examples/[\w/.-]+:\d+:\d+)", read(path)))):
             if place not in known:
                 wrong += 1

@@ -2,8 +2,8 @@
 """Whether the pages say what is there: scripts/pages.py [--check] [--clauses]
 
 --check prints what is wrong, a line each, and its status is then 1: README.md has more than 150 lines or 900 words, or all pages
-(*.md at the top and in docs/) have more than 25,000 words; a page, or a doc comment (`///`, `//!`) of a crate's src/, has a word
-that the last table of CONTRIBUTING.md refuses; a relative link of a page leads to no file; a name that reads as a crate of the
+(*.md at the top and in docs/) have more than 25,000 words; a page, a page of a crate (crates/**/*.md), or a doc comment (`///`,
+`//!`) of a crate's src/ has a word that the last table of CONTRIBUTING.md refuses; a relative link of a page leads to no file; a name that reads as a crate of the
 repository is not in crates.txt; one in backticks that reads as a file (`name.rt`, `Name.antt`, `name.rows`, `name.edit`,
 `name.py`) is the name of no file; a table of docs/PROMISES.md names a function, a clause or a definition that is not there;
 docs/PROMISES.md or docs/MAP.md says nothing of a crate of crates.txt; a line of a block after `<!-- from PATH -->` is not in that
@@ -177,7 +177,9 @@ def doc_comments(text):
 
 
 def badly_commented(refused):
-    """The words of doc comments that are refused, in the sources of all crates (crates/*/src)."""
+    """The words that are refused, in the pages of crates and in the doc comments of their sources (crates/*/src)."""
+    for path in sources.paths("crates/*/*.md") + sources.paths("crates/*/*/*.md"):
+        yield from badly_worded(path, sources.read(path), refused)
     for path in sources.paths("crates/*/src/*.rt"):
         yield from badly_worded(path, "\n".join(doc_comments(sources.read(path))), refused)
 

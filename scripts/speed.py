@@ -1,17 +1,22 @@
 #!/usr/bin/env python3
-"""What checking and writing a pair costs: speed.py PROGRAM [WORD]
+"""What checking and writing a pair costs: speed.py PROGRAM [WORD]; and a batch: speed.py --batch REPORT
 
 PROGRAM is the built program of `graphql_checked_program` (`rt run` there leaves it in `out/`). Schemas and documents of several
 sizes are written to a folder that is removed again, and PROGRAM answers each pair. A line tells the bytes of both texts, the
 instructions that callgrind counts and the most memory that the program held, each less that of the smallest pair, and both by
-the byte. With WORD only cases whose names have it are run. It needs valgrind, and `time` as GNU has it."""
+the byte. With WORD only cases whose names have it are run. It needs valgrind, and `time` as GNU has it.
 
+REPORT is the built program of `graphql_report_program`. It answers batches of 1,000, 10,000 and 100,000 small documents, of which
+each tenth is refused, over a schema of 780 types described at length. A line tells the seconds, and the most memory held."""
+
+import json
 import os
 import re
 import resource
 import subprocess
 import sys
 import tempfile
+import time
 
 # Six definitions, one of each kind, as # of a schema: an object that implements an interface, with arguments and directives,
 # a union, an enum, an input object and a scalar. ~ is the number of the next six.
@@ -310,8 +315,40 @@ def cost(program, folder, texts):
     return int(found[1]), int(held.stderr.split()[-1]), counted.stdout.split("\n")[0]
 
 
+def line(number):
+    """A line of a batch."""
+    field = "statr" if number % 10 == 0 else "state"
+    return json.dumps({"id": number, "document": SMALL_DESCRIBED.replace("state", field).replace("3", str(number))}) + "\n"
+
+
+def batch(program, folder, count):
+    """The seconds and the kilobytes that the program takes for a batch of so many lines."""
+    with open(os.path.join(folder, "schema"), "w", encoding="utf-8") as file:
+        file.write(described(780))
+    with open(os.path.join(folder, "lines"), "w", encoding="utf-8") as file:
+        file.writelines(line(number) for number in range(1, count + 1))
+    words = ["/usr/bin/time", "-f", "%M", program, "--batch", "--schema", "schema"]
+    begun = time.monotonic()
+    with open(os.path.join(folder, "lines"), "rb") as lines:
+        done = subprocess.run(words, cwd=folder, stdin=lines, capture_output=True, text=True, check=False)
+    seconds = time.monotonic() - begun
+    if done.stdout.count("\n") != count:
+        sys.exit(f"speed.py: not a line for each: {done.stderr[-300:]}")
+    return seconds, int(done.stderr.split()[-1])
+
+
+def batches(program):
+    """Prints a line for each batch."""
+    with tempfile.TemporaryDirectory() as folder:
+        for count in (1000, 10000, 100000):
+            seconds, memory = batch(program, folder, count)
+            print(f"{count:,} lines: {seconds:.1f} s, {memory:,} KB", flush=True)
+
+
 def main():
     """Prints a line for each case."""
+    if sys.argv[1] == "--batch":
+        return batches(os.path.abspath(sys.argv[2]))
     program = os.path.abspath(sys.argv[1])
     word = sys.argv[2] if len(sys.argv) > 2 else ""
     resource.setrlimit(resource.RLIMIT_STACK, (resource.RLIM_INFINITY, resource.RLIM_INFINITY))

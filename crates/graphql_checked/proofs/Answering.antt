@@ -11,9 +11,9 @@ use Rattle.checker_answers.specs.declared.run_fault.Outcome.{Outcome}
 use Rattle.checker_answers.specs.declared.run_fault.Outcome.TheVariants.{Accepted}
 use Rattle.checker_answers.specs.declared.run_fault.RunFault.{RunFault}
 use Rattle.checker_schemas.specs.CheckedSchemaValue.{CheckedSchemaValue, IsCheckedSchemaOf}
-use Rattle.checker_documents.specs.CheckerValue.{IsCheckedDocumentOf}
+use Rattle.graphql_checked.specs.CheckerValue.{IsCheckedDocumentOf}
 use Rattle.checker_schemas.specs.Refusals.{RefusalOfSchemas}
-use Rattle.checker_documents.specs.DocumentRefusals.{RefusalOfDocument}
+use Rattle.graphql_checked.specs.DocumentRefusals.{RefusalOfDocument}
 use Rattle.graphql_checked.specs.Run.{BytesOf, IsAnswerTo, AcceptsOrFails, IsWrittenAnswer}
 use Rattle.checker_answers.specs.Refusals.{IsAnswerOfRefusal}
 use Rattle.checker_texts.specs.declared.refusal.Refusal.{Refusal}

@@ -1,3 +1,5 @@
+pub mod Checking
+pub mod Typing
 pub mod Verdicts
 pub mod Answering
 pub mod Completing

@@ -14,10 +14,10 @@ use Rattle.verdict_definitions.specs.Answer.{RefusesDocument, Refuses}
 use Rattle.book_validity.specs.Yes.{IsYes}
 use Rattle.book_laws.proofs.AcceptedFacts.{accepted_by_the_book}
 use Rattle.checker_schemas.specs.CheckedSchemaValue.{CheckedSchemaValue, IsCheckedSchemaOf}
-use Rattle.checker_documents.specs.CheckerValue.{CheckerValue, IsCheckedDocumentOf}
-use Rattle.checker_documents.specs.CheckerAnswers.{IsCheckerAddRefusal, IsFinishRefusal}
+use Rattle.graphql_checked.specs.CheckerValue.{CheckerValue, IsCheckedDocumentOf}
+use Rattle.graphql_checked.specs.CheckerAnswers.{IsCheckerAddRefusal, IsFinishRefusal}
 use Rattle.checker_schemas.specs.Refusals.{RefusalOfSchemas}
-use Rattle.checker_documents.specs.DocumentRefusals.{RefusalOfDocument}
+use Rattle.graphql_checked.specs.DocumentRefusals.{RefusalOfDocument}
 use Rattle.graphql_checked.specs.Verdicts.{IsVerdict}
 use Rattle.checker_answers.specs.Refusals.{refusal_verdict}
 use Rattle.checker_texts.specs.declared.refusal.Refusal.{Refusal}

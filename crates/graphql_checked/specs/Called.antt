@@ -7,7 +7,7 @@ use Rattle.checker_answers.specs.declared.run_fault.Outcome.{Outcome}
 use Rattle.checker_answers.specs.declared.run_fault.RunFault.{RunFault}
 use Rattle.graphql_checked.specs.Run.{WritesAnswer, RunFaultIsDue}
 use Rattle.graphql_checked.specs.Verdicts.{first_terms}
-use Rattle.checker_documents.specs.declared.checker.Limits.{Limits}
+use Rattle.graphql_checked.specs.declared.checker.Limits.{Limits}
 
 module _ {R D W : Type 0} (of_schema : R → Option (List ℕ)) (of_document : D → Option (List ℕ)) (contents : W → Option (List ℕ))
     (layout : Layout) (limits : Limits) where

@@ -3,18 +3,26 @@
 //!
 //! For the layer above: a yes is right, each fault is right, and what is written is the layout's bytes. The definitions
 //! are those of `verdict_definitions` (`Judge`, `Says`, `Answer`, `Out`); contracts of the calls say which of them
-//! holds (`specs/Verdicts.antt`, `specs/Run.antt` here, `specs/CheckerAnswers.antt` of `checker_documents`).
+//! holds (`specs/Verdicts.antt`, `specs/Run.antt`, `specs/CheckerAnswers.antt`). A checked schema is that of accepted
+//! texts (`IsCheckedSchemaOf`), and a checked document is accepted over its schema (`IsCheckedDocumentOf`): each keeps
+//! this as its invariant.
 //!
-//! A [`Checker`] takes schema texts and gives a [`CheckedSchema`], which checks documents (both of
-//! `checker_documents`). [`check_texts`] is the two in one call, and [`run`] the same over readers and a writer. Begin
-//! with `verdict.rt` and `run_texts.rt`.
+//! A [`Checker`] takes schema texts and gives a [`CheckedSchema`], which checks documents. [`check_texts`] is the two in
+//! one call, and [`run`] the same over readers and a writer. Begin with `checker.rt`, `checked_schema.rt` and
+//! `run_texts.rt`.
 #![tactic(auto)]
 
+mod build_errors;
+mod checked_document;
+mod checked_schema;
+mod checker;
 mod run_texts;
 mod verdict;
 
+pub use checked_document::CheckedDocument;
+pub use checked_schema::CheckedSchema;
+pub use checker::{Checker, Limits};
 pub use checker_answers::{CheckError, Outcome, RunFault, Verdict, exit_status};
-pub use checker_documents::{CheckedDocument, CheckedSchema, Checker, Limits};
 pub use checker_layouts::Layout;
 pub use checker_settings::Settings;
 pub use checker_texts::Refusal;

@@ -6,17 +6,19 @@ ghost use Rattle.graphql_names.specs.Device.{device_failed};
 ghost use Rattle.checker_answers.specs.Devices.{HaveNotFailed};
 ghost use Rattle.checker_layouts.specs.Layouts.{prefix_of};
 ghost use Rattle.verdict_definitions.specs.Judge.{IsCertain};
-ghost use Rattle.checker_documents.specs.CheckedView.{schema_value, document_value};
+ghost use Rattle.graphql_checked.specs.CheckedView.{schema_value, document_value};
 ghost use Rattle.checker_schemas.specs.CheckedSchemaValue.{IsCheckedSchemaOf};
 ghost use Rattle.graphql_checked.specs.Run.{TellCertain, AreAllRead, IsAnswerToCertain, IsAnswerTo, AcceptsOrFails, IsWrittenAnswer};
 ghost use Rattle.graphql_checked.specs.Called.{IsAnswered, Arises};
 ghost use Rattle.graphql_checked.specs.Verdicts.{first_terms};
 
+use crate::checked_document::CheckedDocument;
+use crate::checked_schema::CheckedSchema;
+use crate::checker::Limits;
 use crate::verdict::schema_of;
 use checker_answers::{
     Outcome, RunFault, accepted, numbered, put, read_text, read_texts, refusal_answer,
 };
-use checker_documents::{CheckedDocument, CheckedSchema, Limits};
 use checker_layouts::Layout;
 use graphql_names::Device;
 use std::alloc::{AllocError, Global};

@@ -2,7 +2,7 @@
 
 ghost use Rattle.std.specs.Prelude.{◌≡◌, ◌⊎◌, Ok, Err, map, IfOk, IfErr};
 ghost use Rattle.verdict_definitions.specs.Judge.{AreSchemasCertain, IsCertain};
-ghost use Rattle.checker_documents.specs.CheckedView.{schema_value};
+ghost use Rattle.graphql_checked.specs.CheckedView.{schema_value};
 ghost use Rattle.checker_schemas.specs.CheckedSchemaValue.{IsCheckedSchemaOf};
 ghost use Rattle.checker_schemas.specs.Refusals.{RefusalOfSchemas};
 ghost use Rattle.graphql_checked.specs.Verdicts.{first_terms, IsVerdict};
@@ -10,8 +10,9 @@ ghost use Rattle.checker_texts.specs.declared.refusal.Refusal.TheVariants as ref
 ghost use Rattle.checker_answers.specs.declared.verdict.Verdict.TheVariants.{Accepted};
 ghost use Rattle.checker_answers.specs.declared.verdict.CheckError.TheVariants.{Memory};
 
+use crate::checked_schema::CheckedSchema;
+use crate::checker::{Checker, Limits};
 use checker_answers::{CheckError, Verdict, verdict_of};
-use checker_documents::{CheckedSchema, Checker, Limits};
 use checker_texts::Refusal;
 use std::alloc::Global;
 use std::convert::AsStr;

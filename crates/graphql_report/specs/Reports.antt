@@ -1,5 +1,5 @@
 -- What a report tells.
-use Rattle.std.specs.Prelude.{◌≡◌, ℕ, List, [], ◌∷◌, map, IsSomeAnd, ⊤, slice_get, string_bytes}
+use Rattle.std.specs.Prelude.{◌≡◌, ℕ, List, [], ◌∷◌, ◌++◌, map, IsSomeAnd, ⊤, slice_get, string_bytes}
 use Rattle.graphql_names.specs.Placed.{Place}
 use Rattle.graphql_faults.specs.DetailsTree.{DetailsTree, DetailsAt}
 use Rattle.graphql_faults.specs.DetailsNames.{details_name}
@@ -12,13 +12,15 @@ use Rattle.report_forms.specs.declared.entry.Related.{Related}
 use Rattle.report_forms.specs.declared.noted.Noted.{Noted}
 use Rattle.report_forms.specs.declared.order.Rank.{Rank}
 use Rattle.report_forms.specs.declared.source.Source.{Source}
-use Rattle.graphql_report.specs.ToldPlaces.{plain, places_of}
+use Rattle.graphql_report.specs.ToldPlaces.{plain, places_of, AddsOperation}
 
--- these are the places that the data of a fault have beside its own, in order, with their words
+-- these are the places that the data of a fault have beside its own, in order, with their words, and then the operation that they name
 pub record HasPlaces (sources : List Source) (own : Place) (details : DetailsTree Place (List Place)) (related : List Related) : Type 0 where
   pub noted : List Noted
   pub from_data : map plain noted ≡ places_of details
-  pub each : AreRelated sources (others own noted) related
+  pub places : List Related
+  pub each : AreRelated sources (others own noted) places
+  pub operation : AddsOperation details places related
 
 -- the entry is under the name of the fault's text, at its place, with the name of its rule, its message, and the other places that its
 -- data have
@@ -40,3 +42,10 @@ pub record IsReport (sources : List Source) (name : List ℕ) (faults : List (De
   pub ranks : List Rank
   pub order : IsOrder (map (λ (f : DetailsAt Place (List Place)). f.place) faults) ranks
   pub told : AreTold sources name faults ranks entries
+
+-- the report of a document's faults: its text comes after those of the schema
+pub record IsDocumentReport (schemas : List Source) (path text : List ℕ) (faults : List (DetailsAt Place (List Place))) (entries : List Entry) : Type 0 where
+  pub document : Source
+  pub named : document.path.now ≡ path
+  pub text_is : document.lines.now ≡ text
+  pub report : IsReport (schemas ++ document ∷ []) path faults entries

@@ -1,11 +1,12 @@
 -- The places that the data of a fault have, each with words.
-use Rattle.std.specs.Prelude.{ℕ, List, [], ◌∷◌, codes, map, Option, None}
+use Rattle.std.specs.Prelude.{◌≡◌, ℕ, List, [], ◌∷◌, ◌++◌, codes, map, string_bytes, Option, None, Some}
 use Rattle.graphql_names.specs.Placed.{Placed, Place}
 use Rattle.fault_document_data.specs.DocumentBreaches as document
 use Rattle.fault_document_data.specs.DocumentBreaches.{DocumentBreach}
 use Rattle.fault_data.specs.in_rule_definitions.Diagnostics as rule
 use Rattle.fault_data.specs.in_rule_definitions.Diagnostics.{Diagnostic}
 use Rattle.graphql_faults.specs.DetailsTree.{DetailsTree, DocumentBuild, Data}
+use Rattle.report_forms.specs.declared.entry.Related.{Related}
 use Rattle.report_forms.specs.declared.noted.Noted.{Noted}
 
 -- a place, and what is there
@@ -76,6 +77,31 @@ abbrev pub more_of : DetailsTree Place (List Place) → List (Place × List ℕ)
 more_of (Data diagnostic) = more_of_data diagnostic
 more_of _ = []
 
--- all of them
+-- the name of the operation that a fault is in, where its data have it
+abbrev pub operation_in : DocumentBreach Place → Option (List ℕ)
+operation_in (document.SubscriptionUsesMultipleFields name fields) = name
+operation_in (document.SubscriptionUsesIntrospection name field) = name
+operation_in (document.SubscriptionUsesConditionalSelection name) = name
+operation_in _ = None
+
+abbrev pub operation_of : DetailsTree Place (List Place) → Option (List ℕ)
+operation_of (DocumentBuild breach) = operation_in breach
+operation_of _ = None
+
+abbrev pub operation_words : List ℕ → List ℕ
+operation_words name = codes "in operation `" ++ name ++ codes "`"
+
+-- the words for the operation, if there is one
+abbrev pub words_in : Option (List ℕ) → List (List ℕ)
+words_in None = []
+words_in (Some name) = operation_words name ∷ []
+
+-- the operation that the data name is added
+pub record AddsOperation (details : DetailsTree Place (List Place)) (old new : List Related) : Type 0 where
+  pub operation : List Related
+  pub named : map (λ (r : Related). string_bytes r.words) operation ≡ words_in (operation_of details)
+  pub adds : new ≡ old ++ operation
+
+-- all places
 abbrev pub places_of : DetailsTree Place (List Place) → List (Place × List ℕ)
 places_of details = first_of details ∷ more_of details

@@ -6,6 +6,7 @@ ghost use Rattle.graphql_report.specs.Reports.{Tells, HasPlaces};
 
 use crate::fields::fields_of;
 use crate::hints::hint_of;
+use crate::operations::push_operation;
 use crate::told_places::places_of;
 use graphql_faults::Details;
 use graphql_names::SourceSpan;
@@ -27,22 +28,24 @@ pub(crate) fn entry_of(
     let message = details.to_string(alloc)?;
     let rule = details.name();
     let mut entry = Entry::at(alloc, sources, path, place, rule, message)?;
-    entry.related = related_of(alloc, sources, place, details)?;
+    entry.related = related_of(alloc, sources, path, place, details)?;
     entry.hint = hint_of(alloc, sources, schema, place, details)?;
     entry.fields = fields_of(alloc, details)?;
     Ok(entry)
 }
 
-/// The places that belong to the fault, without its own.
+/// The places that belong to the fault, without its own, and last the operation that its data name.
 fn related_of(
     alloc: Global,
     sources: &[Source<'_>],
+    path: &str,
     own: Option<SourceSpan>,
     details: &Details,
 ) -> Result<Vec<Related>, AllocError>
     ensures { IfOk result (λ related. HasPlaces sources.now own (details_of details.now) related.items) }
 {
     let noted = places_of(alloc, details)?;
-    let related = related(alloc, sources, own, &noted)?;
+    let mut related = related(alloc, sources, own, &noted)?;
+    push_operation(alloc, &mut related, sources, path, details)?;
     Ok(related)
 }

@@ -1,14 +1,15 @@
-//! The data of a fault, under the names of its variant's fields.
+//! The names and types that a fault has, under the names of its variant's fields.
 
 use fault_data::DiagnosticData;
-use fault_document_data::BuildError;
+use fault_document_data::{BuildError, ConflictingFieldType};
 use graphql_faults::Details;
+use graphql_names::Name;
 use report_forms::Field;
 use schema_fold::BuildError as FoldingError;
 use std::alloc::{AllocError, Global};
 use std::fmt::Display;
 
-/// The names and types that belong to the fault.
+/// Each name and each type of the fault's data, in their order.
 pub(crate) fn fields_of(alloc: Global, details: &Details) -> Result<Vec<Field>, AllocError> {
     let mut fields = Vec::new(alloc);
     match details {
@@ -32,6 +33,42 @@ fn push<T: Display>(
     Ok(())
 }
 
+/// Adds a name, if there is one.
+fn push_if_any(
+    alloc: Global,
+    fields: &mut Vec<Field>,
+    value: &Option<Name>,
+) -> Result<(), AllocError> {
+    match value {
+        None => Ok(()),
+        Some(name) => push(alloc, fields, "name", name),
+    }
+}
+
+/// Adds two fields.
+fn push_two<A: Display, B: Display>(
+    alloc: Global,
+    fields: &mut Vec<Field>,
+    first: (&'static str, &A),
+    second: (&'static str, &B),
+) -> Result<(), AllocError> {
+    push(alloc, fields, first.0, first.1)?;
+    push(alloc, fields, second.0, second.1)
+}
+
+/// Adds the names of a field that an interface asks for.
+fn push_asked(
+    alloc: Global,
+    fields: &mut Vec<Field>,
+    name: &Name,
+    interface: &Name,
+    field: &Name,
+) -> Result<(), AllocError> {
+    push(alloc, fields, "name", name)?;
+    push(alloc, fields, "interface", interface)?;
+    push(alloc, fields, "field", field)
+}
+
 /// Adds the fields of a fault of folding.
 fn push_of_folding(
     alloc: Global,
@@ -51,8 +88,7 @@ fn push_of_folding(
         | FoldingError::EnumValueNameCollision { type_name, name }
         | FoldingError::UnionMemberNameCollision { type_name, name }
         | FoldingError::InputFieldNameCollision { type_name, name } => {
-            push(alloc, fields, "type_name", type_name)?;
-            push(alloc, fields, "name", name)
+            push_two(alloc, fields, ("type_name", type_name), ("name", name))
         }
         _ => Ok(()),
     }
@@ -79,10 +115,12 @@ fn push_of_document(
         BuildError::UndefinedField {
             type_name,
             field_name,
-        } => {
-            push(alloc, fields, "type_name", type_name)?;
-            push(alloc, fields, "field_name", field_name)
-        }
+        } => push_two(
+            alloc,
+            fields,
+            ("type_name", type_name),
+            ("field_name", field_name),
+        ),
         BuildError::ConflictingFieldName(conflict) => push(alloc, fields, "alias", &conflict.alias),
         BuildError::ConflictingFieldArgument(conflict) => push(
             alloc,
@@ -90,9 +128,33 @@ fn push_of_document(
             "alias",
             &conflict.alias,
         ),
-        BuildError::ConflictingFieldType(conflict) => push(alloc, fields, "alias", &conflict.alias),
+        BuildError::ConflictingFieldType(conflict) => push_of_types(alloc, fields, conflict),
+        BuildError::SubscriptionUsesMultipleFields { name, .. }
+        | BuildError::SubscriptionUsesConditionalSelection { name } => push_if_any(
+            alloc, fields, name,
+        ),
+        BuildError::SubscriptionUsesIntrospection { name, field } => {
+            push_if_any(alloc, fields, name)?;
+            push(alloc, fields, "field", field)
+        }
         _ => Ok(()),
     }
+}
+
+/// Adds the fields of two fields of one response key whose types have different shapes.
+fn push_of_types(
+    alloc: Global,
+    fields: &mut Vec<Field>,
+    conflict: &ConflictingFieldType,
+) -> Result<(), AllocError> {
+    push(alloc, fields, "alias", &conflict.alias)?;
+    push(alloc, fields, "original_type", &conflict.original_type)?;
+    push(
+        alloc,
+        fields,
+        "conflicting_type",
+        &conflict.conflicting_type,
+    )
 }
 
 /// Adds the fields of a fault of schemas, uses, values or documents.
@@ -119,11 +181,8 @@ fn push_of_data(
         | DiagnosticData::UnsupportedLocation { name, .. }
         | DiagnosticData::UniqueArgument { name, .. }
         | DiagnosticData::UndefinedArgument { name, .. }
-        | DiagnosticData::RequiredArgument { name, .. }
         | DiagnosticData::UndefinedVariable { name }
-        | DiagnosticData::RequiredField { name, .. }
         | DiagnosticData::UniqueVariable { name, .. }
-        | DiagnosticData::VariableInputType { name, .. }
         | DiagnosticData::UnusedVariable { name }
         | DiagnosticData::UndefinedFragment { name }
         | DiagnosticData::UnusedFragment { name }
@@ -139,51 +198,118 @@ fn push_of_data(
             "type_name",
             type_name,
         ),
-        _ => push_of_others(alloc, fields, data),
+        DiagnosticData::TransitiveImplementedInterfaces { .. }
+        | DiagnosticData::MissingInterfaceField { .. }
+        | DiagnosticData::InvalidImplementationFieldType { .. }
+        | DiagnosticData::MissingInterfaceFieldArgument { .. }
+        | DiagnosticData::InvalidImplementationFieldArgumentType { .. }
+        | DiagnosticData::ExtraRequiredImplementationFieldArgument { .. } => push_of_interfaces(
+            alloc, fields, data,
+        ),
+        _ => push_of_uses(alloc, fields, data),
     }
 }
 
-/// Adds the fields of a fault that has more names than one.
-fn push_of_others(
+/// Adds the fields of a fault of what a type implements.
+fn push_of_interfaces(
     alloc: Global,
     fields: &mut Vec<Field>,
     data: &DiagnosticData,
 ) -> Result<(), AllocError> {
     match data {
+        DiagnosticData::TransitiveImplementedInterfaces {
+            interface,
+            via_interface,
+            missing_interface,
+            ..
+        } => {
+            push(alloc, fields, "interface", interface)?;
+            push(alloc, fields, "via_interface", via_interface)?;
+            push(alloc, fields, "missing_interface", missing_interface)
+        }
         DiagnosticData::MissingInterfaceField {
             name,
             interface,
             field,
             ..
-        }
-        | DiagnosticData::InvalidImplementationFieldType {
+        } => push_asked(alloc, fields, name, interface, field),
+        DiagnosticData::InvalidImplementationFieldType {
             name,
             interface,
             field,
+            interface_type,
+            actual_type,
             ..
+        } => {
+            push_asked(alloc, fields, name, interface, field)?;
+            push_two(
+                alloc,
+                fields,
+                ("interface_type", interface_type),
+                ("actual_type", actual_type),
+            )
         }
-        | DiagnosticData::MissingInterfaceFieldArgument {
+        DiagnosticData::MissingInterfaceFieldArgument {
             name,
             interface,
             field,
-            ..
-        }
-        | DiagnosticData::InvalidImplementationFieldArgumentType {
-            name,
-            interface,
-            field,
+            argument,
             ..
         }
         | DiagnosticData::ExtraRequiredImplementationFieldArgument {
             name,
             interface,
             field,
+            argument,
             ..
         } => {
-            push(alloc, fields, "name", name)?;
-            push(alloc, fields, "interface", interface)?;
-            push(alloc, fields, "field", field)
+            push_asked(alloc, fields, name, interface, field)?;
+            push(alloc, fields, "argument", argument)
         }
+        DiagnosticData::InvalidImplementationFieldArgumentType {
+            name,
+            interface,
+            field,
+            argument,
+            interface_type,
+            actual_type,
+            ..
+        } => {
+            push_asked(alloc, fields, name, interface, field)?;
+            push(alloc, fields, "argument", argument)?;
+            push_two(
+                alloc,
+                fields,
+                ("interface_type", interface_type),
+                ("actual_type", actual_type),
+            )
+        }
+        _ => Ok(()),
+    }
+}
+
+/// Adds the fields of a fault of uses, values or documents that has a type, or more names than one.
+fn push_of_uses(
+    alloc: Global,
+    fields: &mut Vec<Field>,
+    data: &DiagnosticData,
+) -> Result<(), AllocError> {
+    match data {
+        DiagnosticData::RequiredArgument {
+            name,
+            expected_type,
+            ..
+        }
+        | DiagnosticData::RequiredField {
+            name,
+            expected_type,
+            ..
+        } => push_two(
+            alloc,
+            fields,
+            ("name", name),
+            ("expected_type", expected_type),
+        ),
         DiagnosticData::DisallowedVariableUsage {
             variable,
             variable_type,
@@ -191,11 +317,20 @@ fn push_of_others(
             argument_type,
             ..
         } => {
-            push(alloc, fields, "variable", variable)?;
-            push(alloc, fields, "variable_type", variable_type)?;
-            push(alloc, fields, "argument", argument)?;
-            push(alloc, fields, "argument_type", argument_type)
+            push_two(
+                alloc,
+                fields,
+                ("variable", variable),
+                ("variable_type", variable_type),
+            )?;
+            push_two(
+                alloc,
+                fields,
+                ("argument", argument),
+                ("argument_type", argument_type),
+            )
         }
+        DiagnosticData::UnsupportedValueType { ty, .. } => push(alloc, fields, "ty", ty),
         DiagnosticData::UndefinedEnumValue {
             value,
             definition,
@@ -205,17 +340,36 @@ fn push_of_others(
             value,
             definition,
             ..
-        } => {
-            push(alloc, fields, "value", value)?;
-            push(alloc, fields, "definition", definition)
+        } => push_two(alloc, fields, ("value", value), ("definition", definition)),
+        DiagnosticData::VariableInputType { name, ty, .. } => push_two(
+            alloc,
+            fields,
+            ("name", name),
+            ("ty", ty),
+        ),
+        DiagnosticData::MissingSubselection { output_type, .. } => push(
+            alloc,
+            fields,
+            "output_type",
+            output_type,
+        ),
+        DiagnosticData::InvalidFragmentTarget { name, ty } => {
+            push_if_any(alloc, fields, name)?;
+            push(alloc, fields, "ty", ty)
         }
         DiagnosticData::InvalidFragmentSpread {
+            name,
             type_name,
             type_condition,
             ..
         } => {
-            push(alloc, fields, "type_name", type_name)?;
-            push(alloc, fields, "type_condition", type_condition)
+            push_if_any(alloc, fields, name)?;
+            push_two(
+                alloc,
+                fields,
+                ("type_name", type_name),
+                ("type_condition", type_condition),
+            )
         }
         _ => Ok(()),
     }

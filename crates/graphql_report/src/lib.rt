@@ -10,6 +10,7 @@
 mod entries;
 mod fields;
 mod hints;
+mod operations;
 mod report;
 mod stood_there;
 mod told_places;

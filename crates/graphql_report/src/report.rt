@@ -1,13 +1,13 @@
 //! Reports.
 
-ghost use Rattle.std.specs.Prelude.{◌≡◌, IfOk};
+ghost use Rattle.std.specs.Prelude.{◌≡◌, ◌++◌, ◌∷◌, [], IfOk};
 ghost use Rattle.graphql_faults.specs.DetailsView.{diagnostics_of};
-ghost use Rattle.graphql_report.specs.Reports.{IsReport};
+ghost use Rattle.graphql_report.specs.Reports.{IsReport, IsDocumentReport};
 
 use crate::entries::entry_of;
 use graphql_faults::DiagnosticList;
 use graphql_schema::Schema;
-use report_forms::{Entry, Source, order_of};
+use report_forms::{Entry, Lines, Source, order_of};
 use std::alloc::{AllocError, Global};
 use std::marker::Model;
 
@@ -54,10 +54,45 @@ impl Report {
         Ok(Report { entries })
     }
 
+    /// The report of the faults of a document at that path, over a schema of these texts: its own text comes after them.
+    #[tactic(auto, using(crate::proofs::InOperations::document_report))]
+    pub fn of_document(
+        alloc: Global,
+        faults: &DiagnosticList,
+        schemas: &[Source<'_>],
+        schema: &Schema,
+        path: &str,
+        text: &str,
+    ) -> Result<Report, AllocError>
+        ensures { IfOk result (IsDocumentReport schemas.now path.now text.now (diagnostics_of faults.now)) }
+    {
+        let lines = Lines::new(alloc, text)?;
+        let document = Source {
+            path,
+            lines: &lines,
+        };
+        let sources = with_document(alloc, schemas, document)?;
+        let report = Report::new(alloc, faults, &sources, Some(schema), path)?;
+        Ok(report)
+    }
+
     /// What is told, an entry for each fault.
     pub fn entries(&self) -> &[Entry]
         ensures { result.now ≡ self.now }
     {
         &self.entries
     }
+}
+
+/// The texts of a schema, and after them that of a document.
+fn with_document<'a>(
+    alloc: Global,
+    schemas: &[Source<'a>],
+    document: Source<'a>,
+) -> Result<Vec<Source<'a>>, AllocError>
+    ensures { IfOk result (λ sources. sources.items ≡ schemas.now ++ document.entry ∷ []) }
+{
+    let mut sources = Vec::from_slice(alloc, schemas)?;
+    sources.push(document)?;
+    Ok(sources)
 }

@@ -1,9 +1,8 @@
 pub mod Noting
-pub mod Operations
 pub mod Fragments
 pub mod Data
 pub mod Ordered
-pub mod Subscribed
+pub mod Settled
 pub mod WholeAlone
 pub mod OneSet
 pub mod FieldSets

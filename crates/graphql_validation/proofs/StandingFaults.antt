@@ -1,5 +1,5 @@
 -- What is kept of the faults of a document are those that last.
-use Rattle.std.proofs.Common.{inl, inr, true, false, List, sym, subst, Contains, true≢false}
+use Rattle.std.proofs.Common.{inl, inr, false, List, sym, subst, Contains, true≢false}
 use Rattle.std.specs.List.{filter}
 use Rattle.graphql_names.specs.Placed.{Place}
 use Rattle.schema_types.specs.SchemaTree.{SchemaTree}
@@ -15,7 +15,8 @@ use Rattle.rule_lasting.proofs.Filtered.{filtered, passing}
 use Rattle.rule_lasting.proofs.Passing.{data_passes, defer_passes, subscription_passes}
 use Rattle.rule_lasting.proofs.Kept.{data_right, broken_right, not_many}
 use Rattle.rule_lasting.proofs.Reasons.{of_variables}
-use Rattle.graphql_validation.specs.Operations.{TellsData, AllUnder, OperationFails, TellsBreaches, all_told}
+use Rattle.graphql_validation.specs.Operations.{TellsData, AllUnder, OperationFails, all_told}
+use Rattle.rule_subscriptions.specs.Documents.{TellsBreaches}
 use Rattle.graphql_validation.specs.TellsDocument.{TellsDocument}
 use Rattle.graphql_validation.specs.TellsLasting.{TellsLasting}
 use Rattle.graphql_validation.proofs.Telling.{data_in, broken_in, told_cases, bound_is}

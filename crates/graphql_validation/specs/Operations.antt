@@ -1,7 +1,6 @@
 -- What is judged operation by operation, and what is noted of the fragments.
-use Rattle.std.specs.Prelude.{◌≡◌, ◌↔◌, ◌++◌, ℕ, Bool, true, false, List, [], ◌∷◌, map, fold, Vec, Contains, None, ◌⊎◌}
+use Rattle.std.specs.Prelude.{◌≡◌, ◌↔◌, ◌++◌, ℕ, Bool, true, false, List, [], ◌∷◌, map, fold, Contains, None, ◌⊎◌}
 use Rattle.std.specs.Str.{bytes_eq}
-use Rattle.std.specs.declared.alloc.Global.{Global}
 use Rattle.indexmap.specs.IndexSet.{insert_key}
 use Rattle.graphql_names.specs.Placed.{Place}
 use Rattle.tree_directives.specs.declared.operation_type.OperationType.TheVariants as operation
@@ -10,24 +9,19 @@ use Rattle.schema_types.specs.Plain.{plain}
 use Rattle.document_typed_selections.specs.TypedTree.{TypedSet}
 use Rattle.document_typed_operations.specs.TypedDocument.{TypedOperation}
 use Rattle.document_typing.specs.Meanings.{meanings}
-use Rattle.fault_document_data.specs.declared.build_error.BuildError.{BuildError}
 use Rattle.document_meaning.specs.MeantTree.{MeantOperation, MeantFragment, MeantDocument}
 use Rattle.rule_definitions.specs.Judged.{judged}
 use Rattle.rule_definitions.specs.Told.{PlacedFault}
 use Rattle.rule_document_definitions.specs.DocumentFaults.{Broken, OfData, OfDocument, OfLimit}
-use Rattle.rule_document_definitions.specs.DocumentRules.{DeferredBreaks}
 use Rattle.rule_document_definitions.specs.Limits.{SpreadBoundFails}
 use Rattle.rule_document_definitions.specs.Reached.{ReachesFragment, AtOperation}
 use Rattle.rule_document_definitions.specs.Selected.{operations}
 use Rattle.rule_document_definitions.specs.Selections.{SelectionsBreak}
-use Rattle.rule_document_definitions.specs.Subscriptions.{SubscriptionBreaks}
 use Rattle.rule_document_definitions.specs.Variables.{VariablesBreak, UniqueVariableAt, UniqueDefaultKeyAt, UnusedVariableAt}
 use Rattle.rule_document_definitions.specs.Fragments.{ReachesItself, UndefinedFragmentAt, UnusedFragmentAt, InvalidFragmentTargetAt, InvalidFragmentSpreadAt, FragmentsBreak}
 use Rattle.rule_document_definitions.specs.Standalone.{GivenInBreaks, OperationBreaksAlone}
 use Rattle.rule_document_definitions.specs.Told.{PlacedDocumentFault, places_in, places_alone}
-use Rattle.rule_document_ground.specs.Broken.{brokens_of}
 use Rattle.rule_selections.specs.Typed.{ReachesTyped}
-use Rattle.rule_subscriptions.specs.Told.{AreAlike}
 use Rattle.rule_fragments.specs.Told.{Answers, TellsFragmentCycles}
 use Rattle.rule_fragments.specs.Used.{IsUsed}
 
@@ -76,24 +70,6 @@ AllAlone d o f = OperationBreaksAlone places_alone d f o
 
 abbrev pub AllUnder : SchemaTree Place → MeantDocument Place → MeantOperation Place → PlacedFault → Type 0
 AllUnder s d o f = VariablesBreak (places_in s) (judged s) d o f ⊎ (SelectionsBreak (places_in s) (judged s) d o f ⊎ FragmentsBreak (places_in s) (judged s) d o f)
-
--- ---- what breaks the rules on subscriptions and on `@defer`
-
-module _ (d : MeantDocument Place) where
-  -- each of these breaks a rule on subscriptions in one of the operations; and whatever breaks one is told, or one that is alike
-  pub record TellsSubscriptions (os : List (MeantOperation Place)) (told : List (Broken Place)) : Type 0 where
-    pub right : (f : Broken Place) → Contains told f → (o : MeantOperation Place) × (Contains os o × SubscriptionBreaks d o f)
-    pub full : (o : MeantOperation Place) → Contains os o → (f : Broken Place) → SubscriptionBreaks d o f → (g : Broken Place) × (Contains told g × AreAlike d o f g)
-
-  -- each of these breaks a rule on subscriptions or on `@defer`; all on `@defer` are told, those on subscriptions as above
-  pub record TellsBreaches (told : List (Broken Place)) : Type 0 where
-    pub right : (f : Broken Place) → Contains told f → AtOperation d (λ o. SubscriptionBreaks d o f) ⊎ DeferredBreaks d f
-    pub subscriptions : (o : MeantOperation Place) → Contains (operations d) o → (f : Broken Place) → SubscriptionBreaks d o f → (g : Broken Place) × (Contains told g × AreAlike d o f g)
-    pub deferred : (f : Broken Place) → DeferredBreaks d f → Contains told f
-
--- the breaches that were there, as they stood, and behind them those on subscriptions of these operations
-abbrev pub AddsSubscriptions : Vec (Place × BuildError) Global → Vec (Place × BuildError) Global → MeantDocument Place → List (MeantOperation Place) → Type 0
-AddsSubscriptions old new d os = (added : List (Broken Place)) × ((brokens_of new ≡ brokens_of old ++ added) × TellsSubscriptions d os added)
 
 -- ---- what is told, in order: faults with data, then others, then the bound on how deep selections nest
 

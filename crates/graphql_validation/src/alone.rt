@@ -1,14 +1,9 @@
 //! What is judged without a schema, operation by operation.
-ghost use Rattle.std.specs.Prelude.{◌↔◌, Contains, IfOk, OnOk};
-ghost use Rattle.graphql_names.specs.Placed.{Place};
+ghost use Rattle.std.specs.Prelude.{IfOk, OnOk};
 ghost use Rattle.document_typing.specs.DocumentView.{document_meant, operation_meant};
 ghost use Rattle.fault_data.specs.Adds.{Adds};
 ghost use Rattle.fault_data.specs.FaultView.{faults_of};
-ghost use Rattle.rule_document_definitions.specs.Defer.{DeferBreaks};
-ghost use Rattle.rule_document_definitions.specs.DocumentFaults.{Broken};
-ghost use Rattle.rule_document_definitions.specs.DocumentRules.{DeferredBreaks};
 ghost use Rattle.rule_document_definitions.specs.Reached.{AtOperation};
-ghost use Rattle.rule_document_ground.specs.Broken.{brokens_of, AddsBroken};
 ghost use Rattle.rule_document_ground.specs.NotedNames.{noted_names};
 ghost use Rattle.rule_fragments.specs.Used.{AreUnderOwnNames};
 ghost use Rattle.graphql_validation.specs.Operations.{OperationFailsAlone, ReachesNamed, NotesNames, TellsData, AllAlone};
@@ -19,9 +14,7 @@ use fault_data::Fault;
 use graphql_names::Node;
 use rule_document_ground::reach;
 use rule_fragments::check_spreads;
-use rule_merging::Breach;
 use rule_selections::check_selections_alone;
-use rule_subscriptions::{check_defer, check_labels};
 use rule_variables::check_variables_alone;
 use std::alloc::{AllocError, Global};
 
@@ -64,27 +57,4 @@ pub(crate) fn faults_alone(
     let mut found = Found::new(alloc);
     check_operations(document, &mut found)?;
     check_fragments(document, found)
-}
-
-/// Adds what breaks the rules on `@defer` in each operation.
-fn check_defers(document: &ExecutableDocument, breaches: &mut Vec<Breach>) -> Result<(), AllocError>
-    ensures { OnOk result (AddsBroken breaches.old breaches.new (λ f. AtOperation (document_meant document.now) (λ o. DeferBreaks (document_meant document.now) o f))) }
-{
-    for operation in document.operations.iter() {
-        check_defer(document, operation, breaches)?;
-    }
-    Ok(())
-}
-
-/// What breaks the rules on `@defer` in a document.
-pub(crate) fn deferred_breaches(
-    alloc: Global,
-    document: &ExecutableDocument,
-) -> Result<Vec<Breach>, AllocError>
-    ensures { IfOk result (λ r. (f : Broken Place) → Contains (brokens_of r) f ↔ DeferredBreaks (document_meant document.now) f) }
-{
-    let mut breaches = Vec::new(alloc);
-    check_defers(document, &mut breaches)?;
-    check_labels(document, &mut breaches)?;
-    Ok(breaches)
 }

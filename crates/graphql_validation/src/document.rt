@@ -15,13 +15,13 @@ ghost use Rattle.graphql_validation.specs.TellsDocument.{TypedDocumentTold, Sile
 
 use crate::found::fragments_differ;
 use crate::told::append_all;
-use crate::under_schema::{breaches_under, faults_under};
+use crate::under_schema::faults_under;
 use document_typed_operations::ExecutableDocument;
 use fault_data::Fault;
 use graphql_faults::DiagnosticList;
 use graphql_schema::Schema;
 use rule_merging::{Breach, FieldsInSetCanMerge};
-use rule_subscriptions::passes_path_bound;
+use rule_subscriptions::{document_breaches, passes_path_bound};
 use std::alloc::{AllocError, Global};
 
 /// Whether there is nothing to tell.
@@ -66,7 +66,7 @@ pub fn validate_executable_document(
 {
     fragments_differ(document);
     let faults = faults_under(alloc, schema, document)?;
-    let breaches = breaches_under(alloc, document)?;
+    let breaches = document_breaches(alloc, document)?;
     let is_passed = passes_path_bound(document);
     if is_nothing(&faults, &breaches, is_passed) {
         return merge_operations(alloc, list, schema, document);

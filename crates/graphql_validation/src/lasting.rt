@@ -6,11 +6,12 @@ ghost use Rattle.graphql_faults.specs.DetailsView.{diagnostics_of, BeginsAs};
 ghost use Rattle.graphql_validation.specs.TellsLasting.{TypedLastingTold};
 
 use crate::told::append_all;
-use crate::under_schema::{breaches_under, faults_under};
+use crate::under_schema::faults_under;
 use document_typed_operations::ExecutableDocument;
 use graphql_faults::DiagnosticList;
 use graphql_schema::Schema;
 use rule_lasting::{keep_lasting_breaches, keep_lasting_faults};
+use rule_subscriptions::document_breaches;
 use std::alloc::{AllocError, Global};
 
 /// Tells of a document of which something may be left out, as typing does, what is wrong with it whatever that was: what
@@ -28,7 +29,7 @@ pub fn tell_lasting_faults(
 {
     let mut faults = faults_under(alloc, schema, document)?;
     keep_lasting_faults(&mut faults);
-    let mut breaches = breaches_under(alloc, document)?;
+    let mut breaches = document_breaches(alloc, document)?;
     keep_lasting_breaches(&mut breaches);
     append_all(list, faults, breaches, false)
 }

@@ -4,12 +4,12 @@ ghost use Rattle.document_typing.specs.DocumentView.{document_meant};
 ghost use Rattle.graphql_faults.specs.DetailsView.{diagnostics_of, BeginsAs};
 ghost use Rattle.graphql_validation.specs.Told.{NamedAloneTold, SilenceMeansValidAlone, ValidAloneMeansSilence};
 
-use crate::alone::{deferred_breaches, faults_alone};
+use crate::alone::faults_alone;
 use crate::found::fragments_differ;
 use crate::told::append_all;
 use document_typed_operations::ExecutableDocument;
 use graphql_faults::DiagnosticList;
-use rule_subscriptions::passes_path_bound;
+use rule_subscriptions::{deferred_breaches, passes_path_bound};
 use std::alloc::{AllocError, Global};
 
 /// Tells what breaks the rules that need no schema (sections 5.4.2, 5.5, 5.6.3, 5.7.1 and 5.8): UniqueArgument,

@@ -1,50 +1,48 @@
 //! What is judged under a schema, operation by operation.
 ghost use Rattle.std.specs.Prelude.{IfOk, OnOk};
+ghost use Rattle.graphql_names.specs.Placed.{Place};
+ghost use Rattle.document_meaning.specs.MeantTree.{MeantDocument};
 ghost use Rattle.rule_document_definitions.specs.Reached.{AtOperation};
-ghost use Rattle.rule_document_definitions.specs.Selected.{operations};
 ghost use Rattle.fault_data.specs.Adds.{Adds};
 ghost use Rattle.fault_data.specs.FaultView.{faults_of};
 ghost use Rattle.rule_document_ground.specs.NotedNames.{noted_names};
+ghost use Rattle.rule_document_ground.specs.Reach.{meant_fragments};
+ghost use Rattle.rule_selections.specs.Settled.{StandIn};
 ghost use Rattle.rule_fragments.specs.Used.{AreUnderOwnNames};
 ghost use Rattle.rule_fragments.specs.Possible.{ArePossibleIfFound};
-ghost use Rattle.rule_document_ground.specs.Broken.{brokens_of};
 ghost use Rattle.rule_definitions.specs.Judged.{judged};
 ghost use Rattle.graphql_schema.specs.SchemaOf.{schema_tree};
 ghost use Rattle.schema_types.specs.Plain.{plain};
 ghost use Rattle.rule_selections.specs.Typed.{ReachesTyped};
 ghost use Rattle.document_typing.specs.DocumentView.{document_meant, operation_meant};
 ghost use Rattle.document_typing.specs.Meanings.{meanings};
-ghost use Rattle.graphql_validation.specs.Operations.{OperationFails, ReachesNamed, NotesNames, AreReachesTyped, TellsData, AllUnder, AddsSubscriptions, TellsBreaches};
+ghost use Rattle.graphql_validation.specs.Operations.{OperationFails, ReachesNamed, NotesNames, AreReachesTyped, TellsData, AllUnder};
 
-use crate::alone::deferred_breaches;
 use crate::found::{Found, check_fragments, note_fragments};
-use document_typed_operations::{ExecutableDocument, Operation};
+use document_typed_operations::{ExecutableDocument, FragmentMap, Operation};
 use fault_data::Fault;
 use graphql_names::Node;
 use graphql_schema::Schema;
 use rule_document_ground::reach;
 use rule_fragments::{PossibleTypes, check_applications, check_spreads};
-use rule_merging::Breach;
-use rule_selections::check_selections;
-use rule_subscriptions::check_subscription;
+use rule_selections::{check_selections, settled_fragments};
 use rule_variables::{check_variables, check_variables_alone};
 use std::alloc::{AllocError, Global};
 
-/// Adds the faults of an operation under a schema, and notes the fragments that it reaches. The possible types of the schema
-/// are found where it first needs them.
+/// Adds the faults of an operation under a schema, and notes the fragments that it reaches, where these fragments replace
+/// those of its document. The possible types of the schema are found where it first needs them.
 fn check_operation(
     schema: &Schema,
     possible: &mut Option<PossibleTypes>,
-    document: &ExecutableDocument,
+    fragments: &FragmentMap,
     operation: &Node<Operation>,
     found: &mut Found,
 ) -> Result<(), AllocError>
-    ensures told { OnOk result (ReachesTyped (meanings (plain (schema_tree schema.now))) (document_meant document.now) (operation_meant operation.now) → ArePossibleIfFound (judged (schema_tree schema.now)) possible.old → Adds found.old.faults found.new.faults (OperationFails (document_meant document.now) (operation_meant operation.now) (schema_tree schema.now))) }
-    ensures noted { OnOk result (NotesNames (noted_names found.old.used) (noted_names found.new.used) (ReachesNamed (document_meant document.now) (operation_meant operation.now))) }
+    ensures told { OnOk result ((d : MeantDocument Place) → StandIn (schema_tree schema.now) d.fragments (meant_fragments fragments.now) → ReachesTyped (meanings (plain (schema_tree schema.now))) d (operation_meant operation.now) → ArePossibleIfFound (judged (schema_tree schema.now)) possible.old → Adds found.old.faults found.new.faults (OperationFails d (operation_meant operation.now) (schema_tree schema.now))) }
+    ensures noted { OnOk result ((d : MeantDocument Place) → StandIn (schema_tree schema.now) d.fragments (meant_fragments fragments.now) → NotesNames (noted_names found.old.used) (noted_names found.new.used) (ReachesNamed d (operation_meant operation.now))) }
     ensures right { OnOk result (ArePossibleIfFound (judged (schema_tree schema.now)) possible.old → ArePossibleIfFound (judged (schema_tree schema.now)) possible.new) }
 {
     let alloc = *found.faults.allocator();
-    let fragments = &document.fragments;
     let reach = reach(alloc, &operation.content().selection_set, fragments)?;
     check_variables_alone(operation, &reach, &mut found.faults)?;
     check_variables(schema, operation, &mut found.faults)?;
@@ -54,25 +52,28 @@ fn check_operation(
     note_fragments(&reach, &mut found.used)
 }
 
-/// Adds the faults of each operation under a schema, and notes the fragments that one of them reaches.
+/// Adds the faults of each operation under a schema, and notes the fragments that one of them reaches, where these
+/// fragments replace those of the document.
 fn check_operations(
     schema: &Schema,
     possible: &mut Option<PossibleTypes>,
     document: &ExecutableDocument,
+    fragments: &FragmentMap,
     found: &mut Found,
 ) -> Result<(), AllocError>
-    ensures told { OnOk result (AreReachesTyped (schema_tree schema.now) (document_meant document.now) → ArePossibleIfFound (judged (schema_tree schema.now)) possible.old → Adds found.old.faults found.new.faults (λ f. AtOperation (document_meant document.now) (λ o. OperationFails (document_meant document.now) o (schema_tree schema.now) f))) }
-    ensures noted { OnOk result (NotesNames (noted_names found.old.used) (noted_names found.new.used) (λ n. AtOperation (document_meant document.now) (λ o. ReachesNamed (document_meant document.now) o n))) }
+    ensures told { OnOk result (StandIn (schema_tree schema.now) (document_meant document.now).fragments (meant_fragments fragments.now) → AreReachesTyped (schema_tree schema.now) (document_meant document.now) → ArePossibleIfFound (judged (schema_tree schema.now)) possible.old → Adds found.old.faults found.new.faults (λ f. AtOperation (document_meant document.now) (λ o. OperationFails (document_meant document.now) o (schema_tree schema.now) f))) }
+    ensures noted { OnOk result (StandIn (schema_tree schema.now) (document_meant document.now).fragments (meant_fragments fragments.now) → NotesNames (noted_names found.old.used) (noted_names found.new.used) (λ n. AtOperation (document_meant document.now) (λ o. ReachesNamed (document_meant document.now) o n))) }
     ensures right { OnOk result (ArePossibleIfFound (judged (schema_tree schema.now)) possible.old → ArePossibleIfFound (judged (schema_tree schema.now)) possible.new) }
 {
     for operation in document.operations.iter() {
-        check_operation(schema, possible, document, operation, found)?;
+        check_operation(schema, possible, fragments, operation, found)?;
     }
     Ok(())
 }
 
-/// The faults of a document under a schema. The possible types of the schema are found once, for the first operation in which
-/// a fragment is on another type than that where it stands; if there is none, never.
+/// The faults of a document under a schema. What several operations share is judged once, as far as it breaks no rule
+/// whatever their variables. The possible types of the schema are found once, for the first operation in which a fragment is
+/// on another type than that where it stands; if there is none, never.
 pub(crate) fn faults_under(
     alloc: Global,
     schema: &Schema,
@@ -82,31 +83,8 @@ pub(crate) fn faults_under(
 {
     let mut possible = None;
     let mut found = Found::new(alloc);
-    check_operations(schema, &mut possible, document, &mut found)?;
+    let settled = settled_fragments(alloc, schema, document)?;
+    let fragments = settled.as_ref().unwrap_or(&document.fragments);
+    check_operations(schema, &mut possible, document, fragments, &mut found)?;
     check_fragments(document, found)
-}
-
-/// Adds what breaks the rules on subscriptions in each operation.
-fn check_subscriptions(
-    document: &ExecutableDocument,
-    breaches: &mut Vec<Breach>,
-) -> Result<(), AllocError>
-    ensures { OnOk result (AreUnderOwnNames (document_meant document.now) → AddsSubscriptions breaches.old breaches.new (document_meant document.now) (operations (document_meant document.now))) }
-{
-    for operation in document.operations.iter() {
-        check_subscription(document, operation, breaches)?;
-    }
-    Ok(())
-}
-
-/// What breaks the rules on `@defer`, and after it what breaks those on subscriptions (section 5.2.3).
-pub(crate) fn breaches_under(
-    alloc: Global,
-    document: &ExecutableDocument,
-) -> Result<Vec<Breach>, AllocError>
-    ensures { IfOk result (λ r. AreUnderOwnNames (document_meant document.now) → TellsBreaches (document_meant document.now) (brokens_of r)) }
-{
-    let mut breaches = deferred_breaches(alloc, document)?;
-    check_subscriptions(document, &mut breaches)?;
-    Ok(breaches)
 }

@@ -2,11 +2,12 @@
 
 ghost use Rattle.std.specs.Prelude.{◌≡◌, ◌++◌, ◌∷◌, [], true, false, codes, OnOk, IfOk, string_bytes};
 ghost use Rattle.report_lines.specs.Shown.{shown_text, HasOnlyLineFeeds};
+ghost use Rattle.report_forms.specs.Escapes.{escaped_text};
 ghost use Rattle.report_forms.specs.Forms.{command, properties};
 
 use crate::entry::{Entry, Place};
 use crate::escapes::escaped;
-use crate::push_line::push_line;
+use crate::push_line::{push_line, push_number};
 use std::alloc::{AllocError, Global};
 
 impl Entry {
@@ -25,15 +26,28 @@ impl Entry {
     fn command(&self, alloc: Global) -> Result<String, AllocError>
         ensures { IfOk result (λ text. string_bytes text ≡ command self.now) }
     {
-        let mut out = String::from_str(alloc, "::error file=")?;
-        out.push_str(&escaped(alloc, &self.path, true)?)?;
+        let mut out = String::new(alloc);
+        push_escaped(alloc, &mut out, "::error file=", &self.path, true)?;
         push_place(alloc, &mut out, self.place)?;
-        out.push_str(",title=")?;
-        out.push_str(&escaped(alloc, self.rule, true)?)?;
-        out.push_str("::")?;
-        out.push_str(&escaped(alloc, &self.message, false)?)?;
+        push_escaped(alloc, &mut out, ",title=", self.rule, true)?;
+        push_escaped(alloc, &mut out, "::", &self.message, false)?;
         Ok(out)
     }
+}
+
+/// Adds a text after a head, as it may be written in a property or as the message.
+fn push_escaped(
+    alloc: Global,
+    out: &mut String,
+    head: &str,
+    text: &str,
+    in_property: bool,
+) -> Result<(), AllocError>
+    ensures { OnOk result (string_bytes out.new ≡ string_bytes out.old ++ head.now ++ escaped_text in_property text.now) }
+{
+    let text = escaped(alloc, text, in_property)?;
+    out.push_str(head)?;
+    out.push_str(&text)
 }
 
 /// Adds the properties of the place.
@@ -43,13 +57,8 @@ fn push_place(alloc: Global, out: &mut String, place: Option<Place>) -> Result<(
     let Some(place) = place else {
         return Ok(());
     };
-    out.push_str(",line=")?;
-    out.push_str(&place.start.line.to_string(alloc)?)?;
-    out.push_str(",endLine=")?;
-    out.push_str(&place.end.line.to_string(alloc)?)?;
-    out.push_str(",col=")?;
-    out.push_str(&place.start.column.to_string(alloc)?)?;
-    out.push_str(",endColumn=")?;
-    out.push_str(&place.end.column.to_string(alloc)?)?;
-    Ok(())
+    push_number(alloc, out, ",line=", place.start.line)?;
+    push_number(alloc, out, ",endLine=", place.end.line)?;
+    push_number(alloc, out, ",col=", place.start.column)?;
+    push_number(alloc, out, ",endColumn=", place.end.column)
 }

@@ -25,15 +25,24 @@ impl Entry {
         ensures { IfOk result (λ text. one_line (string_bytes text) ≡ true) }
     {
         let mut out = String::new(alloc);
-        push_text(alloc, &mut out, "{\"path\":", &self.path)?;
-        push_place(alloc, &mut out, self.place)?;
-        push_text(alloc, &mut out, ",\"rule\":", self.rule)?;
-        push_text(alloc, &mut out, ",\"message\":", &self.message)?;
-        push_all_related(alloc, &mut out, &self.related)?;
-        push_hint(alloc, &mut out, &self.hint)?;
-        push_fields(alloc, &mut out, &self.fields)?;
-        push_plain(&mut out, "}")?;
+        self.push_object(alloc, &mut out)?;
         Ok(out)
+    }
+
+    /// Adds the object.
+    fn push_object(&self, alloc: Global, out: &mut String) -> Result<(), AllocError>
+        requires { one_line (string_bytes out.old) ≡ true }
+        ensures { OnOk result (one_line (string_bytes out.new) ≡ true) }
+    {
+        push_text(alloc, out, "{\"path\":", &self.path)?;
+        push_place(alloc, out, self.place)?;
+        push_text(alloc, out, ",\"rule\":", self.rule)?;
+        push_text(alloc, out, ",\"message\":", &self.message)?;
+        push_all_related(alloc, out, &self.related)?;
+        push_hint(alloc, out, &self.hint)?;
+        push_fields(alloc, out, &self.fields)?;
+        push_plain(out, "}")?;
+        Ok(())
     }
 }
 

@@ -25,5 +25,6 @@ pub use entry::{Entry, Excerpt, Field, Place, Related};
 pub use excerpt::excerpt_at;
 pub use noted::{Noted, related};
 pub use order::{Rank, order_of};
+pub use push_line::push_number;
 pub use report_lines::{Lines, Position, shown};
 pub use source::{Source, path_at, place_at, source_at};

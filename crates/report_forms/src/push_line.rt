@@ -1,6 +1,6 @@
 //! A line of a form.
 
-ghost use Rattle.std.specs.Prelude.{◌≡◌, ◌++◌, ◌∷◌, [], ◌<◌, OnOk, string_bytes, replicate};
+ghost use Rattle.std.specs.Prelude.{◌≡◌, ◌++◌, ◌∷◌, [], ◌<◌, OnOk, string_bytes, decimal, replicate};
 ghost use Rattle.report_lines.specs.Shown.{shown_text, HasOnlyLineFeeds};
 
 use report_lines::shown;
@@ -15,6 +15,20 @@ pub(crate) fn push_line(alloc: Global, out: &mut String, text: &str) -> Result<(
     out.push_str(&line)?;
     out.push('\n')?;
     Ok(())
+}
+
+/// Adds a number after a head.
+pub fn push_number(
+    alloc: Global,
+    out: &mut String,
+    head: &str,
+    number: usize,
+) -> Result<(), AllocError>
+    ensures { OnOk result (string_bytes out.new ≡ string_bytes out.old ++ head.now ++ decimal number) }
+{
+    let number = number.to_string(alloc)?;
+    out.push_str(head)?;
+    out.push_str(&number)
 }
 
 /// Adds a character of ASCII so many times.

@@ -5,7 +5,7 @@ ghost use Rattle.report_lines.specs.Shown.{shown_text, HasOnlyLineFeeds};
 ghost use Rattle.report_forms.specs.Forms.{start_of, position_text, heading};
 
 use crate::entry::Entry;
-use crate::push_line::push_line;
+use crate::push_line::{push_line, push_number};
 use report_lines::Position;
 use std::alloc::{AllocError, Global};
 
@@ -56,7 +56,6 @@ pub(crate) fn push_position(
     let Some(position) = start else {
         return Ok(());
     };
-    let line = position.line;
-    let column = position.column;
-    out.push_str(&format!(in alloc; ":{line}:{column}")?)
+    push_number(alloc, out, ":", position.line)?;
+    push_number(alloc, out, ":", position.column)
 }

@@ -66,11 +66,14 @@ fn numbered_line(alloc: Global, number: usize, excerpt: &Excerpt) -> Result<Stri
 fn marks(alloc: Global, number: usize, excerpt: &Excerpt) -> Result<String, AllocError>
     ensures { IfOk result (λ text. string_bytes text ≡ marks number excerpt.now) }
 {
+    let margin = number.to_string(alloc)?.len();
+    let before = width(alloc, &excerpt.before)?;
+    let marked = width(alloc, &excerpt.marked)?;
     let mut marks = String::new(alloc);
-    push_times(&mut marks, ' ', number.to_string(alloc)?.len())?;
+    push_times(&mut marks, ' ', margin)?;
     marks.push_str(" | ")?;
-    push_times(&mut marks, ' ', width(alloc, &excerpt.before)?)?;
-    push_times(&mut marks, '^', width(alloc, &excerpt.marked)?.max(1))?;
+    push_times(&mut marks, ' ', before)?;
+    push_times(&mut marks, '^', marked.max(1))?;
     Ok(marks)
 }
 

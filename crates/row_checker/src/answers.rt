@@ -2,32 +2,9 @@
 
 use graphql_checked::{CheckedDocument, CheckedSchema, Checker, Limits, Refusal};
 use graphql_names::Files;
-use row_files::Answer;
-use row_texts::{Asked, push_lent, push_refusal, push_text};
+use row_texts::{Asked, Texts, Told, layouts};
 use schema_components::Extensions;
 use std::alloc::Global;
-
-/// Adds the answers to the documents, while what the first gives is kept, and last what that is written as.
-pub(crate) fn push_around(
-    schema: &CheckedSchema,
-    documents: &[&str],
-    asked: Asked,
-    answer: &mut Answer,
-) {
-    let Some(first) = documents.first() else {
-        return;
-    };
-    match schema.check(first) {
-        Ok(checked) => {
-            for document in documents {
-                push_check(schema, document, asked, answer);
-                answer.status.put(", ");
-            }
-            push_accepted(schema, &checked, asked, answer);
-        }
-        Err(refusal) => push_refusal(&refusal, answer),
-    }
-}
 
 /// The schema of the texts, by a checker with the numbers that the row asks for.
 pub(crate) fn schema_of(
@@ -51,31 +28,35 @@ pub(crate) fn schema_of(
     checker.finish()
 }
 
-/// Adds the answer of a schema's `check`.
-pub(crate) fn push_check(
-    schema: &CheckedSchema,
-    document: &str,
-    asked: Asked,
-    answer: &mut Answer,
-) {
-    match schema.check(document) {
-        Ok(checked) => push_accepted(schema, &checked, asked, answer),
-        Err(refusal) => push_refusal(&refusal, answer),
+/// Adds the answers to the further documents, while what the first gives is kept, and last what that tells.
+pub(crate) fn push_around(schema: &CheckedSchema, texts: Texts<'_>, told: &mut Told) {
+    match schema.check(texts.document) {
+        Ok(checked) => {
+            for document in texts.behind {
+                push_check(schema, document, told);
+            }
+            push_accepted(&checked, told);
+        }
+        Err(refusal) => told.refuse(&refusal),
     }
 }
 
-/// Adds the answer that has both texts, or what the document lends.
-fn push_accepted(
-    schema: &CheckedSchema,
-    document: &CheckedDocument<'_>,
-    asked: Asked,
-    answer: &mut Answer,
-) {
-    if asked.lends {
-        return push_lent(document.document(), answer);
+/// Adds the answer of a schema's `check`, after which there is another.
+fn push_check(schema: &CheckedSchema, document: &str, told: &mut Told) {
+    match schema.check(document) {
+        Ok(checked) => push_accepted(&checked, told),
+        Err(refusal) => told.refuse(&refusal),
     }
-    let layout = asked.layout;
-    answer.show("0", &"accepted\n");
-    push_text(schema.written(layout), layout, answer);
-    push_text(document.written(layout), layout, answer);
+    told.end();
+}
+
+/// Adds what an accepted document tells: what it lends, and what it and its schema are written as.
+fn push_accepted(checked: &CheckedDocument<'_>, told: &mut Told) {
+    told.accept(checked.document());
+    for (name, layout) in layouts() {
+        if told.wants(name) {
+            let schema = checked.schema().written(layout);
+            told.write(name, layout, schema, checked.written(layout));
+        }
+    }
 }

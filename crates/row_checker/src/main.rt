@@ -3,13 +3,47 @@
 #![tactic(auto)]
 
 mod answers;
-mod checking;
-mod pairs;
 
-use crate::checking::Checking;
-use row_files::judge_files;
+use crate::answers::{push_around, schema_of};
+use graphql_checked::{CheckError, Limits, Outcome, RunFault, Verdict, check_texts, run};
+use graphql_names::{Cut, Device};
+use row_texts::{Asked, Checks, Texts, Told, judge_texts};
+use std::alloc::Global;
 use std::process::ExitCode;
 
+/// The calls of the checker.
+struct Checking;
+
+impl Checks for Checking {
+    fn check_texts(&self, alloc: Global, texts: Texts<'_>) -> Result<Verdict, CheckError> {
+        let limits = Limits {
+            nesting: texts.asked.nesting,
+        };
+        check_texts(alloc, texts.schemas, texts.document, limits)
+    }
+
+    fn judge(&self, alloc: Global, texts: Texts<'_>, told: &mut Told) {
+        match schema_of(alloc, texts.schemas, texts.asked) {
+            Ok(schema) => push_around(&schema, texts, told),
+            Err(refusal) => told.refuse(&refusal),
+        }
+    }
+
+    fn run(
+        &self,
+        alloc: Global,
+        schemas: &mut [Device<Cut<&[u8]>>],
+        document: &mut Device<Cut<&[u8]>>,
+        asked: Asked,
+        out: &mut Device<Cut<&mut Vec<u8>>>,
+    ) -> Result<Outcome, RunFault> {
+        let limits = Limits {
+            nesting: asked.nesting,
+        };
+        run(alloc, schemas, document, limits, asked.layout, out)
+    }
+}
+
 fn main(rt: HostRuntime) -> ExitCode {
-    judge_files(&rt, &Checking)
+    judge_texts(&rt, &Checking)
 }

@@ -4,7 +4,7 @@ use checker_layouts::Layout;
 use row_files::{Case, Field, Problem, Way, number, text_of};
 
 /// The fields that rows of the call may have beside those of every row. None where there is no such call.
-pub fn names_of(call: &str) -> Option<&'static [&'static str]> {
+pub(crate) fn names_of(call: &str) -> Option<&'static [&'static str]> {
     match call {
         "check_texts" | "lent" => Some(&["nesting", "schema", "document"]),
         "calls" | "series" | "back" => Some(&[
@@ -32,34 +32,59 @@ pub struct Asked {
     pub text: u64,
     pub extension: u64,
     pub layout: Layout<'static>,
-    /// Whether an accepted document is told by what it lends, instead of by the texts that are written.
-    pub lends: bool,
+    /// The name of the layout.
+    pub(crate) name: &'static str,
+    pub(crate) telling: Telling,
+}
+
+/// By what an accepted document is told.
+#[derive(Clone, Copy)]
+pub(crate) enum Telling {
+    /// By the texts that it and its schema are written as.
+    Texts,
+    /// By what it lends.
+    Lent,
+    /// By the texts under each layout, apart, for the road back.
+    Pairs,
+}
+
+impl Telling {
+    /// How the call tells of one.
+    fn of(call: &str) -> Telling {
+        match call {
+            "lent" => Telling::Lent,
+            "back" => Telling::Pairs,
+            _ => Telling::Texts,
+        }
+    }
 }
 
 /// What the row asks for, under the limit of the way.
 pub(crate) fn asked_of(case: Case<'_>, way: Way<'_>) -> Result<Asked, Problem> {
+    let (name, layout) = layout_of(case)?;
     Ok(Asked {
         nesting: way.nesting,
         text: number(case.row, "first_text", "1")? as u64,
         extension: number(case.row, "first_extension", "1")? as u64,
-        layout: layout_of(case)?,
-        lends: case.call == "lent",
+        layout,
+        name,
+        telling: Telling::of(way.call),
     })
 }
 
-/// The layout that the row names, as the program's option does. Without one it is `line`.
-fn layout_of(case: Case<'_>) -> Result<Layout<'static>, Problem> {
+/// The layout that the row names, as the program's option does, with its name. Without one it is `line`.
+fn layout_of(case: Case<'_>) -> Result<(&'static str, Layout<'static>), Problem> {
     match case.row.one("indent")? {
-        None => Ok(Layout::OneLine),
+        None => Ok(("line", Layout::OneLine)),
         Some(field) => layout_named(field),
     }
 }
 
 /// The layout of this name.
-fn layout_named(field: Field<'_>) -> Result<Layout<'static>, Problem> {
+fn layout_named(field: Field<'_>) -> Result<(&'static str, Layout<'static>), Problem> {
     for (name, layout) in layouts() {
         if name == field.value {
-            return Ok(layout);
+            return Ok((name, layout));
         }
     }
     Err(field.problem("no layout has this name"))

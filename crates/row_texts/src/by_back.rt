@@ -3,8 +3,7 @@
 use crate::asked::Asked;
 use crate::checks::{Checks, Texts};
 use crate::pair::Pair;
-use crate::words::push_refusal;
-use checker_texts::Refusal;
+use crate::told::Told;
 use row_files::{Case, Lines, Problem, Tally, Way, compare};
 use std::alloc::Global;
 
@@ -17,10 +16,12 @@ pub(crate) fn by_back<C: Checks>(
     texts: Texts<'_>,
     tally: &mut Tally,
 ) -> Result<(), Problem> {
-    let mut pairs = Vec::new(alloc);
-    match checks.push_pairs(alloc, texts, &mut pairs) {
-        Ok(()) => from_each(alloc, checks, case, way, texts.asked, &pairs, tally),
-        Err(refusal) => compare_refusal(case, way, &refusal, tally),
+    let mut told = Told::new(alloc, texts.asked);
+    checks.judge(alloc, texts, &mut told);
+    if told.is_written() {
+        from_each(alloc, checks, case, way, texts.asked, &told.pairs, tally)
+    } else {
+        told.compare(case, way, tally)
     }
 }
 
@@ -39,6 +40,7 @@ fn from_each<C: Checks>(
         let texts = Texts {
             schemas: schemas.as_slice(),
             document: from.document.as_str(),
+            behind: &[],
             asked,
         };
         let way = Way {
@@ -61,10 +63,12 @@ fn back_from<C: Checks>(
     pairs: &[Pair],
     tally: &mut Tally,
 ) -> Result<(), Problem> {
-    let mut again = Vec::new(alloc);
-    match checks.push_pairs(alloc, texts, &mut again) {
-        Ok(()) => compare_each(alloc, case, way, pairs, &again, tally),
-        Err(refusal) => compare_refusal(case, way, &refusal, tally),
+    let mut told = Told::new(alloc, texts.asked);
+    checks.judge(alloc, texts, &mut told);
+    if told.is_written() {
+        compare_each(alloc, case, way, pairs, &told.pairs, tally)
+    } else {
+        told.compare(case, way, tally)
     }
 }
 
@@ -115,15 +119,4 @@ fn compare_written(
         .text
         .show_between(&pair.schema, &"\n", &pair.document);
     compare(case, Way { call, ..way }, tally)
-}
-
-/// Tells that a pair is refused, where the row wants it accepted.
-fn compare_refusal(
-    case: Case<'_>,
-    way: Way<'_>,
-    refusal: &Refusal,
-    tally: &mut Tally,
-) -> Result<(), Problem> {
-    push_refusal(refusal, &mut tally.answer);
-    compare(case, way, tally)
 }

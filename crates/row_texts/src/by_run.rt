@@ -1,9 +1,12 @@
 //! Rows that are judged by `run`, over readers and a writer that pass on few bytes a call, and that end.
 
-use crate::asked::asked_of;
+use crate::asked::{Asked, asked_of};
 use crate::checks::Checks;
-use row_files::{Case, Lines, Plan, Problem, Tally, Way, compare_cut, says};
-use std::alloc::Global;
+use crate::devices::{failed_reader, push_end, readers};
+use row_files::{
+    Answer, Case, Lines, Plan, Problem, Tally, Way, compare_cut, device, reader, says,
+};
+use std::alloc::{AllocError, Global};
 
 /// Judges the row by `run`, by each of its plans.
 pub(crate) fn by_run<C: Checks>(
@@ -83,6 +86,26 @@ fn by_plan<C: Checks>(
     tally: &mut Tally,
 ) -> Result<(), Problem> {
     let asked = asked_of(case, way)?;
-    checks.run_by(alloc, &case.given.schemas, way, asked, &mut tally.answer)?;
+    let schemas = &case.given.schemas;
+    run_by(alloc, checks, schemas, way, asked, &mut tally.answer)?;
     compare_cut(alloc, case, way, tally)
+}
+
+/// Runs by the way's plan, and adds the output and the status of that.
+fn run_by<C: Checks>(
+    alloc: Global,
+    checks: &C,
+    schemas: &[Vec<u8>],
+    way: Way<'_>,
+    asked: Asked,
+    told: &mut Answer,
+) -> Result<(), AllocError> {
+    let plan = way.plan;
+    let mut document = reader(way.document, plan, schemas.len().saturating_add(1));
+    let mut schemas = readers(alloc, schemas, plan)?;
+    let mut writer = device(&mut told.written, plan, plan.write);
+    let answer = checks.run(alloc, &mut schemas, &mut document, asked, &mut writer);
+    let failed = (failed_reader(&schemas, document.failed()), writer.failed());
+    push_end(answer, failed, &mut told.status);
+    Ok(())
 }

@@ -1,52 +1,44 @@
 //! How a checker answers.
 
+ghost use Rattle.std.specs.Prelude.{◌≡◌, false};
+ghost use Rattle.graphql_names.specs.Device.{device_failed};
+ghost use Rattle.checker_answers.specs.Devices.{HaveNotFailed};
+
 use crate::asked::Asked;
-use crate::pair::Pair;
-use checker_texts::Refusal;
-use row_files::{Answer, Way};
-use std::alloc::{AllocError, Global};
+use crate::told::Told;
+use checker_answers::{CheckError, Outcome, RunFault, Verdict};
+use graphql_names::{Cut, Device};
+use std::alloc::Global;
 
 /// The texts that a call is given, and on which terms they are judged.
 #[derive(Clone, Copy)]
 pub struct Texts<'a> {
     pub schemas: &'a [&'a str],
     pub document: &'a str,
+    /// Further documents over the same schema.
+    pub behind: &'a [&'a str],
     pub asked: Asked,
 }
 
 /// How a checker answers to texts.
 pub trait Checks {
-    /// Adds the answer of `check_texts`.
-    fn push_check_texts(&self, alloc: Global, texts: Texts<'_>, answer: &mut Answer);
+    /// The answer of `check_texts`.
+    fn check_texts(&self, alloc: Global, texts: Texts<'_>) -> Result<Verdict, CheckError>;
 
-    /// Adds the answer of `Checker::new`, `add_schema`, `finish`, `check`, and of both `written` or of what the document lends.
-    fn push_calls(&self, alloc: Global, texts: Texts<'_>, answer: &mut Answer);
+    /// Adds the answers of `Checker::new`, `add_schema`, `finish`, then of `check` to each further document, while what it gives
+    /// of the first document is kept, and last what that tells: both `written`, or what it lends.
+    fn judge(&self, alloc: Global, texts: Texts<'_>, told: &mut Told);
 
-    /// Adds the answers of one schema to the documents, in order, and that to the first once more.
-    fn push_series(
+    /// The answer of `run`.
+    fn run(
         &self,
         alloc: Global,
-        schemas: &[&str],
-        documents: &[&str],
+        schemas: &mut [Device<Cut<&[u8]>>],
+        document: &mut Device<Cut<&[u8]>>,
         asked: Asked,
-        answer: &mut Answer,
-    );
-
-    /// Adds what the pair is written as under each layout, by a new checker, if it is accepted.
-    fn push_pairs(
-        &self,
-        alloc: Global,
-        texts: Texts<'_>,
-        pairs: &mut Vec<Pair>,
-    ) -> Result<(), Refusal>;
-
-    /// Runs by the way's plan, and adds the output and the status of that.
-    fn run_by(
-        &self,
-        alloc: Global,
-        schemas: &[Vec<u8>],
-        way: Way<'_>,
-        asked: Asked,
-        told: &mut Answer,
-    ) -> Result<(), AllocError>;
+        out: &mut Device<Cut<&mut Vec<u8>>>,
+    ) -> Result<Outcome, RunFault>
+        requires schemas_run { HaveNotFailed schemas.old }
+        requires document_runs { device_failed document.old ≡ false }
+        requires out_runs { device_failed out.old ≡ false };
 }

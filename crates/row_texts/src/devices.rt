@@ -9,7 +9,7 @@ use row_files::{Lines, Plan, reader};
 use std::alloc::{AllocError, Global};
 
 /// The readers of the schema texts.
-pub fn readers<'a>(
+pub(crate) fn readers<'a>(
     alloc: Global,
     schemas: &'a [Vec<u8>],
     plan: Plan,
@@ -25,7 +25,7 @@ pub fn readers<'a>(
 }
 
 /// The number of the first reader that has failed, or 0. The document's reader is the last.
-pub fn failed_reader(schemas: &[Device<Cut<&[u8]>>], document: bool) -> usize {
+pub(crate) fn failed_reader(schemas: &[Device<Cut<&[u8]>>], document: bool) -> usize {
     for (index, schema) in schemas.iter().enumerate() {
         if schema.failed() {
             return index.saturating_add(1);
@@ -39,7 +39,11 @@ pub fn failed_reader(schemas: &[Device<Cut<&[u8]>>], document: bool) -> usize {
 
 /// Adds how a run ends: its status in words, or that another device has failed than its answer tells. Failed have the reader of
 /// this number, if it is not 0, and the writer, if that is said.
-pub fn push_end(answer: Result<Outcome, RunFault>, failed: (usize, bool), words: &mut Lines) {
+pub(crate) fn push_end(
+    answer: Result<Outcome, RunFault>,
+    failed: (usize, bool),
+    words: &mut Lines,
+) {
     let told = told_failures(answer);
     if told.0 != failed.0 || told.1 != failed.1 {
         words.put("another device has failed than the answer tells");

@@ -1,14 +1,38 @@
 //! Rows of schema texts and documents.
 
-use crate::asked::{asked_of, push_texts};
+use crate::asked::{asked_of, names_of, push_texts};
 use crate::by_back::by_back;
 use crate::by_run::by_run;
 use crate::checks::{Checks, Texts};
-use row_files::{Case, Problem, Tally, Way, compare, text_of};
+use crate::told::Told;
+use crate::words::push_verdict;
+use row_files::{Calls, Case, Problem, Tally, Way, compare, judge_files, text_of};
 use std::alloc::Global;
+use std::process::ExitCode;
+
+/// Judges the files that the words name by the calls of this checker, and prints what there is to tell, as `judge_files` does.
+pub fn judge_texts<C: Checks>(rt: &HostRuntime, checks: &C) -> ExitCode {
+    judge_files(rt, &Checking { checks })
+}
+
+/// The calls of a checker.
+#[derive(Clone, Copy)]
+struct Checking<'a, C> {
+    checks: &'a C,
+}
+
+impl<C: Checks> Calls for Checking<'_, C> {
+    fn names_of(&self, call: &str) -> Option<&'static [&'static str]> {
+        names_of(call)
+    }
+
+    fn judge(&self, alloc: Global, case: Case<'_>, tally: &mut Tally) -> Result<(), Problem> {
+        by_texts(alloc, self.checks, case, tally)
+    }
+}
 
 /// Judges the row under each of its limits.
-pub fn by_texts<C: Checks>(
+fn by_texts<C: Checks>(
     alloc: Global,
     checks: &C,
     case: Case<'_>,
@@ -36,10 +60,30 @@ fn by_series<C: Checks>(
     push_texts(case, &case.given.schemas, &mut schemas)?;
     let mut documents = Vec::new(alloc);
     push_texts(case, &case.given.documents, &mut documents)?;
+    by_listed(alloc, checks, case, nesting, &schemas, &documents, tally)
+}
+
+/// Judges the answers of the schema of these texts to these documents.
+fn by_listed<C: Checks>(
+    alloc: Global,
+    checks: &C,
+    case: Case<'_>,
+    nesting: usize,
+    schemas: &[&str],
+    documents: &[&str],
+    tally: &mut Tally,
+) -> Result<(), Problem> {
+    let Some(document) = documents.first() else {
+        return Err(case.row.head.problem("a series has documents"));
+    };
     let way = Way::whole(case.call, &[], nesting);
-    let asked = asked_of(case, way)?;
-    checks.push_series(alloc, &schemas, &documents, asked, &mut tally.answer);
-    compare(case, way, tally)
+    let texts = Texts {
+        schemas,
+        document,
+        behind: documents,
+        asked: asked_of(case, way)?,
+    };
+    by_judge(alloc, checks, case, way, texts, tally)
 }
 
 /// Judges the row: each of its documents over its schema texts.
@@ -107,14 +151,15 @@ fn judge_call<C: Checks>(
     let texts = Texts {
         schemas: schemas.as_slice(),
         document,
+        behind: &[],
         asked,
     };
-    judge_texts(alloc, checks, case, way, texts, tally)
+    by_whole(alloc, checks, case, way, texts, tally)
 }
 
 /// Judges the answer of `check_texts`, the one call by call, or the road back. `check_texts` writes no texts: of those
 /// accepted the row's first line is wanted.
-fn judge_texts<C: Checks>(
+fn by_whole<C: Checks>(
     alloc: Global,
     checks: &C,
     case: Case<'_>,
@@ -123,17 +168,28 @@ fn judge_texts<C: Checks>(
     tally: &mut Tally,
 ) -> Result<(), Problem> {
     match way.call {
-        "calls" | "lent" => {
-            checks.push_calls(alloc, texts, &mut tally.answer);
-            compare(case, way, tally)
-        }
+        "calls" | "lent" => by_judge(alloc, checks, case, way, texts, tally),
         "back" => by_back(alloc, checks, case, way, texts, tally),
         _ => {
-            checks.push_check_texts(alloc, texts, &mut tally.answer);
+            push_verdict(&checks.check_texts(alloc, texts), &mut tally.answer);
             let out = first_line(case.out);
             compare(Case { out, ..case }, way, tally)
         }
     }
+}
+
+/// Judges the answer call by call.
+fn by_judge<C: Checks>(
+    alloc: Global,
+    checks: &C,
+    case: Case<'_>,
+    way: Way<'_>,
+    texts: Texts<'_>,
+    tally: &mut Tally,
+) -> Result<(), Problem> {
+    let mut told = Told::new(alloc, texts.asked);
+    checks.judge(alloc, texts, &mut told);
+    told.compare(case, way, tally)
 }
 
 /// Judges the road back, where the row wants the pair accepted.

@@ -8,7 +8,7 @@ use rule_document_ground::{FieldSelection, laws};
 use std::hash::{DefaultHasher, Hash, Hasher};
 
 /// Adds a line for each field of the sets of its operations, and then of its fragments.
-pub fn push_lent(document: &ExecutableDocument, answer: &mut Answer) {
+pub(crate) fn push_lent(document: &ExecutableDocument, answer: &mut Answer) {
     for operation in document.operations.iter() {
         push_set(&operation.content().selection_set, answer);
     }

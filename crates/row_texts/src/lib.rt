@@ -1,7 +1,7 @@
 //! Rows of schema texts and documents that a checker judges: on which terms a row wants its texts judged, in which ways they go
 //! to the checker, and what its answers are in words.
 //!
-//! For the program of rows over the checker, which says how each call answers (`Checks`): `by_texts` judges a row by these.
+//! For the program of rows over the checker, which says how each call answers (`Checks`): `judge_texts` judges its files by these.
 //! Whatever needs no call of the checker stands here, so that it is proved beside the checker and not after it.
 //!
 //! Begin with `checks.rt` and `judging.rt`.
@@ -15,12 +15,10 @@ mod devices;
 mod judging;
 mod lent;
 mod pair;
+mod told;
 mod words;
 
-pub use asked::{Asked, layouts, names_of};
+pub use asked::{Asked, layouts};
 pub use checks::{Checks, Texts};
-pub use devices::{failed_reader, push_end, readers};
-pub use judging::by_texts;
-pub use lent::push_lent;
-pub use pair::Pair;
-pub use words::{push_refusal, push_refused, push_text};
+pub use judging::judge_texts;
+pub use told::Told;

@@ -1,10 +1,12 @@
 //! What an accepted pair is written as.
 
+use std::alloc::AllocError;
+
 /// What an accepted pair is written as, under the layout of this name.
-pub struct Pair {
-    pub name: &'static str,
-    pub schema: String,
-    pub document: String,
+pub(crate) struct Pair {
+    pub(crate) name: &'static str,
+    pub(crate) schema: String,
+    pub(crate) document: String,
 }
 
 impl Drop for Pair {
@@ -15,4 +17,19 @@ impl Drop for Pair {
             document: _,
         } = self;
     }
+}
+
+/// Adds what a pair is written as, where memory serves.
+pub(crate) fn push_pair(
+    name: &'static str,
+    schema: Result<String, AllocError>,
+    document: Result<String, AllocError>,
+    pairs: &mut Vec<Pair>,
+) -> Result<(), AllocError> {
+    pairs.push(Pair {
+        name,
+        schema: schema?,
+        document: document?,
+    })?;
+    Ok(())
 }

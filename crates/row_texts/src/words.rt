@@ -1,5 +1,6 @@
 //! Answers in words.
 
+use checker_answers::{CheckError, Verdict};
 use checker_layouts::Layout;
 use checker_texts::Refusal;
 use graphql_faults::DiagnosticList;
@@ -8,7 +9,11 @@ use row_files::{Answer, Lines};
 use std::alloc::AllocError;
 
 /// Adds a text that is written under the layout, as a line where it is one.
-pub fn push_text(written: Result<String, AllocError>, layout: Layout<'_>, answer: &mut Answer) {
+pub(crate) fn push_text(
+    written: Result<String, AllocError>,
+    layout: Layout<'_>,
+    answer: &mut Answer,
+) {
     let end = match layout {
         Layout::OneLine => "\n",
         Layout::Indented(_) => "",
@@ -19,8 +24,17 @@ pub fn push_text(written: Result<String, AllocError>, layout: Layout<'_>, answer
     }
 }
 
+/// Adds the answer of `check_texts`.
+pub(crate) fn push_verdict(verdict: &Result<Verdict, CheckError>, answer: &mut Answer) {
+    match verdict {
+        Ok(Verdict::Accepted) => answer.show("0", &"accepted\n"),
+        Ok(Verdict::Refused(list)) => push_refused(list, answer),
+        Err(CheckError::Memory) => answer.status.put("4 out of memory"),
+    }
+}
+
 /// Adds the answer of a refusal.
-pub fn push_refusal(refusal: &Refusal, answer: &mut Answer) {
+pub(crate) fn push_refusal(refusal: &Refusal, answer: &mut Answer) {
     match refusal {
         Refusal::Faults(list) => push_refused(list, answer),
         Refusal::Memory => answer.status.put("4 out of memory"),
@@ -29,7 +43,7 @@ pub fn push_refusal(refusal: &Refusal, answer: &mut Answer) {
 }
 
 /// Adds the answer that tells these faults.
-pub fn push_refused(list: &DiagnosticList, answer: &mut Answer) {
+fn push_refused(list: &DiagnosticList, answer: &mut Answer) {
     answer.text.put("refused\n");
     for (place, details) in list.iter() {
         push_place(*place, &mut answer.text);

@@ -43,25 +43,6 @@ module _ {X : Type 0} (test : X → Bool) where
       ]
       by false e k rest = let p = rest k in (Contains-rest y xs x p.0, p.1)
 
-  -- ---- one that passes
-
-  pub any_in : (xs : List X) (x : X) → Contains xs x → test x ≡ true → list_any test xs ≡ true
-  any_in [] x c t = absurd (not_in_nil x c)
-  any_in (y ∷ xs) x c t = by (test y) refl (Contains-cons y xs x c) (λ r. any_in xs x r t)
-    where
-      by : (b : Bool) → test y ≡ b → (y ≡ x) ⊎ Contains xs x → (Contains xs x → list_any test xs ≡ true) → (b || list_any test xs) ≡ true
-      by true e k rest = refl
-      by false e (inl i) rest = absurd (true≢false (sym t ∙ ap test (sym i) ∙ e))
-      by false e (inr r) rest = rest r
-
-  pub any_of : (xs : List X) → list_any test xs ≡ true → (x : X) × (Contains xs x × (test x ≡ true))
-  any_of [] e = absurd (true≢false (sym e))
-  any_of (y ∷ xs) e = by (test y) refl e (any_of xs)
-    where
-      by : (b : Bool) → test y ≡ b → (b || list_any test xs) ≡ true → (list_any test xs ≡ true → (x : X) × (Contains xs x × (test x ≡ true))) → (x : X) × (Contains (y ∷ xs) x × (test x ≡ true))
-      by true i h rest = (y, (Contains-first y xs y refl, i))
-      by false i h rest = let p = rest h in (p.0, (Contains-rest y xs p.0 p.1.0, p.1.1))
-
 -- all of a list, and a part of a part
 
 pub all_pass : {X : Type 0} (xs : List X) → xs ≡ filter (λ _. true) xs

@@ -1,9 +1,12 @@
 pub mod Filing
+pub mod Counts
+pub mod Parts
 pub mod Sharing
 pub mod Telling
 pub mod Shaped
 pub mod ShapesTold
 pub mod Lists
 pub mod Sets
+pub mod Under
 -- For the layer above.
 pub use Rattle.rule_document_ground.proofs as in_ground

@@ -1,11 +1,12 @@
 -- Sets of selections by what they say: those of a group, each once.
-use Rattle.std.proofs.Common.{◌≡◌, ◌∙◌, ℕ, ◌+◌, ◌<◌, Bool, true, false, List, [], ◌∷◌, ◌++◌, length, get_or, take, Contains, refl, sym, ap, subst, inl, inr, if◌then◌else◌, true≢false}
+use Rattle.std.proofs.Common.{◌≡◌, ◌⊎◌, ◌∙◌, ℕ, ◌+◌, ◌<◌, Bool, true, false, List, [], ◌∷◌, ◌++◌, length, get_or, take, Contains, refl, sym, ap, subst, append-nil, inl, inr, if◌then◌else◌, true≢false}
 use Rattle.std.specs.List.{list_any}
 use Rattle.std.proofs.lemmas.List.{map-append}
-use Rattle.std.proofs.lemmas.List.Elements.{Contains-append_left, Contains-append_right, Contains-append_cases}
+use Rattle.std.proofs.lemmas.List.Elements.{Contains-append_left, Contains-append_cases}
 use Rattle.indexmap.specs.IndexSet.{insert_key}
 use Rattle.graphql_names.specs.Placed.{Place}
-use Rattle.rule_definitions.proofs.Lists.{not_in_nil, only, Contains-first}
+use Rattle.rule_definitions.proofs.Lists.{not_in_nil, only}
+use Rattle.rule_merging_laws.specs.Contents.{PlainSet}
 use Rattle.document_typed_selections.specs.TypedTree.{TypedSelection, TypedField, TypedSpread, TypedInline, TypedSet, typed_set, TypedSelections, no_typed, typed_then, typed_set_tree, holds_none, unplaced_typed_selection, unplaced_typed_set, unplaced_typed_selections}
 use Rattle.rule_field_groups.specs.declared.below.SelectedSet.{SelectedSet}
 use Rattle.document_typed_selections.proofs.TypedEquality.{set_eq-Decides}
@@ -16,7 +17,7 @@ use Rattle.rule_document_definitions.proofs.Unplaced.{contains_map}
 use Rattle.rule_document_ground.specs.Fields.{field_of, fields_of}
 use Rattle.rule_document_ground.specs.declared.field_selection.FieldSelection.{FieldSelection}
 use Rattle.rule_field_groups.specs.contracts.below.SelectedSetPartialEq.TheImpl as selected
-use Rattle.rule_field_groups.specs.Below.{meant_at, meant_sets, plain_sets, IsBare, AreSetsOf, AddsSetOf}
+use Rattle.rule_field_groups.specs.Below.{meant_at, meant_sets, plain_sets, IsBare, AreSetsOf, NotesSet}
 use Rattle.rule_field_groups.proofs.Lists.{any_among, in_last, taken_more}
 
 -- ---- what a typed set without places means
@@ -74,59 +75,59 @@ no_sets = record { within = λ s c. not_in_nil s c; covers = λ f c. not_in_nil 
 pub sets_begun : (sets : List SelectedSet) → sets ≡ [] → AreSetsOf [] (meant_sets sets)
 sets_begun sets e = subst (λ l. AreSetsOf [] (meant_sets l)) (sym e) no_sets
 
--- the set of a field, behind others of a group
-module _ (field : StandingField Place) where
-  of_more : (group : List (StandingField Place)) (sets : List (MeantSet Place)) → AreSetsOf group sets → (s : MeantSet Place) → Contains sets s → (f : StandingField Place) × (Contains (group ++ field ∷ []) f × (f.set ≡ s))
-  of_more group sets so_far s c = let f = so_far.within s c in (f.0, (Contains-append_left group (field ∷ []) f.0 f.1.0, f.1.1))
+-- what is among sets is among more of them
+pub among_more : {field : StandingField Place} (old new : List (MeantSet Place)) → NotesSet field old new → (v : PlainSet) → Contains (plain_sets old) v → Contains (plain_sets new) v
+among_more old new notes v c =
+    subst (λ l. Contains (plain_sets l) v) (sym notes.is) (subst (λ l. Contains l v) (sym (map-append unplaced_set old notes.added)) (Contains-append_left (plain_sets old) (plain_sets notes.added) v c))
 
+-- a set that is equal to one of them says the same as one of them
+pub said_there : (others : List SelectedSet) (set : SelectedSet) → list_any (set_key_eq set) others ≡ true → {v : PlainSet} → unplaced_set (meant_at set) ≡ v → Contains (plain_sets (meant_sets others)) v
+said_there others set there says =
+    let y = any_among (set_key_eq set) others there in
+    subst (Contains (plain_sets (meant_sets others))) (sym (same_sets set y.0 y.1.1) ∙ says) (contains_map unplaced_set (meant_sets others) (meant_at y.0) (contains_map meant_at others y.0 y.1.0))
+
+-- ---- the set of a field
+
+module _ (field : StandingField Place) where
   -- that has no selections
-  pub bare_more : (sets : List (MeantSet Place)) → IsBare field.set → AddsSetOf field sets sets
-  bare_more sets bare group so_far = record {
-    within = of_more group sets so_far;
+  pub bare_noted : (sets : List (MeantSet Place)) → IsBare field.set → NotesSet field sets sets
+  bare_noted sets bare = record { added = []; is = sym (append-nil sets); its = λ s c. not_in_nil s c; there = inl bare }
+
+  -- that is put among others, or says the same as one of them
+  pub set_noted : (old new : List SelectedSet) (set : SelectedSet) → meant_at set ≡ field.set → new ≡ insert_key set_key_eq old set → NotesSet field (meant_sets old) (meant_sets new)
+  set_noted old new set same is = subst (λ l. NotesSet field (meant_sets old) (meant_sets l)) (sym is) (by (list_any (set_key_eq set) old) refl)
+    where
+      by : (b : Bool) → list_any (set_key_eq set) old ≡ b → NotesSet field (meant_sets old) (meant_sets (if b then old else old ++ set ∷ []))
+      by true i = record {
+        added = [];
+        is = sym (append-nil (meant_sets old));
+        its = λ s c. not_in_nil s c;
+        there = inr (said_there old set i (ap unplaced_set same));
+      }
+      by false i = record {
+        added = meant_at set ∷ [];
+        is = map-append meant_at old (set ∷ []);
+        its = λ s c. sym same ∙ sym (only (meant_at set) s c);
+        there = inr (subst (Contains (plain_sets (meant_sets (old ++ set ∷ [])))) (ap unplaced_set same)
+            (contains_map unplaced_set (meant_sets (old ++ set ∷ [])) (meant_at set) (contains_map meant_at (old ++ set ∷ []) set (in_last old set))));
+      }
+
+  -- with it the sets are those of one field more
+  sets_more : (group : List (StandingField Place)) (old new : List (MeantSet Place)) → NotesSet field old new → AreSetsOf group old → AreSetsOf (group ++ field ∷ []) new
+  sets_more group old new notes so_far = record {
+    within = λ s c. elim (Contains-append_cases old notes.added s (subst (λ l. Contains l s) notes.is c)) [
+      | inl a ↦ let f = so_far.within s a in (f.0, (Contains-append_left group (field ∷ []) f.0 f.1.0, f.1.1))
+      | inr b ↦ (field, (in_last group field, notes.its s b))
+    ];
     covers = λ f c. elim (Contains-append_cases group (field ∷ []) f c) [
-      | inl a ↦ so_far.covers f a
-      | inr r ↦ inl (subst (λ (x : StandingField Place). IsBare x.set) (sym (only field f r)) bare)
+      | inl a ↦ elim (so_far.covers f a) [ inl bare ↦ inl bare | inr there ↦ inr (among_more old new notes (unplaced_set f.set) there) ]
+      | inr r ↦ subst (λ (x : StandingField Place). IsBare x.set ⊎ Contains (plain_sets new) (unplaced_set x.set)) (sym (only field f r)) notes.there
     ];
   }
 
-  -- that is put among them, or says the same as one of them
-  pub sets_more : (old new : List SelectedSet) (set : SelectedSet) → meant_at set ≡ field.set → new ≡ insert_key set_key_eq old set → AddsSetOf field (meant_sets old) (meant_sets new)
-  sets_more old new set same is group so_far = subst (λ l. AreSetsOf (group ++ field ∷ []) (meant_sets l)) (sym is) (by (list_any (set_key_eq set) old) refl)
-    where
-      said : (f : StandingField Place) → Contains (field ∷ []) f → unplaced_set (meant_at set) ≡ unplaced_set f.set
-      said f r = ap unplaced_set same ∙ ap (λ (x : StandingField Place). unplaced_set x.set) (sym (only field f r))
-
-      by : (b : Bool) → list_any (set_key_eq set) old ≡ b → AreSetsOf (group ++ field ∷ []) (meant_sets (if b then old else old ++ set ∷ []))
-      by true i =
-          let y = any_among (set_key_eq set) old i in
-          record {
-            within = of_more group (meant_sets old) so_far;
-            covers = λ f c. elim (Contains-append_cases group (field ∷ []) f c) [
-              | inl a ↦ so_far.covers f a
-              | inr r ↦ inr (subst (Contains (plain_sets (meant_sets old))) (sym (same_sets set y.0 y.1.1) ∙ said f r)
-                  (contains_map unplaced_set (meant_sets old) (meant_at y.0) (contains_map meant_at old y.0 y.1.0)))
-            ];
-          }
-      by false i = record {
-        within = λ s c. elim (Contains-append_cases (meant_sets old) (meant_at set ∷ []) s (subst (λ l. Contains l s) (map-append meant_at old (set ∷ [])) c)) [
-          | inl a ↦ of_more group (meant_sets old) so_far s a
-          | inr r ↦ (field, (in_last group field, sym same ∙ sym (only (meant_at set) s r)))
-        ];
-        covers = λ f c. elim (Contains-append_cases group (field ∷ []) f c) [
-          | inl a ↦ elim (so_far.covers f a) [
-            | inl bare ↦ inl bare
-            | inr there ↦ inr (subst (λ l. Contains l (unplaced_set f.set)) (sym (all_plain old)) (Contains-append_left (plain_sets (meant_sets old)) (unplaced_set (meant_at set) ∷ []) (unplaced_set f.set) there))
-          ]
-          | inr r ↦ inr (subst (λ l. Contains l (unplaced_set f.set)) (sym (all_plain old))
-              (Contains-append_right (plain_sets (meant_sets old)) (unplaced_set (meant_at set) ∷ []) (unplaced_set f.set) (Contains-first (unplaced_set (meant_at set)) [] (unplaced_set f.set) (said f r))))
-        ];
-      }
-        where
-          all_plain : (xs : List SelectedSet) → plain_sets (meant_sets (xs ++ set ∷ [])) ≡ plain_sets (meant_sets xs) ++ unplaced_set (meant_at set) ∷ []
-          all_plain xs = ap plain_sets (map-append meant_at xs (set ∷ [])) ∙ map-append unplaced_set (meant_sets xs) (meant_at set ∷ [])
-
 -- field by field
 pub sets_step : (group : List FieldSelection) (old new : List SelectedSet) (i : ℕ) (x : FieldSelection) → i < length group → x ≡ get_or group i x
-    → AddsSetOf (field_of x) (meant_sets old) (meant_sets new) → AreSetsOf (fields_of (take i group)) (meant_sets old) → AreSetsOf (fields_of (take (i + 1) group)) (meant_sets new)
-sets_step group old new i x h e adds so_far =
-    subst (λ l. AreSetsOf l (meant_sets new)) (sym (ap fields_of (taken_more group i x h e) ∙ map-append field_of (take i group) (x ∷ []))) (adds (fields_of (take i group)) so_far)
+    → NotesSet (field_of x) (meant_sets old) (meant_sets new) → AreSetsOf (fields_of (take i group)) (meant_sets old) → AreSetsOf (fields_of (take (i + 1) group)) (meant_sets new)
+sets_step group old new i x h e notes so_far =
+    subst (λ l. AreSetsOf l (meant_sets new)) (sym (ap fields_of (taken_more group i x h e) ∙ map-append field_of (take i group) (x ∷ [])))
+    (sets_more (field_of x) (fields_of (take i group)) (meant_sets old) (meant_sets new) notes so_far)

@@ -1,26 +1,32 @@
--- Groups by keys, and by keys and parents, of field selections.
-use Rattle.std.proofs.Common.{◌≡◌, ◌∙◌, ℕ, ◌+◌, ◌≤◌, Bool, true, false, ◌&&◌, ◌||◌, not, if◌then◌else◌, List, [], ◌∷◌, ◌++◌, map, length, Contains, refl, sym, ap, subst, inl, inr, filter, true≢false, arith}
-use Rattle.std.specs.List.{list_any, sum}
+-- Groups by keys, and parts of them by parents, of field selections.
+use Rattle.std.proofs.Common.{◌≡◌, ◌⊎◌, ◌∙◌, ℕ, ◌+◌, ◌≤◌, Bool, true, false, not, List, [], ◌∷◌, ◌++◌, map, flat_map, length, Vec, Global, Contains, refl, sym, ap, subst, inl, inr, filter, true≢false, arith}
+use Rattle.std.specs.List.{sum}
 use Rattle.std.specs.Str.{bytes_eq}
+use Rattle.std.proofs.lemmas.List.{map-append}
 use Rattle.std.proofs.lemmas.List.Elements.{Contains-append_left, Contains-append_right, Contains-append_cases}
 use Rattle.std.proofs.lemmas.List.Sums.{sum_by-cons}
 use Rattle.std.proofs.lemmas.Slice.Eq.{bytes_eq-Decides}
-use Rattle.indexmap.specs.IndexSet.{insert_key}
-use Rattle.graphql_names.specs.NameValue.{NameValue}
 use Rattle.graphql_names.specs.Placed.{Place}
-use Rattle.schema_components.proofs.Places.{not_in_nil, only, Contains-first}
+use Rattle.schema_components.proofs.Places.{not_in_nil, only, Contains-cons, Contains-first}
 use Rattle.rule_definitions.specs.Judged.{Judged}
+use Rattle.rule_document_definitions.specs.Groups.{AreGroups}
 use Rattle.rule_document_definitions.specs.Selected.{StandingField, response_key}
-use Rattle.rule_document_definitions.specs.Merging.{IsAbstract}
 use Rattle.rule_document_definitions.proofs.Unplaced.{contains_map, contains_unmap}
 use Rattle.rule_document_ground.specs.Fields.{field_of, fields_of}
 use Rattle.rule_document_ground.specs.declared.field_selection.FieldSelection.{FieldSelection}
 use Rattle.rule_merging_laws.specs.Sharing.{AreKeyGroups, AreShareGroups, IsOn}
+use Rattle.rule_merging_laws.proofs.SharingFacts.{key_groups, share_groups}
 use Rattle.rule_field_groups.specs.Compared.{compared}
 use Rattle.rule_field_groups.specs.Kinds.{is_abstract}
-use Rattle.rule_field_groups.specs.declared.pass.Pass.TheVariants.{Selections}
-use Rattle.rule_field_groups.specs.Grouped.{key_of, parent_of, has, is_own_parent, is_on_one, ArePartsOf, AreFiled, AreParentGroups, IsOnOne}
-use Rattle.rule_field_groups.proofs.Filing.{in_filter, of_filter, any_in, any_of, all_pass, part_of_part}
+use Rattle.rule_field_groups.specs.Passes.{Together}
+use Rattle.rule_field_groups.specs.declared.pass.Pass.{Pass}
+use Rattle.rule_field_groups.specs.declared.pass.Pass.TheVariants.{Shapes, Selections}
+use Rattle.rule_field_groups.specs.declared.groups.KeyGroup.{KeyGroup}
+use Rattle.rule_field_groups.specs.Grouped.{key_of, parent_of, has, IsPartOf, ArePartsOf, AreFiled, AreParentGroups, IsOnOne}
+use Rattle.rule_field_groups.specs.KeyGroups.{is_shared, own_lists, with_own, parts_of, parts_in, lists_in_group, compared_in, ArePartsFor}
+use Rattle.rule_field_groups.proofs.Counts.{sums, flat_push, split_length}
+use Rattle.rule_field_groups.proofs.Filing.{in_filter, of_filter, all_pass, part_of_part}
+use Rattle.rule_field_groups.proofs.Parts.{part_of_shared, part_of_own, of_parts}
 use Rattle.rule_field_groups.proofs.Shaped.{is_abstract_so, so_is_abstract}
 
 named_so : (n m : List ℕ) → bytes_eq n m ≡ true → n ≡ m
@@ -56,188 +62,139 @@ are_key_groups list groups filed = record {
       );
 }
 
--- ---- what is noted
-
--- one more name
-abbrev same_name : NameValue → NameValue → Bool
-same_name a b = bytes_eq a.text b.text
-
-any_push : {X : Type 0} (test : X → Bool) (xs : List X) (x : X) → list_any test (xs ++ x ∷ []) ≡ (list_any test xs || test x)
-any_push test [] x = by (test x)
-  where
-    by : (b : Bool) → (b || false) ≡ b
-    by true = refl
-    by false = refl
-any_push test (y ∷ xs) x = ap (λ b. test y || b) (any_push test xs x) ∙ by (test y)
-  where
-    by : (b : Bool) → (b || (list_any test xs || test x)) ≡ ((b || list_any test xs) || test x)
-    by true = refl
-    by false = refl
-
-noted_more : (n : List ℕ) (ks : List NameValue) (k : NameValue) → list_any (λ (a : NameValue). bytes_eq n a.text) (insert_key same_name ks k) ≡ (list_any (λ (a : NameValue). bytes_eq n a.text) ks || bytes_eq n k.text)
-noted_more n ks k = by (list_any (same_name k) ks) refl
-  where
-    there : (b : Bool) → bytes_eq n k.text ≡ b → list_any (same_name k) ks ≡ true → list_any (λ (a : NameValue). bytes_eq n a.text) ks ≡ (list_any (λ (a : NameValue). bytes_eq n a.text) ks || b)
-    there true e h =
-        let is : list_any (λ (a : NameValue). bytes_eq n a.text) ks ≡ true = subst (λ m. list_any (λ (a : NameValue). bytes_eq m a.text) ks ≡ true) (sym (named_so n k.text e)) h in
-        is ∙ sym (ap (λ b. b || true) is)
-    there false e h = or_none (list_any (λ (a : NameValue). bytes_eq n a.text) ks)
-      where
-        or_none : (b : Bool) → b ≡ (b || false)
-        or_none true = refl
-        or_none false = refl
-
-    by : (b : Bool) → list_any (same_name k) ks ≡ b
-        → list_any (λ (a : NameValue). bytes_eq n a.text) (if b then ks else ks ++ k ∷ []) ≡ (list_any (λ (a : NameValue). bytes_eq n a.text) ks || bytes_eq n k.text)
-    by true h = there (bytes_eq n k.text) refl h
-    by false h = any_push (λ (a : NameValue). bytes_eq n a.text) ks k
-
 -- ---- by parents
 
--- none of a list of no length, one of any other
-pub none_in : {X : Type 0} (xs : List X) → length xs ≡ 0 → xs ≡ []
-none_in [] e = refl
-none_in (x ∷ xs) e = absurd (omega (arith, e))
-
-pub one_in : {X : Type 0} (xs : List X) → (length xs ≡ 0 → ⊥) → (x : X) × Contains xs x
-one_in [] e = absurd (e refl)
-one_in (x ∷ xs) e = (x, Contains-first x xs x refl)
-
 module _ (s : Judged) where
-  -- the type of a field is noted
-  pub noted_parent : (x : FieldSelection) (k : NameValue) → k.text ≡ parent_of x → is_abstract s (parent_of x) ≡ false → (ks new : List NameValue) → new ≡ insert_key same_name ks k
-      → (n : List ℕ) → list_any (λ (a : NameValue). bytes_eq n a.text) new ≡ (list_any (λ (a : NameValue). bytes_eq n a.text) ks || is_own_parent s n x)
-  noted_parent x k same e ks new is n =
-      ap (list_any (λ (a : NameValue). bytes_eq n a.text)) is ∙ noted_more n ks k
-      ∙ ap (λ b. list_any (λ (a : NameValue). bytes_eq n a.text) ks || b) (ap (bytes_eq n) same ∙ by (bytes_eq n (parent_of x)) ∙ ap (λ b. bytes_eq n (parent_of x) && not b) (sym e))
-    where
-      by : (b : Bool) → b ≡ (b && true)
-      by true = refl
-      by false = refl
+  module _ (list shared : List FieldSelection) (owns : List (List FieldSelection)) (is : shared ≡ filter (is_shared s) list)
+      (filed : AreFiled parent_of (filter (λ x. not (is_shared s x)) list) owns) where
+    in_shared : (y : FieldSelection) → Contains list y → is_shared s y ≡ true → Contains shared y
+    in_shared y c e = subst (λ l. Contains l y) (sym is) (in_filter (is_shared s) list y c e)
 
-  so_on_one : (n : List ℕ) (y : FieldSelection) → IsOnOne s n y → is_on_one s n y ≡ true
-  so_on_one n y (inl i) = ap (λ b. b || is_abstract s (parent_of y)) (so_named n (parent_of y) (sym i))
-  so_on_one n y (inr a) = by (bytes_eq n (parent_of y))
-    where
-      by : (b : Bool) → (b || is_abstract s (parent_of y)) ≡ true
-      by true = refl
-      by false = so_is_abstract s (parent_of y) a
+    of_shared : (y : FieldSelection) → Contains shared y → Contains list y × (is_shared s y ≡ true)
+    of_shared y c = of_filter (is_shared s) list y (subst (λ l. Contains l y) is c)
 
-  on_one_so : (n : List ℕ) (y : FieldSelection) → is_on_one s n y ≡ true → IsOnOne s n y
-  on_one_so n y e = by (bytes_eq n (parent_of y)) refl e
-    where
-      by : (b : Bool) → bytes_eq n (parent_of y) ≡ b → (b || is_abstract s (parent_of y)) ≡ true → IsOnOne s n y
-      by true i h = inl (sym (named_so n (parent_of y) i))
-      by false i h = inr (is_abstract_so s (parent_of y) h)
+    abbrev objects : List FieldSelection
+    objects = filter (λ x. not (is_shared s x)) list
 
-  own : (y : FieldSelection) → is_abstract s (parent_of y) ≡ false → is_own_parent s (parent_of y) y ≡ true
-  own y i = ap (λ b. b && not (is_abstract s (parent_of y))) (so_named (parent_of y) (parent_of y) refl) ∙ ap not i
+    in_objects : (y : FieldSelection) → Contains list y → is_shared s y ≡ false → Contains objects y
+    in_objects y c e = in_filter (λ x. not (is_shared s x)) list y c (ap not e)
 
-  -- where no type is noted, all are on abstract types
-  none_own : (list : List FieldSelection) (y : FieldSelection) → Contains list y → list_any (is_own_parent s (parent_of y)) list ≡ false → is_abstract s (parent_of y) ≡ true
-  none_own list y c e = by (is_abstract s (parent_of y)) refl
-    where
-      by : (b : Bool) → is_abstract s (parent_of y) ≡ b → b ≡ true
-      by true i = refl
-      by false i = absurd (true≢false (sym (any_in (is_own_parent s (parent_of y)) list y c (own y i)) ∙ e))
-
-  module _ (list : List FieldSelection) (parents : List NameValue) (noted : (n : List ℕ) → list_any (λ (k : NameValue). bytes_eq n k.text) parents ≡ list_any (is_own_parent s n) list) where
-    -- where there is none, the list is the one group
-    pub all_shared : parents ≡ [] → AreParentGroups s list (list ∷ [])
-    all_shared none = record {
-      has_all = λ x c. (list, (Contains-first list [] list refl, λ y k on. k));
-      only = λ group c. (
-        [],
-        λ y k.
-            let in_list = subst (λ l. Contains l y) (only list group c) k in
-            let found : list_any (is_own_parent s (parent_of y)) list ≡ false = sym (noted (parent_of y)) ∙ ap (list_any (λ (k : NameValue). bytes_eq (parent_of y) k.text)) none in
-            (in_list, inr (is_abstract_so s (parent_of y) (none_own list y in_list found))),
-      );
-      parts = λ group c. (λ _. true, only list group c ∙ all_pass list);
-    }
-
-    -- one of these types
-    its_parent : (x : FieldSelection) → Contains list x → is_abstract s (parent_of x) ≡ false → (k : NameValue) × (Contains parents k × (parent_of x ≡ k.text))
-    its_parent x c e =
-        let p = any_of (λ (k : NameValue). bytes_eq (parent_of x) k.text) parents (noted (parent_of x) ∙ any_in (is_own_parent s (parent_of x)) list x c (own x e)) in
-        (p.0, (p.1.0, named_so (parent_of x) p.0.text p.1.1))
-
-    in_group : (k : NameValue) (y : FieldSelection) → Contains list y → IsOnOne s k.text y → Contains (filter (is_on_one s k.text) list) y
-    in_group k y c on = in_filter (is_on_one s k.text) list y c (so_on_one k.text y on)
-
-    -- a field on an abstract type is in each group, any other in that of its type
-    has_all_on : (first : NameValue) → Contains parents first → (x : FieldSelection) → Contains list x → (b : Bool) → is_abstract s (parent_of x) ≡ b
-        → (k : NameValue) × (Contains parents k × ((y : FieldSelection) → Contains list y → IsOnOne s (parent_of x) y → IsOnOne s k.text y))
-    has_all_on first here x c true e = (first, (here, by))
+    -- a field that is not shared has a part
+    its_part : (x : FieldSelection) → Contains list x → is_shared s x ≡ false
+        → (part : List FieldSelection) × (Contains (with_own shared owns) part × ((y : FieldSelection) → Contains list y → IsOnOne s (parent_of x) y → Contains part y))
+    its_part x c e =
+        let own = filter (has parent_of (parent_of x)) objects in
+        let there = filed.has_all x (in_objects x c e) in
+        (shared ++ own, (part_of_own shared owns own there, λ y k on. by y k on (is_shared s y) refl))
       where
-        by : (y : FieldSelection) → Contains list y → IsOnOne s (parent_of x) y → IsOnOne s first.text y
-        by y k (inl i) = inr (subst (IsAbstract s) (sym i) (is_abstract_so s (parent_of x) e))
-        by y k (inr a) = inr a
-    has_all_on first here x c false e = let p = its_parent x c e in (p.0, (p.1.0, λ y k on. subst (λ n. IsOnOne s n y) p.1.1 on))
+        by : (y : FieldSelection) → Contains list y → IsOnOne s (parent_of x) y → (b : Bool) → is_shared s y ≡ b → Contains (shared ++ filter (has parent_of (parent_of x)) objects) y
+        by y k on true i = Contains-append_left shared (filter (has parent_of (parent_of x)) objects) y (in_shared y k i)
+        by y k (inl same) false i =
+            Contains-append_right shared (filter (has parent_of (parent_of x)) objects) y (in_filter (has parent_of (parent_of x)) objects y (in_objects y k i) (so_named (parent_of x) (parent_of y) (sym same)))
+        by y k (inr a) false i = absurd (true≢false (sym (so_is_abstract s (parent_of y) a) ∙ i))
 
-    -- where there are some, each has a group
-    pub some_own : (first : NameValue) → Contains parents first → AreParentGroups s list (map (λ (k : NameValue). filter (is_on_one s k.text) list) parents)
-    some_own first here = record {
-      has_all = λ x c.
-          let p = has_all_on first here x c (is_abstract s (parent_of x)) refl in (
-            filter (is_on_one s p.0.text) list,
-            (
-              contains_map (λ (k : NameValue). filter (is_on_one s k.text) list) parents p.0 p.1.0,
-              λ y k on. in_group p.0 y k (p.1.1 y k on),
-            ),
-          );
-      only = λ group c.
-          let k = contains_unmap (λ (k : NameValue). filter (is_on_one s k.text) list) parents group c in (
-            k.0.text,
-            λ y m. let p = of_filter (is_on_one s k.0.text) list y (subst (λ l. Contains l y) (sym k.1.1) m) in (p.0, on_one_so k.0.text y p.1),
-          );
-      parts = λ group c. let k = contains_unmap (λ (k : NameValue). filter (is_on_one s k.text) list) parents group c in (is_on_one s k.0.text, sym k.1.1);
+    -- what is on the type of a shared field is shared
+    all_shared_there : (x : FieldSelection) → is_shared s x ≡ true → (y : FieldSelection) → Contains list y → IsOnOne s (parent_of x) y → Contains shared y
+    all_shared_there x e y k (inl same) = in_shared y k (ap (is_abstract s) same ∙ e)
+    all_shared_there x e y k (inr a) = in_shared y k (so_is_abstract s (parent_of y) a)
+
+    has_part : (x : FieldSelection) → Contains list x → (b : Bool) → is_shared s x ≡ b
+        → (part : List FieldSelection) × (Contains (with_own shared owns) part × ((y : FieldSelection) → Contains list y → IsOnOne s (parent_of x) y → Contains part y))
+    has_part x c true e = let p = part_of_shared shared owns in (p.0, (p.1.0, λ y k on. p.1.1 y (all_shared_there x e y k on)))
+    has_part x c false e = its_part x c e
+
+    on_any : (n : List ℕ) (y : FieldSelection) → Contains shared y → Contains list y × IsOnOne s n y
+    on_any n y c = let p = of_shared y c in (p.0, inr (is_abstract_so s (parent_of y) p.1))
+
+    of_part : (part : List FieldSelection) → (part ≡ shared) ⊎ ((own : List FieldSelection) × (Contains owns own × (part ≡ shared ++ own)))
+        → (parent : List ℕ) × ((y : FieldSelection) → Contains part y → Contains list y × IsOnOne s parent y)
+    of_part part (inl e) = ([], λ y c. on_any [] y (subst (λ l. Contains l y) e c))
+    of_part part (inr (own, (there, e))) =
+        let n = filed.only own there in (
+          n.0,
+          λ y c. elim (Contains-append_cases shared own y (subst (λ l. Contains l y) e c)) [
+            | inl a ↦ on_any n.0 y a
+            | inr b ↦
+                let p = of_filter (has parent_of n.0) objects y (subst (λ l. Contains l y) n.1 b) in
+                let q = of_filter (λ x. not (is_shared s x)) list y p.0 in
+                (q.0, inl (sym (named_so n.0 (parent_of y) p.1)))
+          ],
+        )
+
+    -- the parts by parents are groups of fields that one object may have
+    pub parent_groups : AreParentGroups s list (with_own shared owns)
+    parent_groups = record {
+      has_all = λ x c. has_part x c (is_shared s x) refl;
+      only = λ part c. of_part part (of_parts shared owns part c);
     }
 
-  -- ---- by keys and parents
+    -- each list in the order of the list
+    pub ordered_parts : ArePartsOf list (shared ∷ owns)
+    ordered_parts part c = elim (Contains-cons shared owns part c) [
+      | inl e ↦ (is_shared s, sym e ∙ is)
+      | inr r ↦ let n = filed.only part r in part_of_part list objects part ((λ x. not (is_shared s x)), refl) (has parent_of n.0, n.1)
+    ]
 
-  -- the groups of each of these groups, one after the other
-  pub record AreSharedOf (keyed : List (List FieldSelection)) (groups : List (List FieldSelection)) : Type 0 where
-    pub all : (key : List FieldSelection) → Contains keyed key → (own : List (List FieldSelection)) × (AreParentGroups s key own × ((g : List FieldSelection) → Contains own g → Contains groups g))
-    pub from : (group : List FieldSelection) → Contains groups group
-        → (key : List FieldSelection) × (Contains keyed key × ((own : List (List FieldSelection)) × (AreParentGroups s key own × Contains own group)))
+-- ---- the parts of the groups of a list
 
-  pub shared_none : AreSharedOf [] []
-  shared_none = record { all = λ key c. absurd (not_in_nil key c); from = λ group c. absurd (not_in_nil group c) }
+module _ (pass : Pass) (s : Judged) where
+  -- the parts of each of these groups, one after the other
+  pub record ArePartsOfEach (keyed : List (List FieldSelection)) (parts : List (List FieldSelection)) : Type 0 where
+    pub all : (key : List FieldSelection) → Contains keyed key → (own : List (List FieldSelection)) × (ArePartsFor pass s key own × ((g : List FieldSelection) → Contains own g → Contains parts g))
+    pub from : (part : List FieldSelection) → Contains parts part
+        → (key : List FieldSelection) × (Contains keyed key × ((own : List (List FieldSelection)) × (ArePartsFor pass s key own × Contains own part)))
 
-  pub shared_more : (keyed groups : List (List FieldSelection)) (key : List FieldSelection) (own : List (List FieldSelection)) → AreSharedOf keyed groups → AreParentGroups s key own → AreSharedOf (keyed ++ key ∷ []) (groups ++ own)
-  shared_more keyed groups key own so_far are = record {
+  pub parts_none : ArePartsOfEach [] []
+  parts_none = record { all = λ key c. absurd (not_in_nil key c); from = λ part c. absurd (not_in_nil part c) }
+
+  pub parts_more : (keyed parts : List (List FieldSelection)) (key : List FieldSelection) (own : List (List FieldSelection)) → ArePartsOfEach keyed parts → ArePartsFor pass s key own → ArePartsOfEach (keyed ++ key ∷ []) (parts ++ own)
+  parts_more keyed parts key own so_far are = record {
     all = λ k c. elim (Contains-append_cases keyed (key ∷ []) k c) [
-      | inl a ↦ let p = so_far.all k a in (p.0, (p.1.0, λ g h. Contains-append_left groups own g (p.1.1 g h)))
-      | inr b ↦ (own, (subst (λ l. AreParentGroups s l own) (sym (only key k b)) are, λ g h. Contains-append_right groups own g h))
+      | inl a ↦ let p = so_far.all k a in (p.0, (p.1.0, λ g h. Contains-append_left parts own g (p.1.1 g h)))
+      | inr b ↦ (own, (subst (λ l. ArePartsFor pass s l own) (sym (only key k b)) are, λ g h. Contains-append_right parts own g h))
     ];
-    from = λ group c. elim (Contains-append_cases groups own group c) [
-      | inl a ↦ let p = so_far.from group a in (p.0, (Contains-append_left keyed (key ∷ []) p.0 p.1.0, p.1.1))
+    from = λ part c. elim (Contains-append_cases parts own part c) [
+      | inl a ↦ let p = so_far.from part a in (p.0, (Contains-append_left keyed (key ∷ []) p.0 p.1.0, p.1.1))
       | inr b ↦ (key, (Contains-append_right keyed (key ∷ []) key (Contains-first key [] key refl), (own, (are, b))))
     ];
   }
 
-  pub are_share_groups : (list : List FieldSelection) (keyed groups : List (List FieldSelection)) → AreFiled key_of list keyed → AreSharedOf keyed groups
-      → AreShareGroups s (fields_of list) (map fields_of groups)
-  are_share_groups list keyed groups filed shared = record {
+-- where shapes are compared, the groups by keys
+keyed_parts : (s : Judged) (list : List FieldSelection) (keyed parts : List (List FieldSelection)) → AreFiled key_of list keyed → ArePartsOfEach Shapes s keyed parts → AreFiled key_of list parts
+keyed_parts s list keyed parts filed each = record {
+  has_all = λ x c.
+      let key = filter (has key_of (key_of x)) list in
+      let p = each.all key (filed.has_all x c) in
+      p.1.1 key (subst (λ l. Contains l key) (sym p.1.0) (Contains-first key [] key refl));
+  only = λ part c.
+      let p = each.from part c in
+      let same : part ≡ p.0 = only p.0 part (subst (λ l. Contains l part) p.1.1.1.0 p.1.1.1.1) in
+      let n = filed.only p.0 p.1.0 in
+      (n.0, same ∙ n.1);
+}
+
+module _ (s : Judged) where
+  are_share_groups : (list : List FieldSelection) (keyed parts : List (List FieldSelection)) → AreFiled key_of list keyed → ArePartsOfEach Selections s keyed parts
+      → AreShareGroups s (fields_of list) (map fields_of parts)
+  are_share_groups list keyed parts filed each = record {
     has = λ f c.
         let x = contains_unmap field_of list f c in
         let key = filter (has key_of (key_of x.0)) list in
-        let own = shared.all key (filed.has_all x.0 x.1.0) in
-        let group = own.1.0.has_all x.0 (in_filter (has key_of (key_of x.0)) list x.0 x.1.0 (so_named (key_of x.0) (key_of x.0) refl)) in (
-          fields_of group.0,
+        let own = each.all key (filed.has_all x.0 x.1.0) in
+        let part = own.1.0.has_all x.0 (in_filter (has key_of (key_of x.0)) list x.0 x.1.0 (so_named (key_of x.0) (key_of x.0) refl)) in (
+          fields_of part.0,
           (
-            contains_map fields_of groups group.0 (own.1.1 group.0 group.1.0),
+            contains_map fields_of parts part.0 (own.1.1 part.0 part.1.0),
             λ g k same on.
                 let y = contains_unmap field_of list g k in
                 let in_key = in_filter (has key_of (key_of x.0)) list y.0 y.1.0 (so_named (key_of x.0) (key_of y.0) (ap response_key x.1.1 ∙ sym same ∙ ap response_key (sym y.1.1))) in
                 let on_one : IsOnOne s (parent_of x.0) y.0 = subst (λ (h : StandingField Place). IsOn s (parent_of x.0) h) (sym y.1.1) (subst (λ (h : StandingField Place). IsOn s h.parent g) (sym x.1.1) on) in
-                subst (Contains (fields_of group.0)) y.1.1 (contains_map field_of group.0 y.0 (group.1.1 y.0 in_key on_one)),
+                subst (Contains (fields_of part.0)) y.1.1 (contains_map field_of part.0 y.0 (part.1.1 y.0 in_key on_one)),
           ),
         );
     only = λ made c.
-        let g = contains_unmap fields_of groups made c in
-        let p = shared.from g.0 g.1.0 in
+        let g = contains_unmap fields_of parts made c in
+        let p = each.from g.0 g.1.0 in
         let n = filed.only p.0 p.1.0 in
         let t = p.1.1.1.0.only g.0 p.1.1.1.1 in (
           n.0,
@@ -257,17 +214,41 @@ module _ (s : Judged) where
         );
   }
 
-  -- each in the order of the list
-  pub share_parts : (list : List FieldSelection) (keyed groups : List (List FieldSelection)) → AreFiled key_of list keyed → AreSharedOf keyed groups → ArePartsOf list groups
-  share_parts list keyed groups filed shared group c =
-      let p = shared.from group c in
-      let n = filed.only p.0 p.1.0 in
-      part_of_part list p.0 group (has key_of n.0, n.1) (p.1.1.1.0.parts group p.1.1.1.1)
+-- parts of the groups of a list are groups of what goes together
+pub are_groups : (pass : Pass) (s : Judged) (list : List FieldSelection) (keyed parts : List (List FieldSelection)) → AreFiled key_of list keyed → ArePartsOfEach pass s keyed parts
+    → AreGroups (Together pass s) (fields_of list) (map fields_of parts)
+are_groups Shapes s list keyed parts filed each = key_groups (fields_of list) (map fields_of parts) (are_key_groups list parts (keyed_parts s list keyed parts filed each))
+are_groups Selections s list keyed parts filed each = share_groups (fields_of list) (map fields_of parts) s (are_share_groups s list keyed parts filed each)
 
-pub key_parts : (list : List FieldSelection) (groups : List (List FieldSelection)) → AreFiled key_of list groups → ArePartsOf list groups
-key_parts list groups filed group c = let n = filed.only group c in (has key_of n.0, n.1)
+-- ---- in the order of the list
+
+-- each of these is a part of one of the groups
+abbrev pub ArePartsOfOne : List (List FieldSelection) → List (List FieldSelection) → Type 0
+ArePartsOfOne keyed lists = (part : List FieldSelection) → Contains lists part → (key : List FieldSelection) × (Contains keyed key × IsPartOf key part)
+
+pub ordered_none : ArePartsOfOne [] []
+ordered_none part c = absurd (not_in_nil part c)
+
+pub ordered_more : (keyed lists : List (List FieldSelection)) (key : List FieldSelection) (own : List (List FieldSelection)) → ArePartsOfOne keyed lists → ArePartsOf key own → ArePartsOfOne (keyed ++ key ∷ []) (lists ++ own)
+ordered_more keyed lists key own so_far are part c = elim (Contains-append_cases lists own part c) [
+  | inl a ↦ let p = so_far part a in (p.0, (Contains-append_left keyed (key ∷ []) p.0 p.1.0, p.1.1))
+  | inr b ↦ (key, (Contains-append_right keyed (key ∷ []) key (Contains-first key [] key refl), are part b))
+]
+
+pub all_ordered : (list : List FieldSelection) (keyed lists : List (List FieldSelection)) → AreFiled key_of list keyed → ArePartsOfOne keyed lists → ArePartsOf list lists
+all_ordered list keyed lists filed of_one part c =
+    let p = of_one part c in
+    let n = filed.only p.0 p.1.0 in
+    part_of_part list p.0 part (has key_of n.0, n.1) p.1.1
+
+-- the list itself, and one without members
+pub whole_ordered : (list : List FieldSelection) → ArePartsOf list (list ∷ [])
+whole_ordered list part c = (λ _. true, only list part c ∙ all_pass list)
 
 -- ---- how many are compared
+
+sum_push : {X : Type 0} (f : X → ℕ) (xs : List X) (x : X) → sum (map f (xs ++ x ∷ [])) ≡ sum (map f xs) + f x
+sum_push f xs x = omega (arith, sums f xs (x ∷ []))
 
 module _ {X : Type 0} where
   -- in a pass on selections no shapes are
@@ -280,3 +261,71 @@ module _ {X : Type 0} where
         where
           none_before : sum (map (compared {X = X} Selections) lists) ≡ 0 → 0 + sum (map (compared {X = X} Selections) lists) ≡ 0
           none_before h = omega (arith, h)
+
+pub shapes_in : (group : KeyGroup) (list : List FieldSelection) → group.shared.items ≡ list → own_lists group ≡ [] → compared_in Shapes group ≤ length list
+shapes_in group list is none = omega (arith, ap length is, ap (λ l. sum (map (compared {X = FieldSelection} Shapes) l)) none)
+
+pub selections_in : (group : KeyGroup) → compared_in Selections group ≤ 0
+selections_in group = omega (arith, none_compared (own_lists group))
+
+pub keyed_count : (pass : Pass) (list : List FieldSelection) (keyed : List (List FieldSelection)) → sum (map length keyed) ≡ length list → sum (map (compared pass) keyed) ≤ compared pass list
+keyed_count Shapes list keyed e = omega (arith, e)
+keyed_count Selections list keyed e = none_compared keyed
+
+-- ---- each field stands once
+
+-- those on abstract types, and those on each object type
+pub parents_once : (s : Judged) (list shared : List FieldSelection) (owns : List (List FieldSelection)) → shared ≡ filter (is_shared s) list
+    → sum (map length owns) ≡ length (filter (λ x. not (is_shared s x)) list) → sum (map length (shared ∷ owns)) ≡ length list
+parents_once s list shared owns is all = omega (arith, ap length is, all, split_length (is_shared s) list, sums length (shared ∷ []) owns)
+
+-- all in one part
+pub shapes_once : (list shared : List FieldSelection) (owns : List (List FieldSelection)) → shared ≡ list → owns ≡ [] → sum (map length (shared ∷ owns)) ≡ length list
+shapes_once list shared owns is none = omega (arith, ap length is, ap (λ l. sum (map length (shared ∷ l))) none, sum_by-cons (λ n. n) (length shared) [])
+
+-- ---- one group more
+
+module _ (pass : Pass) (s : Judged) (keyed : List (Vec FieldSelection Global)) (fields : Vec FieldSelection Global) (groups new : List KeyGroup) (group : KeyGroup) (is : new ≡ groups ++ group ∷ []) where
+  abbrev items : Vec FieldSelection Global → List FieldSelection
+  items v = v.items
+
+  keys_more : map items (keyed ++ fields ∷ []) ≡ map items keyed ++ fields.items ∷ []
+  keys_more = map-append items keyed (fields ∷ [])
+
+  given_more : (f : KeyGroup → List (List FieldSelection)) → flat_map f new ≡ flat_map f groups ++ f group
+  given_more f = ap (flat_map f) is ∙ flat_push f groups group
+
+  pub group_parts : ArePartsFor pass s fields.items (parts_of group) → ArePartsOfEach pass s (map items keyed) (parts_in groups) → ArePartsOfEach pass s (map items (keyed ++ fields ∷ [])) (parts_in new)
+  group_parts are so_far =
+      subst (λ l. ArePartsOfEach pass s l (parts_in new)) (sym keys_more)
+      (subst (ArePartsOfEach pass s (map items keyed ++ fields.items ∷ [])) (sym (given_more parts_of)) (parts_more pass s (map items keyed) (parts_in groups) fields.items (parts_of group) so_far are))
+
+  pub group_ordered : ArePartsOf fields.items (lists_in_group group) → ArePartsOfOne (map items keyed) (flat_map lists_in_group groups) → ArePartsOfOne (map items (keyed ++ fields ∷ [])) (flat_map lists_in_group new)
+  group_ordered are so_far =
+      subst (λ l. ArePartsOfOne l (flat_map lists_in_group new)) (sym keys_more)
+      (subst (ArePartsOfOne (map items keyed ++ fields.items ∷ [])) (sym (given_more lists_in_group)) (ordered_more (map items keyed) (flat_map lists_in_group groups) fields.items (lists_in_group group) so_far are))
+
+  pub group_counted : compared_in pass group ≤ compared pass fields.items → sum (map (compared_in pass) groups) ≤ sum (map (compared pass) (map items keyed)) → sum (map (compared_in pass) new) ≤ sum (map (compared pass) (map items (keyed ++ fields ∷ [])))
+  group_counted here so_far =
+      omega (
+        arith,
+        here,
+        so_far,
+        ap (λ l. sum (map (compared_in pass) l)) is,
+        sum_push (compared_in pass) groups group,
+        ap (λ l. sum (map (compared pass) l)) keys_more,
+        sum_push (compared pass) (map items keyed) fields.items,
+      )
+
+  pub group_once : sum (map length (lists_in_group group)) ≡ length fields.items → sum (map length (flat_map lists_in_group groups)) ≡ sum (map length (map items keyed))
+      → sum (map length (flat_map lists_in_group new)) ≡ sum (map length (map items (keyed ++ fields ∷ [])))
+  group_once here so_far =
+      omega (
+        arith,
+        here,
+        so_far,
+        ap (λ l. sum (map length l)) (given_more lists_in_group),
+        sums length (flat_map lists_in_group groups) (lists_in_group group),
+        ap (λ l. sum (map length l)) keys_more,
+        sum_push length (map items keyed) fields.items,
+      )

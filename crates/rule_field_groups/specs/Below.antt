@@ -56,6 +56,9 @@ pub record AreSetsOf (group : List (StandingField Place)) (sets : List (MeantSet
   pub within : (s : MeantSet Place) → Contains sets s → (f : StandingField Place) × (Contains group f × (f.set ≡ s))
   pub covers : (f : StandingField Place) → Contains group f → IsBare f.set ⊎ Contains (plain_sets sets) (unplaced_set f.set)
 
--- with one more field of the group
-abbrev pub AddsSetOf : StandingField Place → List (MeantSet Place) → List (MeantSet Place) → Type 0
-AddsSetOf field old new = (group : List (StandingField Place)) → AreSetsOf group old → AreSetsOf (group ++ field ∷ []) new
+-- the set of the field is put last, or it has no selections or one that says the same is there
+pub record NotesSet (field : StandingField Place) (old new : List (MeantSet Place)) : Type 0 where
+  pub added : List (MeantSet Place)
+  pub is : new ≡ old ++ added
+  pub its : (s : MeantSet Place) → Contains added s → field.set ≡ s
+  pub there : IsBare field.set ⊎ Contains (plain_sets new) (unplaced_set field.set)

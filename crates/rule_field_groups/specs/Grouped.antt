@@ -1,19 +1,17 @@
 -- Private: leads to `FieldsMerge`. Groups of a list of field selections.
-use Rattle.std.specs.Prelude.{◌≡◌, ℕ, Bool, ◌&&◌, ◌||◌, not, List, [], map, filter, length, Vec, Contains, ◌⊎◌}
-use Rattle.std.specs.List.{sum, list_any}
+use Rattle.std.specs.Prelude.{◌≡◌, ℕ, Bool, List, [], map, filter, length, Vec, Contains, ◌⊎◌}
+use Rattle.std.specs.List.{sum}
 use Rattle.std.specs.Map.{lookup}
 use Rattle.std.specs.Option.{option_map_or}
 use Rattle.std.specs.Str.{bytes_eq}
 use Rattle.std.specs.declared.alloc.Global.{Global}
 use Rattle.indexmap.specs.IndexMap.{IndexMap, values}
-use Rattle.indexmap.specs.IndexSet.{IndexSet}
 use Rattle.graphql_names.specs.NameValue.{NameValue}
 use Rattle.rule_definitions.specs.Judged.{Judged}
 use Rattle.rule_document_definitions.specs.Selected.{response_key}
 use Rattle.rule_document_definitions.specs.Merging.{IsAbstract}
 use Rattle.rule_document_ground.specs.Fields.{field_of}
 use Rattle.rule_document_ground.specs.declared.field_selection.FieldSelection.{FieldSelection}
-use Rattle.rule_field_groups.specs.Kinds.{is_abstract}
 
 -- what stands under a name, none if there is no entry
 abbrev pub items_under : {X S : Type 0} → List ℕ → IndexMap NameValue (Vec X Global) S → List X
@@ -40,18 +38,6 @@ parent_of x = (field_of x).parent
 abbrev pub has : {X : Type 0} → (X → List ℕ) → List ℕ → X → Bool
 has name n x = bytes_eq n (name x)
 
--- the name is among these
-abbrev pub is_noted : {S : Type 0} → List ℕ → IndexSet NameValue S → Bool
-is_noted n names = list_any (λ k. bytes_eq n k.text) names.keys
-
--- it is selected on this type, which is not abstract
-abbrev pub is_own_parent : Judged → List ℕ → FieldSelection → Bool
-is_own_parent s n x = bytes_eq n (parent_of x) && not (is_abstract s (parent_of x))
-
--- it is selected on this type, or on an abstract one
-abbrev pub is_on_one : Judged → List ℕ → FieldSelection → Bool
-is_on_one s n x = bytes_eq n (parent_of x) || is_abstract s (parent_of x)
-
 -- those of the list that pass some test, in the list's order
 abbrev pub IsPartOf : {X : Type 0} → List X → List X → Type 0
 IsPartOf {X} list part = (test : X → Bool) × (part ≡ filter test list)
@@ -73,4 +59,3 @@ pub record AreParentGroups (s : Judged) (list : List FieldSelection) (groups : L
       → (group : List FieldSelection) × (Contains groups group × ((y : FieldSelection) → Contains list y → IsOnOne s (parent_of x) y → Contains group y))
   pub only : (group : List FieldSelection) → Contains groups group
       → (parent : List ℕ) × ((y : FieldSelection) → Contains group y → Contains list y × IsOnOne s parent y)
-  pub parts : ArePartsOf list groups

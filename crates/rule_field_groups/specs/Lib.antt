@@ -1,8 +1,10 @@
 pub mod Kinds
 pub mod Shapes
 pub mod Grouped
+pub mod KeyGroups
 pub mod Passes
 pub mod Compared
 pub mod Below
+pub mod Under
 -- For the layer above.
 pub use Rattle.rule_document_ground.specs as in_ground

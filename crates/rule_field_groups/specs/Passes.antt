@@ -71,6 +71,15 @@ pub record TellsGroup (pass : Pass) (s : Judged) (group : List (StandingField Pl
       → (f : StandingField Place) × ((g : StandingField Place) × (Contains group f × (Contains group g × Conflict pass s fault f g)))
   pub agree : added ≡ [] → AgreeWithHead (Agree pass s) group
 
+-- each of these tells of two fields of one of the groups; and where there is none, all of each agree with its first
+pub record TellsEach (pass : Pass) (s : Judged) (groups : List (List (StandingField Place))) (added : List (Broken Place)) : Type 0 where
+  pub right : (fault : Broken Place) → Contains added fault → (group : List (StandingField Place)) × (Contains groups group
+      × ((f : StandingField Place) × ((g : StandingField Place) × (Contains group f × (Contains group g × Conflict pass s fault f g)))))
+  pub agree : added ≡ [] → (group : List (StandingField Place)) → Contains groups group → AgreeWithHead (Agree pass s) group
+
+abbrev pub AddsEach : Pass → Judged → List (List (StandingField Place)) → Vec (Place × BuildError) Global → Vec (Place × BuildError) Global → Type 0
+AddsEach pass s groups old new = (added : List (Broken Place)) × ((brokens_of new ≡ brokens_of old ++ added) × TellsEach pass s groups added)
+
 -- the breaches that were there, as they stood, and behind them those of the group
 abbrev pub AddsGroup : Pass → Judged → List (StandingField Place) → Vec (Place × BuildError) Global → Vec (Place × BuildError) Global → Type 0
 AddsGroup pass s group old new = (added : List (Broken Place)) × ((brokens_of new ≡ brokens_of old ++ added) × TellsGroup pass s group added)

@@ -1,8 +1,11 @@
 //! What selection sets select, and the sets of a group.
-ghost use Rattle.std.specs.Prelude.{IfOk, OnOk};
+ghost use Rattle.std.specs.Prelude.{map, IfOk, OnOk};
 ghost use Rattle.rule_document_ground.specs.Fields.{field_of, fields_of, meant_fragments};
-ghost use Rattle.rule_field_groups.specs.Below.{meant_sets, AreSelected, IsDistinctOf, IsMerged, AreSetsOf, AddsSetOf};
+ghost use Rattle.rule_field_groups.specs.Below.{meant_sets, AreSelected, IsDistinctOf, IsMerged, AreSetsOf, NotesSet};
+ghost use Rattle.rule_field_groups.specs.Under.{sets_in, AreFurther, AddsFurther, JoinsSets, JoinsEach, AreListsBelow};
+ghost use Rattle.rule_field_groups.specs.KeyGroups.{parts_of};
 
+use crate::groups::{KeyGroup, OwnFields};
 use document_typed_operations::FragmentMap;
 use document_typed_selections::SelectionSet;
 use indexmap::IndexSet;
@@ -61,7 +64,7 @@ fn note_set<'doc>(
     field: FieldSelection<'doc>,
     sets: &mut IndexSet<SelectedSet<'doc>>,
 ) -> Result<(), AllocError>
-    ensures { OnOk result (AddsSetOf (field_of field.entry) (meant_sets sets.old.keys) (meant_sets sets.new.keys)) }
+    ensures { OnOk result (NotesSet (field_of field.entry) (meant_sets sets.old.keys) (meant_sets sets.new.keys)) }
 {
     let set = &field.field.content().selection_set;
     if set.is_empty() {
@@ -71,16 +74,96 @@ fn note_set<'doc>(
     Ok(())
 }
 
-/// The sets of the fields of a group, each content once. A set without selections is left out.
-pub fn sets_of<'doc>(
+/// The sets of these fields, each content once. A set without selections is left out.
+fn sets_of<'doc>(
     alloc: Global,
-    group: &[FieldSelection<'doc>],
-) -> Result<Vec<SelectedSet<'doc>>, AllocError>
-    ensures { IfOk result (λ sets. AreSetsOf (fields_of group.now) (meant_sets sets.items)) }
+    fields: &[FieldSelection<'doc>],
+) -> Result<IndexSet<SelectedSet<'doc>>, AllocError>
+    ensures { IfOk result (λ sets. AreSetsOf (fields_of fields.now) (meant_sets sets.keys)) }
 {
     let mut sets = IndexSet::new(alloc);
-    for field in group {
+    for field in fields {
         note_set(*field, &mut sets)?;
     }
-    Vec::from_slice(alloc, sets.as_slice())
+    Ok(sets)
+}
+
+/// Adds the set of a field, unless it has no selections, or one with the same contents is there or among the others.
+fn note_further<'doc>(
+    field: FieldSelection<'doc>,
+    others: &IndexSet<SelectedSet<'doc>>,
+    sets: &mut IndexSet<SelectedSet<'doc>>,
+) -> Result<(), AllocError>
+    ensures { OnOk result (AddsFurther (field_of field.entry) (meant_sets others.now.keys) (meant_sets sets.old.keys) (meant_sets sets.new.keys)) }
+{
+    let set = SelectedSet {
+        set: &field.field.content().selection_set,
+    };
+    if others.contains(&set) {
+        return Ok(());
+    }
+    note_set(field, sets)
+}
+
+/// The sets of these fields that the others do not have, each content once.
+fn further_sets<'doc>(
+    alloc: Global,
+    fields: &[FieldSelection<'doc>],
+    others: &IndexSet<SelectedSet<'doc>>,
+) -> Result<IndexSet<SelectedSet<'doc>>, AllocError>
+    ensures { IfOk result (λ sets. AreFurther (fields_of fields.now) (meant_sets others.now.keys) (meant_sets sets.keys)) }
+{
+    let mut sets = IndexSet::new(alloc);
+    for field in fields {
+        note_further(*field, others, &mut sets)?;
+    }
+    Ok(sets)
+}
+
+/// Adds a list of the first sets and then the further ones, unless there are no further ones.
+fn push_joined<'doc>(
+    first: &[SelectedSet<'doc>],
+    further: &[SelectedSet<'doc>],
+    lists: &mut Vec<Vec<SelectedSet<'doc>>>,
+) -> Result<(), AllocError>
+    ensures { OnOk result (JoinsSets (meant_sets first.now) (meant_sets further.now) (sets_in lists.old) (sets_in lists.new)) }
+{
+    if further.is_empty() {
+        return Ok(());
+    }
+    let mut list = Vec::from_slice(*lists.allocator(), first)?;
+    list.extend_from_slice(further)?;
+    lists.push(list)?;
+    Ok(())
+}
+
+/// Adds a list for each object type: the shared sets, and the further ones of its fields. A type without further ones has none.
+fn push_own_lists<'doc>(
+    owns: &[OwnFields<'doc>],
+    shared: &IndexSet<SelectedSet<'doc>>,
+    lists: &mut Vec<Vec<SelectedSet<'doc>>>,
+) -> Result<(), AllocError>
+    ensures { OnOk result (JoinsEach (meant_sets shared.now.keys) (map (λ o. fields_of o.fields.items) owns.now) (sets_in lists.old) (sets_in lists.new)) }
+{
+    let alloc = *lists.allocator();
+    for own in owns {
+        let sets = further_sets(alloc, &own.fields, shared)?;
+        push_joined(shared.as_slice(), sets.as_slice(), lists)?;
+    }
+    Ok(())
+}
+
+/// The lists of sets below the fields of one key: the shared sets, and for each object type these and its own. For any two
+/// fields that go together, one of the lists has the sets of both.
+pub fn lists_below<'doc>(
+    alloc: Global,
+    group: &KeyGroup<'doc>,
+) -> Result<Vec<Vec<SelectedSet<'doc>>>, AllocError>
+    ensures { IfOk result (λ lists. AreListsBelow (map fields_of (parts_of group.now)) (sets_in lists)) }
+{
+    let shared = sets_of(alloc, &group.shared)?;
+    let mut lists = Vec::new(alloc);
+    push_joined(&[], shared.as_slice(), &mut lists)?;
+    push_own_lists(&group.own, &shared, &mut lists)?;
+    Ok(lists)
 }

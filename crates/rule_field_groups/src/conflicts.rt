@@ -1,5 +1,5 @@
 //! Conflicts of two fields.
-ghost use Rattle.std.specs.Prelude.{◌≡◌, ◌≤◌, ◌+◌, min, drop, MatchOption, IfOk, OnOk};
+ghost use Rattle.std.specs.Prelude.{◌≡◌, ◌≤◌, ◌+◌, ◌++◌, ◌∷◌, min, map, take, drop, MatchOption, IfOk, OnOk};
 ghost use Rattle.schema_coordinates.specs.CoordinateView.{attribute_coordinate, argument_coordinate};
 ghost use Rattle.fault_document_data.specs.DocumentBreachView.{value_in_conflict};
 ghost use Rattle.graphql_schema.specs.SchemaOf.{schema_tree};
@@ -8,9 +8,11 @@ ghost use Rattle.rule_document_definitions.specs.Merging.{SameShape, SameName, S
 ghost use Rattle.rule_document_definitions.specs.SameValues.{SameArguments, plain_given};
 ghost use Rattle.rule_document_ground.specs.Broken.{broken_of};
 ghost use Rattle.rule_document_ground.specs.Fields.{field_of, fields_of};
-ghost use Rattle.rule_field_groups.specs.Passes.{TypesConflict, NamesConflict, ArgumentsConflict, SelectionsConflict, Compares, AddsGroup, coordinate_of, coordinate_of_argument, type_conflict, name_conflict, argument_conflict};
+ghost use Rattle.rule_field_groups.specs.Passes.{TypesConflict, NamesConflict, ArgumentsConflict, SelectionsConflict, Compares, AddsGroup, AddsEach, coordinate_of, coordinate_of_argument, type_conflict, name_conflict, argument_conflict};
 ghost use Rattle.rule_field_groups.specs.Compared.{compared, compared_once, greatest_count, CountsUp};
+ghost use Rattle.rule_field_groups.specs.KeyGroups.{parts_of, compared_in};
 
+use crate::groups::KeyGroup;
 use crate::pass::Pass;
 use crate::shapes::same_type;
 use fault_document_data::{
@@ -259,7 +261,29 @@ fn conflict(
     }
 }
 
-/// Tells each further field of a group that does not agree with the first one.
+/// Tells each of the other fields that does not agree with the first.
+fn check_others(
+    pass: Pass,
+    schema: &Schema,
+    first: FieldSelection<'_>,
+    others: &[FieldSelection<'_>],
+    breaches: &mut Vec<Breach>,
+    comparisons: &mut u128,
+) -> Result<(), AllocError>
+    ensures told { OnOk result (AddsGroup pass (judged (schema_tree schema.now)) (fields_of (first.entry ∷ others.now)) breaches.old breaches.new) }
+    ensures more { comparisons.old ≤ comparisons.new }
+    ensures counted { comparisons.new ≤ comparisons.old + compared pass others.now }
+    ensures exact { OnOk result (CountsUp comparisons.old (compared pass others.now) comparisons.new) }
+{
+    let alloc = *breaches.allocator();
+    for other in others {
+        let breach = conflict(alloc, pass, schema, (first, *other), comparisons)?;
+        tell_breach(breaches, breach)?;
+    }
+    Ok(())
+}
+
+/// Tells each further field of a list that does not agree with the first one.
 pub fn check_group(
     pass: Pass,
     schema: &Schema,
@@ -272,13 +296,82 @@ pub fn check_group(
     ensures counted { comparisons.new ≤ comparisons.old + compared pass group.now }
     ensures exact { OnOk result (CountsUp comparisons.old (compared pass (drop 1 group.now)) comparisons.new) }
 {
-    let alloc = *breaches.allocator();
-    let Some((first, others)) = group.split_first() else {
-        return Ok(());
-    };
-    for other in others {
-        let breach = conflict(alloc, pass, schema, (*first, *other), comparisons)?;
-        tell_breach(breaches, breach)?;
+    match group.split_first() {
+        None => Ok(()),
+        Some((first, others)) => check_others(pass, schema, *first, others, breaches, comparisons),
+    }
+}
+
+/// Tells each of the fields before another one that does not agree with the first of them; and the other, if it does not.
+fn check_before(
+    pass: Pass,
+    schema: &Schema,
+    before: &[FieldSelection<'_>],
+    other: FieldSelection<'_>,
+    breaches: &mut Vec<Breach>,
+    comparisons: &mut u128,
+) -> Result<(), AllocError>
+    ensures told { OnOk result (AddsGroup pass (judged (schema_tree schema.now)) (fields_of (other.entry ∷ before.now)) breaches.old breaches.new) }
+    ensures more { comparisons.old ≤ comparisons.new }
+    ensures counted { comparisons.new ≤ comparisons.old + compared pass before.now }
+{
+    match before.split_first() {
+        None => Ok(()),
+        Some((first, others)) => {
+            check_others(pass, schema, *first, others, breaches, comparisons)?;
+            check_others(pass, schema, *first, &[other], breaches, comparisons)
+        }
+    }
+}
+
+/// Tells the fields on one object type that do not agree with the first shared one, or with their own first if none is
+/// shared. The later of two is told: the first `early` fields are before the first shared one.
+fn check_own(
+    pass: Pass,
+    schema: &Schema,
+    shared: &[FieldSelection<'_>],
+    own: &[FieldSelection<'_>],
+    early: usize,
+    breaches: &mut Vec<Breach>,
+    comparisons: &mut u128,
+) -> Result<(), AllocError>
+    ensures told { OnOk result (AddsGroup pass (judged (schema_tree schema.now)) (fields_of (take 1 shared.now ++ own.now)) breaches.old breaches.new) }
+    ensures more { comparisons.old ≤ comparisons.new }
+    ensures counted { comparisons.new ≤ comparisons.old + compared pass own.now }
+{
+    match shared.split_first() {
+        None => check_group(pass, schema, own, breaches, comparisons),
+        Some((first, _)) => {
+            let (before, behind) = own.split_at(early.min(own.len()));
+            check_before(pass, schema, before, *first, breaches, comparisons)?;
+            check_others(pass, schema, *first, behind, breaches, comparisons)
+        }
+    }
+}
+
+/// Tells the fields under one key that do not agree, part by part.
+pub fn check_key_group(
+    pass: Pass,
+    schema: &Schema,
+    group: &KeyGroup<'_>,
+    breaches: &mut Vec<Breach>,
+    comparisons: &mut u128,
+) -> Result<(), AllocError>
+    ensures told { OnOk result (AddsEach pass (judged (schema_tree schema.now)) (map fields_of (parts_of group.now)) breaches.old breaches.new) }
+    ensures more { comparisons.old ≤ comparisons.new }
+    ensures counted { comparisons.new ≤ comparisons.old + compared_in pass group.now }
+{
+    check_group(pass, schema, &group.shared, breaches, comparisons)?;
+    for own in &group.own {
+        check_own(
+            pass,
+            schema,
+            &group.shared,
+            &own.fields,
+            own.early,
+            breaches,
+            comparisons,
+        )?;
     }
     Ok(())
 }

@@ -1,6 +1,6 @@
 //! Groups of the fields of a list.
-ghost use Rattle.std.specs.Prelude.{◌≡◌, ◌≤◌, ◌+◌, ℕ, ◌++◌, ◌∷◌, [], List, map, filter, length, ◌||◌, if◌then◌else◌, IfOk, OnOk};
-ghost use Rattle.std.specs.List.{sum, list_any};
+ghost use Rattle.std.specs.Prelude.{◌≡◌, ◌≤◌, ◌+◌, ℕ, ◌++◌, ◌∷◌, [], List, map, filter, flat_map, not, length, if◌then◌else◌, IfOk, OnOk};
+ghost use Rattle.std.specs.List.{sum};
 ghost use Rattle.std.specs.Str.{bytes_eq};
 ghost use Rattle.indexmap.specs.IndexMap.{get, IsUnique};
 ghost use Rattle.schema_components.specs.Names.{same_text};
@@ -9,16 +9,16 @@ ghost use Rattle.graphql_schema.specs.SchemaOf.{schema_tree};
 ghost use Rattle.rule_definitions.specs.Judged.{judged};
 ghost use Rattle.rule_document_definitions.specs.Groups.{AreGroups};
 ghost use Rattle.rule_document_ground.specs.Fields.{fields_of};
-ghost use Rattle.rule_merging_laws.specs.Sharing.{AreShareGroups};
 ghost use Rattle.rule_field_groups.specs.Compared.{compared};
 ghost use Rattle.rule_field_groups.specs.Passes.{Together};
-ghost use Rattle.rule_field_groups.specs.Grouped.{items_under, count_in, key_of, has, is_noted, is_own_parent, is_on_one, lists_in, lists_of, AreFiled, AreParentGroups, ArePartsOf};
+ghost use Rattle.rule_field_groups.specs.Grouped.{items_under, count_in, has, lists_in, lists_of, AreFiled, ArePartsOf};
+ghost use Rattle.rule_field_groups.specs.KeyGroups.{filed_name, is_shared, own_lists, parts_of, parts_in, lists_in_group, compared_in, IsByParents, ArePartsFor};
 
 use crate::kinds::is_abstract;
 use crate::pass::Pass;
 use graphql_names::Name;
 use graphql_schema::Schema;
-use indexmap::{IndexMap, IndexSet};
+use indexmap::IndexMap;
 use rule_document_ground::FieldSelection;
 use std::alloc::{AllocError, Global};
 
@@ -57,17 +57,37 @@ fn insert_under<'doc>(
     Ok(())
 }
 
-/// The fields of the list under their response keys.
-fn index_by_key<'doc>(
+/// What the fields of a list are grouped by.
+#[derive(Clone, Copy)]
+enum Filing {
+    /// The response key.
+    Key,
+    /// The type that they are selected on.
+    Parent,
+}
+
+/// The name that a field is grouped by.
+fn filed_name<'doc>(filing: Filing, field: FieldSelection<'doc>) -> &'doc Name
+    ensures { result.now.text ≡ filed_name filing field.entry }
+{
+    match filing {
+        Filing::Key => field.response_key(),
+        Filing::Parent => field.parent_type,
+    }
+}
+
+/// The fields of the list under the names that they are grouped by.
+fn index_of<'doc>(
     alloc: Global,
+    filing: Filing,
     list: &[FieldSelection<'doc>],
 ) -> Result<IndexMap<Name, Vec<FieldSelection<'doc>>>, AllocError>
-    ensures under { IfOk result (λ m. (n : List ℕ) → items_under n m ≡ filter (has key_of n) list.now) }
+    ensures under { IfOk result (λ m. (n : List ℕ) → items_under n m ≡ filter (has (filed_name filing) n) list.now) }
     ensures counted { IfOk result (λ m. count_in m ≡ length list.now) }
 {
     let mut index = IndexMap::new(alloc);
     for field in list {
-        push_under(alloc, &mut index, field.response_key(), *field)?;
+        push_under(alloc, &mut index, filed_name(filing, *field), *field)?;
     }
     Ok(index)
 }
@@ -87,140 +107,171 @@ fn groups_in<'doc>(
     Ok(groups)
 }
 
-/// The groups of the list by response keys ("fieldsForName").
-fn key_groups<'doc>(
+/// The fields of the list that have one name, for each name, in the order of the list.
+fn filed<'doc>(
     alloc: Global,
+    filing: Filing,
     list: &[FieldSelection<'doc>],
 ) -> Result<Vec<Vec<FieldSelection<'doc>>>, AllocError>
-    ensures filed { IfOk result (λ groups. AreFiled key_of list.now (lists_of groups)) }
+    ensures filed { IfOk result (λ groups. AreFiled (filed_name filing) list.now (lists_of groups)) }
     ensures counted { IfOk result (λ groups. sum (map length (lists_of groups)) ≡ length list.now) }
 {
-    let index = index_by_key(alloc, list)?;
+    let index = index_of(alloc, filing, list)?;
     groups_in(alloc, index)
 }
 
-/// Notes the type that the field is selected on, unless it is abstract.
-fn note_parent(
-    schema: &Schema,
-    field: FieldSelection<'_>,
-    parents: &mut IndexSet<Name>,
-) -> Result<(), AllocError>
-    ensures { OnOk result ((n : List ℕ) → is_noted n parents.new ≡ (is_noted n parents.old || is_own_parent (judged (schema_tree schema.now)) n field.entry)) }
+/// The fields of a list under one response key ("fieldsForName"): those on abstract types, which are shared by all objects, and
+/// those on each object type. One object may have the shared ones and those of one type.
+#[derive(Drop)]
+pub struct KeyGroup<'doc> {
+    pub(crate) shared: Vec<FieldSelection<'doc>>,
+    pub(crate) own: Vec<OwnFields<'doc>>,
+}
+
+/// The fields on one object type.
+#[derive(Drop)]
+pub(crate) struct OwnFields<'doc> {
+    pub(crate) fields: Vec<FieldSelection<'doc>>,
+    /// How many of them are before the first shared one, in the order of the list.
+    pub(crate) early: usize,
+}
+
+/// A group in which all fields are shared: shapes are compared whatever the types that fields are selected on.
+fn all_shared<'doc>(alloc: Global, shared: Vec<FieldSelection<'doc>>) -> KeyGroup<'doc>
+    ensures shared { result.shared.items ≡ shared.entry.items }
+    ensures own { own_lists result ≡ [] }
 {
-    if is_abstract(schema, field.parent_type) {
-        return Ok(());
+    KeyGroup {
+        shared,
+        own: Vec::new(alloc),
     }
-    let name = field.parent_type.clone()?;
-    parents.insert(name)?;
-    Ok(())
 }
 
-/// The types that the fields of the list are selected on, in order, without those that are abstract.
-fn parents_of(
-    alloc: Global,
-    schema: &Schema,
-    list: &[FieldSelection<'_>],
-) -> Result<IndexSet<Name>, AllocError>
-    ensures { IfOk result (λ parents. (n : List ℕ) → is_noted n parents ≡ list_any (is_own_parent (judged (schema_tree schema.now)) n) list.now) }
-{
-    let mut parents = IndexSet::new(alloc);
-    for field in list {
-        note_parent(schema, *field, &mut parents)?;
-    }
-    Ok(parents)
-}
-
-/// Whether the field is selected on that type or on an abstract one.
-fn is_on_one(schema: &Schema, field: FieldSelection<'_>, parent: &Name) -> bool
-    ensures { result ≡ is_on_one (judged (schema_tree schema.now)) parent.now.text field.entry }
-{
-    parent.as_str() == field.parent_type.as_str() || is_abstract(schema, field.parent_type)
-}
-
-/// The fields of the list that are selected on that type or on an abstract one, in the order of the list.
-fn fields_on_one<'doc>(
+/// The fields of the list on abstract types.
+fn abstract_fields<'doc>(
     alloc: Global,
     schema: &Schema,
     list: &[FieldSelection<'doc>],
-    parent: &Name,
 ) -> Result<Vec<FieldSelection<'doc>>, AllocError>
-    ensures { IfOk result (λ v. v.items ≡ filter (is_on_one (judged (schema_tree schema.now)) parent.now.text) list.now) }
+    ensures { IfOk result (λ v. v.items ≡ filter (is_shared (judged (schema_tree schema.now))) list.now) }
 {
     let mut found = Vec::new(alloc);
     for field in list {
-        if is_on_one(schema, *field, parent) {
+        if is_abstract(schema, field.parent_type) {
             found.push(*field)?;
         }
     }
     Ok(found)
 }
 
-/// Adds for each of these types the fields of the list that are on it or on abstract types.
-fn push_groups_on<'doc>(
-    schema: &Schema,
-    list: &[FieldSelection<'doc>],
-    parents: &IndexSet<Name>,
-    groups: &mut Vec<Vec<FieldSelection<'doc>>>,
-) -> Result<(), AllocError>
-    ensures { OnOk result (lists_of groups.new ≡ lists_of groups.old ++ map (λ n. filter (is_on_one (judged (schema_tree schema.now)) n.text) list.now) parents.now.keys) }
-{
-    let alloc = *groups.allocator();
-    for parent in parents.as_slice() {
-        groups.push(fields_on_one(alloc, schema, list, parent)?)?;
-    }
-    Ok(())
-}
-
-/// Adds the groups of a list of one key that one object may have: for each type that is not abstract the fields on it or on
-/// abstract types, or if there is none, the list ("the parent types are equal or either is not an Object Type").
-fn push_share_groups<'doc>(
-    schema: &Schema,
-    list: Vec<FieldSelection<'doc>>,
-    groups: &mut Vec<Vec<FieldSelection<'doc>>>,
-) -> Result<(), AllocError>
-    ensures { OnOk result ((added : _) × ((lists_of groups.new ≡ lists_of groups.old ++ added) × AreParentGroups (judged (schema_tree schema.now)) list.entry.items added)) }
-{
-    let alloc = *groups.allocator();
-    let parents = parents_of(alloc, schema, &list)?;
-    if parents.is_empty() {
-        groups.push(list)?;
-        return Ok(());
-    }
-    push_groups_on(schema, &list, &parents, groups)
-}
-
-/// The groups of the list that one object may have ("fieldsForName", and parent types that are equal or of which one is not an
-/// object type).
-fn share_groups<'doc>(
+/// The fields of the list on object types.
+fn object_fields<'doc>(
     alloc: Global,
     schema: &Schema,
     list: &[FieldSelection<'doc>],
-) -> Result<Vec<Vec<FieldSelection<'doc>>>, AllocError>
-    ensures groups { IfOk result (λ groups. AreShareGroups (judged (schema_tree schema.now)) (fields_of list.now) (map fields_of (lists_of groups))) }
-    ensures ordered { IfOk result (λ groups. ArePartsOf list.now (lists_of groups)) }
+) -> Result<Vec<FieldSelection<'doc>>, AllocError>
+    ensures { IfOk result (λ v. v.items ≡ filter (λ x. not (is_shared (judged (schema_tree schema.now)) x)) list.now) }
 {
-    let mut groups = Vec::new(alloc);
-    let keyed = key_groups(alloc, list)?;
-    for group in keyed {
-        push_share_groups(schema, group, &mut groups)?;
+    let mut found = Vec::new(alloc);
+    for field in list {
+        if !is_abstract(schema, field.parent_type) {
+            found.push(*field)?;
+        }
     }
-    Ok(groups)
+    Ok(found)
 }
 
-/// The groups of the list in which fields are compared in a pass, each in the order of the list. Those in which shapes are
-/// compared have together as many fields as the list.
+/// How many of the fields on each object type are before the first one on an abstract type, in the order of these types.
+fn early_counts(
+    alloc: Global,
+    schema: &Schema,
+    list: &[FieldSelection<'_>],
+) -> Result<Vec<usize>, AllocError> {
+    let mut leading = Vec::new(alloc);
+    for field in list {
+        if is_abstract(schema, field.parent_type) {
+            break;
+        }
+        leading.push(*field)?;
+    }
+    let mut counts = Vec::new(alloc);
+    for fields in &filed(alloc, Filing::Parent, &leading)? {
+        counts.push(fields.len())?;
+    }
+    Ok(counts)
+}
+
+/// The lists, each with its count of `early`, or 0 where that is shorter.
+fn own_fields<'doc>(
+    alloc: Global,
+    lists: Vec<Vec<FieldSelection<'doc>>>,
+    early: &[usize],
+) -> Result<Vec<OwnFields<'doc>>, AllocError>
+    ensures { IfOk result (λ own. map (λ o. o.fields.items) own.items ≡ lists_of lists.entry) }
+{
+    let mut own = Vec::with_capacity(alloc, lists.len())?;
+    for fields in lists {
+        let early = match early.get(own.len()) {
+            Some(count) => *count,
+            None => 0,
+        };
+        own.push(OwnFields { fields, early })?;
+    }
+    Ok(own)
+}
+
+/// The fields of one key by their parents ("the parent types are equal or either is not an Object Type").
+fn by_parents<'doc>(
+    alloc: Global,
+    schema: &Schema,
+    list: &[FieldSelection<'doc>],
+) -> Result<KeyGroup<'doc>, AllocError>
+    ensures parents { IfOk result (λ group. IsByParents (judged (schema_tree schema.now)) list.now group) }
+    ensures once { IfOk result (λ group. sum (map length (lists_in_group group)) ≡ length list.now) }
+{
+    let shared = abstract_fields(alloc, schema, list)?;
+    let objects = object_fields(alloc, schema, list)?;
+    let filed = filed(alloc, Filing::Parent, &objects)?;
+    let early = early_counts(alloc, schema, list)?;
+    let own = own_fields(alloc, filed, &early)?;
+    Ok(KeyGroup { shared, own })
+}
+
+/// The fields of one key, as a pass compares them.
+fn key_group<'doc>(
+    alloc: Global,
+    pass: Pass,
+    schema: &Schema,
+    list: Vec<FieldSelection<'doc>>,
+) -> Result<KeyGroup<'doc>, AllocError>
+    ensures parts { IfOk result (λ group. ArePartsFor pass (judged (schema_tree schema.now)) list.entry.items (parts_of group)) }
+    ensures counted { IfOk result (λ group. compared_in pass group ≤ compared pass list.entry.items) }
+    ensures ordered { IfOk result (λ group. ArePartsOf list.entry.items (lists_in_group group)) }
+    ensures once { IfOk result (λ group. sum (map length (lists_in_group group)) ≡ length list.entry.items) }
+{
+    match pass {
+        Pass::Shapes => Ok(all_shared(alloc, list)),
+        Pass::Selections => by_parents(alloc, schema, &list),
+    }
+}
+
+/// The fields of the list by response keys, as a pass compares them. Each field is in one part, once, and each part is in the
+/// order of the list.
 pub fn groups_of<'doc>(
     alloc: Global,
     pass: Pass,
     schema: &Schema,
     list: &[FieldSelection<'doc>],
-) -> Result<Vec<Vec<FieldSelection<'doc>>>, AllocError>
-    ensures groups { IfOk result (λ groups. AreGroups (Together pass (judged (schema_tree schema.now))) (fields_of list.now) (map fields_of (lists_of groups))) }
-    ensures counted { IfOk result (λ groups. sum (map (compared pass) (lists_of groups)) ≤ compared pass list.now) }
-    ensures ordered { IfOk result (λ groups. ArePartsOf list.now (lists_of groups)) }
+) -> Result<Vec<KeyGroup<'doc>>, AllocError>
+    ensures groups { IfOk result (λ groups. AreGroups (Together pass (judged (schema_tree schema.now))) (fields_of list.now) (map fields_of (parts_in groups.items))) }
+    ensures counted { IfOk result (λ groups. sum (map (compared_in pass) groups.items) ≤ compared pass list.now) }
+    ensures ordered { IfOk result (λ groups. ArePartsOf list.now (flat_map lists_in_group groups.items)) }
+    ensures once { IfOk result (λ groups. sum (map length (flat_map lists_in_group groups.items)) ≡ length list.now) }
 {
-    match pass {
-        Pass::Shapes => key_groups(alloc, list),
-        Pass::Selections => share_groups(alloc, schema, list),
+    let mut groups = Vec::new(alloc);
+    let keyed = filed(alloc, Filing::Key, list)?;
+    for fields in keyed {
+        groups.push(key_group(alloc, pass, schema, fields)?)?;
     }
+    Ok(groups)
 }

@@ -1,12 +1,14 @@
 //! Fields of a list that go together, and what is told of those that do not merge (section 5.3.2, "Field Selection Merging").
 //!
 //! Two passes compare the fields of a list (`Pass`): fields of one response key in shape, and fields that one object may have
-//! in name and arguments. In each group every field is compared with the first one.
+//! in name and arguments. The fields of one key are split once by the types that they are selected on (`KeyGroup`): those on
+//! abstract types are compared with their first, those on an object type with that one too, or else with their own first.
 //!
-//! For the layer above: `groups_of` gives the groups of a list in a pass (`AreGroups`, over `Together` of
-//! `specs/Passes.antt`); `check_group` adds what of a group does not agree (`AddsGroup`), and counts how often shapes were
-//! compared (`specs/Compared.antt`); `merged_list` gives what sets select, each content once, `sets_of` the sets of a group
-//! (`IsMerged`, `AreSetsOf` of `specs/Below.antt`).
+//! For the layer above: `groups_of` gives the groups of a list in a pass, of which the parts are groups of fields that go
+//! together (`AreGroups`, over `Together` of `specs/Passes.antt`, and `parts_of` of `specs/KeyGroups.antt`);
+//! `check_key_group` adds what of the parts of a group does not agree (`AddsEach`), and counts how often shapes were compared
+//! (`specs/Compared.antt`); `merged_list` gives what sets select, each content once (`IsMerged` of `specs/Below.antt`),
+//! `lists_below` the lists of sets below a group (`AreListsBelow` of `specs/Under.antt`).
 //!
 //! Begin with `groups.rt` and `conflicts.rt`, then `below.rt`.
 #![tactic(auto)]
@@ -18,8 +20,8 @@ mod kinds;
 mod pass;
 mod shapes;
 
-pub use below::{SelectedSet, merged_list, sets_of};
-pub use conflicts::{Breach, check_group};
-pub use groups::groups_of;
+pub use below::{SelectedSet, lists_below, merged_list};
+pub use conflicts::{Breach, check_group, check_key_group};
+pub use groups::{KeyGroup, groups_of};
 pub use pass::Pass;
 pub use rule_document_ground::FieldSelection;

@@ -1,17 +1,14 @@
 -- How often shapes are compared, and that the members of each list that is examined are last fields of chains.
-use Rattle.std.proofs.Common.{◌≡◌, ◌∙◌, ℕ, suc, ◌+◌, ◌<◌, ◌≤◌, None, List, [], ◌∷◌, ◌++◌, map, length, get_or, take, drop, Contains, refl, sym, ap, subst, append_assoc, append-nil, add-one, arith, inl, inr}
+use Rattle.std.proofs.Common.{◌≡◌, ◌∙◌, ℕ, ◌+◌, ◌≤◌, None, List, [], ◌∷◌, ◌++◌, map, length, Contains, refl, sym, ap, subst, append_assoc, append-nil, arith, inl, inr}
 use Rattle.std.specs.List.{sum}
 use Rattle.std.specs.List.Sorted.{IsPermutation}
-use Rattle.std.proofs.lemmas.List.{length-map, take-append-drop}
+use Rattle.std.proofs.lemmas.List.{length-map}
 use Rattle.std.proofs.lemmas.List.Sorted.{length_permutation}
 use Rattle.std.proofs.lemmas.Option.{slice_get_within}
-use Rattle.std.proofs.lemmas.List.Sums.{sum-map, sum_by-append}
-use Rattle.std.proofs.lemmas.List.Elements.{Contains-append_left, Contains-append_cases}
-use Rattle.std.proofs.Math.Seq.{drop-cons}
+use Rattle.std.proofs.lemmas.List.Elements.{Contains-append_cases}
 use Rattle.graphql_names.specs.Placed.{Place}
 use Rattle.rule_definitions.proofs.Lists.{not_in_nil, only, Contains-cons, Contains-first}
 use Rattle.rule_cycle_search.specs.Paths.{HasNoRepeat}
-use Rattle.rule_field_groups.specs.declared.below.SelectedSet.{SelectedSet}
 use Rattle.document_meaning.specs.MeantTree.{MeantSet, MeantOperation, MeantDocument}
 use Rattle.rule_definitions.specs.Judged.{Judged}
 use Rattle.rule_document_definitions.specs.DocumentFaults.{Broken}
@@ -20,35 +17,27 @@ use Rattle.rule_document_definitions.specs.Reached.{IsFieldOf}
 use Rattle.rule_document_definitions.specs.Chains.{Chain}
 use Rattle.rule_document_definitions.specs.Contents.{content, ContentBelow, unplaced_content}
 use Rattle.rule_document_definitions.specs.Merging.{Below, Starts}
-use Rattle.rule_document_definitions.proofs.Unplaced.{contains_map, contains_unmap}
-use Rattle.rule_field_groups.specs.in_ground.Fields.{field_of, fields_of}
+use Rattle.rule_document_definitions.proofs.Unplaced.{contains_unmap}
+use Rattle.rule_field_groups.specs.in_ground.Fields.{field_of, fields_of, content_of}
 use Rattle.rule_field_groups.specs.in_ground.declared.field_selection.FieldSelection.{FieldSelection}
 use Rattle.rule_merging_laws.specs.Contents.{PlainField, PlainBelow}
 use Rattle.rule_merging_laws.proofs.Elsewhere.{content_starts}
 use Rattle.rule_merging_laws.proofs.PlainFacts.{plain_below, below_standing}
 use Rattle.rule_field_groups.specs.declared.pass.Pass.{Pass}
 use Rattle.rule_field_groups.specs.declared.pass.Pass.TheVariants.{Shapes, Selections}
-use Rattle.rule_field_groups.specs.Below.{contents_of, meant_at, meant_sets, IsMergedIn}
+use Rattle.rule_field_groups.specs.Below.{contents_of, IsMergedIn}
 use Rattle.rule_merging.specs.Remembered.{Kept}
-use Rattle.rule_merging.specs.Examined.{SetsExamined, with_each}
+use Rattle.rule_merging.specs.Examined.{SelectsAsMuch, SetsExamined}
+use Rattle.rule_merging.specs.Twos.{IsListOf, are_two}
 use Rattle.rule_merging.specs.Verdict.{OnlyGrow}
 use Rattle.rule_field_groups.specs.Compared.{compared}
 use Rattle.rule_merging.specs.Counted.{DifferInMembers, AreApart, IsLast, AreLast, AreListed, Grows, IsCountedBy}
 use Rattle.rule_number_lists.specs.NumberLists.{HaveSame}
 use Rattle.rule_number_lists.proofs.Standing.{same_order, same_trans, same_sym, no_repeat_order}
-use Rattle.rule_field_groups.proofs.Lists.{slice_get-push_cases, contains_from_get}
+use Rattle.rule_field_groups.proofs.Counts.{sums}
+use Rattle.rule_field_groups.proofs.Lists.{slice_get-push_cases, contains_from_get, none_twice, apart_more}
 
 -- ---- sums
-
-sums : {X : Type 0} (f : X → ℕ) (xs ys : List X) → sum (map f (xs ++ ys)) ≡ sum (map f xs) + sum (map f ys)
-sums f xs ys = omega (arith, sum-map f (xs ++ ys), sum-map f xs, sum-map f ys, sum_by-append f xs ys)
-
-drop_first : {X : Type 0} (xs : List X) (i : ℕ) (x : X) → i < length xs → x ≡ get_or xs i x → drop i xs ≡ x ∷ drop (i + 1) xs
-drop_first xs i x h e = drop-cons xs i x h ∙ (rw add-one (ap (λ y. y ∷ drop (suc i) xs) (sym e)))
-
--- what is left of a list, its first one taken
-pub left_of : {X Y : Type 0} (f : Y → ℕ) (u : X → Y) (xs : List X) (i : ℕ) (x : X) → i < length xs → x ≡ get_or xs i x → sum (map f (map u (drop i xs))) ≡ f (u x) + sum (map f (map u (drop (i + 1) xs)))
-left_of f u xs i x h e = omega (arith, ap (λ l. sum (map f (map u l))) (drop_first xs i x h e), sums f (u x ∷ []) (map u (drop (i + 1) xs)))
 
 -- where nothing is compared
 no_sum : {X : Type 0} (lists : List (List X)) → sum (map (compared Selections) lists) ≡ 0
@@ -120,19 +109,10 @@ module _ (d : MeantDocument Place) where
         → ((l : List (MeantSet Place)) → Contains lists l → (v : MeantSet Place) → Contains l v → Contains sets v) → AreListed d os lists
     part_listed sets lists listed within l c x h = listed sets (Contains-first sets [] sets refl) x (h.0, (within l c h.0 h.1.0, h.1.1))
 
-    -- one of the sets with those up to it
-    pub each_listed : (xs seen : List SelectedSet) (i : ℕ) (x : SelectedSet) → i < length xs → x ≡ get_or xs i x → seen ≡ take (i + 1) xs → AreListed d os (meant_sets xs ∷ [])
-        → AreListed d os (with_each (meant_at x) (meant_sets seen))
-    each_listed xs seen i x h e is listed = part_listed (meant_sets xs) (with_each (meant_at x) (meant_sets seen)) listed (λ l c v k.
-        let u = contains_unmap (λ (w : MeantSet Place). meant_at x ∷ w ∷ []) (meant_sets seen) l c in
-        let y = contains_unmap meant_at seen u.0 u.1.0 in
-        elim (Contains-cons (meant_at x) (u.0 ∷ []) v (subst (λ (m : List (MeantSet Place)). Contains m v) (sym u.1.1) k)) [
-          | inl a ↦ subst (Contains (meant_sets xs)) a (contains_map meant_at xs x (i, h, sym e))
-          | inr b ↦ subst (Contains (meant_sets xs)) (y.1.1 ∙ sym (only u.0 v b)) (contains_map meant_at xs y.0 (from_front xs (i + 1) y.0 (subst (λ m. Contains m y.0) is y.1.0)))
-        ])
-      where
-        from_front : {X : Type 0} (ys : List X) (n : ℕ) (y : X) → Contains (take n ys) y → Contains ys y
-        from_front ys n y c = subst (λ m. Contains m y) (take-append-drop n ys) (Contains-append_left (take n ys) (drop n ys) y c)
+    -- lists of sets of which each selects no more than one of these
+    pub listed_wider : (lists parts : List (List (MeantSet Place))) → AreListed d os lists
+        → ((part : List (MeantSet Place)) → Contains parts part → (sets : List (MeantSet Place)) × (Contains lists sets × SelectsAsMuch d sets part)) → AreListed d os parts
+    listed_wider lists parts listed wide part c x h = let w = wide part c in listed w.0 w.1.0 x (w.1.1 x h)
 
     -- the fields that such sets select
     pub fields_listed : (sets : List (MeantSet Place)) (list : List FieldSelection) → IsMergedIn d sets list → AreListed d os (sets ∷ []) → AreLast d os (contents_of list)
@@ -189,6 +169,30 @@ module _ (d : MeantDocument Place) where
     different = g.different;
     last = λ os given. g.last os (less os given);
   }
+
+  -- a list of two fields
+  pub grows_two : (pass : Pass) (one other : FieldSelection) (list : List FieldSelection) (kept : List PlainField) (old new : List (List PlainField)) (before after : ℕ) → IsListOf one other list → IsPermutation (contents_of list) kept
+      → ((known : List PlainField) → Contains old known → HasNoRepeat known → HasNoRepeat (contents_of list) → HaveSame known (contents_of list) → ⊥) → new ≡ old ++ kept ∷ []
+      → before ≤ after → after ≤ before + compared pass list
+      → Grows d (λ os. (p q : FieldSelection) → are_two one other p q → IsLast d os (content_of p) × IsLast d os (content_of q)) pass old new before after
+  grows_two pass one other list kept old new before after two order none is more count =
+      grows_given (λ os. AreLast d os (contents_of list)) (λ os. (p q : FieldSelection) → are_two one other p q → IsLast d os (content_of p) × IsLast d os (content_of q)) (λ os given. lasts os (given one other (refl, refl))) pass old new before after
+      (grows_one pass list kept old new before after (apart two) order none is more count)
+    where
+      lasts : (os : List (MeantOperation Place)) → IsLast d os (content_of one) × IsLast d os (content_of other) → AreLast d os (contents_of list)
+      lasts os (a, b) = by two
+        where
+          by : IsListOf one other list → AreLast d os (contents_of list)
+          by (inl (e, l)) x c = subst (IsLast d os) (sym (only (content_of one) x (subst (λ (m : List FieldSelection). Contains (contents_of m) x) l c))) a
+          by (inr (e, l)) x c = elim (Contains-cons (content_of one) (content_of other ∷ []) x (subst (λ (m : List FieldSelection). Contains (contents_of m) x) l c)) [
+            | inl i ↦ subst (IsLast d os) i a
+            | inr r ↦ subst (IsLast d os) (sym (only (content_of other) x r)) b
+          ]
+
+      apart : IsListOf one other list → HasNoRepeat (contents_of list)
+      apart (inl (e, l)) = subst (λ (m : List FieldSelection). HasNoRepeat (contents_of m)) (sym l) (apart_more [] (content_of one) none_twice (λ c. not_in_nil (content_of one) c))
+      apart (inr (e, l)) = subst (λ (m : List FieldSelection). HasNoRepeat (contents_of m)) (sym l)
+          (apart_more (content_of one ∷ []) (content_of other) (apart_more [] (content_of one) none_twice (λ c. not_in_nil (content_of one) c)) (λ c. e (sym (only (content_of one) (content_of other) c))))
 
   both_apart : (xs ys : List (List PlainField)) → AreApart xs → AreApart ys → AreApart (xs ++ ys)
   both_apart xs ys a b list c = elim (Contains-append_cases xs ys list c) [ inl h ↦ a list h | inr h ↦ b list h ]

@@ -13,7 +13,6 @@ use Rattle.document_meaning.specs.Unplaced.{unplaced_set, unplaced_document}
 use Rattle.rule_definitions.specs.Judged.{Judged}
 use Rattle.rule_document_definitions.specs.DocumentFaults.{Broken}
 use Rattle.rule_document_definitions.specs.Selected.{StandingField}
-use Rattle.rule_document_definitions.specs.Groups.{AgreeWithHead}
 use Rattle.rule_document_definitions.specs.Contents.{ContentBelow, ContentStarts, unplaced_content}
 use Rattle.rule_document_definitions.specs.Merging.{MergingBreaks}
 use Rattle.rule_document_definitions.specs.Limits.{chain_bound}
@@ -23,22 +22,28 @@ use Rattle.rule_document_definitions.proofs.Unplaced.{contains_map, contains_unm
 use Rattle.rule_field_groups.specs.in_ground.Fields.{field_of, fields_of}
 use Rattle.rule_field_groups.specs.in_ground.declared.field_selection.FieldSelection.{FieldSelection}
 use Rattle.rule_merging_laws.specs.Contents.{PlainField, PlainSet, PlainBelow, PlainStarts, IsSelected}
-use Rattle.rule_merging_laws.specs.Settled.{StandIn, StartsStand}
+use Rattle.rule_merging_laws.specs.Settled.{StandIn, StartsStand, IsUnderWay}
+use Rattle.rule_field_sets.specs.Paired.{IsPairDone}
 use Rattle.rule_merging_laws.specs.Going.{IsEndOf, IsGoing}
-use Rattle.rule_merging_laws.proofs.SettledFacts.{settled_nothing, by_head, begun, moved, ended}
+use Rattle.rule_merging_laws.proofs.SettledFacts.{by_head, begun, moved, ended}
 use Rattle.rule_merging_laws.proofs.GoingFacts.{going_start, going_below, end_start, end_below}
 use Rattle.rule_merging_laws.proofs.PlainFacts.{arguments_plain, selected_plain}
 use Rattle.rule_merging_laws.proofs.Merges.{going_breaks, bound_passed}
 use Rattle.rule_field_groups.specs.declared.pass.Pass.{Pass}
 use Rattle.rule_field_groups.specs.declared.pass.Pass.TheVariants.{Shapes, Selections}
-use Rattle.rule_field_groups.specs.Passes.{Together, Agree, Conflict, TellsGroup}
-use Rattle.rule_field_groups.specs.Below.{contents_of, meant_sets, plain_sets, IsMergedIn, AreSetsOf}
+use Rattle.rule_field_groups.specs.Passes.{Together, Agree, Conflict, TellsEach}
+use Rattle.rule_field_groups.specs.Under.{Sets, all_sets, AreOf, HaveBoth, AreListsBelow}
+use Rattle.rule_field_groups.specs.Below.{contents_of, meant_sets, plain_sets, IsMergedIn}
+use Rattle.rule_field_groups.specs.declared.groups.KeyGroup.{KeyGroup}
+use Rattle.rule_field_groups.specs.KeyGroups.{parts_of, parts_in}
+use Rattle.rule_field_groups.proofs.Counts.{flat_push}
 use Rattle.rule_field_groups.proofs.Lists.{taken_more}
 use Rattle.rule_merging.proofs.Bare.{IsIn, bare_selects, bare_plain}
 use Rattle.rule_number_lists.specs.NumberLists.{HaveSame}
 use Rattle.rule_number_lists.proofs.Standing.{same_sym}
 use Rattle.rule_merging.specs.Remembered.{Kept, nothing_kept, HasLooked, Expands}
-use Rattle.rule_merging.specs.Examined.{Sets, all_sets, all_plain, with_each, with_sets, if_any, AreOf, HaveBoth, PlainSelected, IsLeft, AllStand, AreSettled, AreUnderWay, HaveFields, GroupExamined, GroupsExamined, ListExamined, SetsExamined, AreTwosOf, AllExamined}
+use Rattle.rule_merging.specs.Pairs.{each_with}
+use Rattle.rule_merging.specs.Examined.{all_plain, with_sets, StandTogether, PlainOwn, PlainSelected, PlainSpreads, AreLookedAt, IsLeft, AllStand, PairsAreDone, AreSettled, AreUnderWay, HaveFields, IsFresh, GroupsExamined, ListExamined, SetsExamined, AreTwosOf, AllExamined}
 
 -- ---- lists
 
@@ -61,9 +66,18 @@ items_in v = v.items
 abbrev pub sets_at : Vec SelectedSet Global → Sets
 sets_at v = meant_sets v.items
 
+-- lists of sets behind others
+pub sets_appended : (old more new : List (Vec SelectedSet Global)) → new ≡ old ++ more → all_sets (map items_in new) ≡ all_sets (map items_in old) ++ all_sets (map items_in more)
+sets_appended old more new is = ap (λ l. all_sets (map items_in l)) is ∙ ap all_sets (map-append items_in old more) ∙ map-append meant_sets (map items_in old) (map items_in more)
+
 -- the front with the next one
 pub front_more : {X Y : Type 0} (f : X → Y) (xs : List X) (i : ℕ) (x : X) → i < length xs → x ≡ get_or xs i x → map f (take (i + 1) xs) ≡ map f (take i xs) ++ f x ∷ []
 front_more f xs i x h e = ap (map f) (taken_more xs i x h e) ∙ map-append f (take i xs) (x ∷ [])
+
+-- the parts of the groups in front with those of the next one
+pub parts_more : (xs : List KeyGroup) (i : ℕ) (x : KeyGroup) → i < length xs → x ≡ get_or xs i x → map fields_of (parts_in (take (i + 1) xs)) ≡ map fields_of (parts_in (take i xs)) ++ map fields_of (parts_of x)
+parts_more xs i x h e =
+    ap (λ l. map fields_of (parts_in l)) (taken_more xs i x h e) ∙ ap (map fields_of) (flat_push parts_of (take i xs) x) ∙ map-append fields_of (parts_in (take i xs)) (parts_of x)
 
 no_items : {X : Type 0} (xs : List X) → length xs ≡ 0 → xs ≡ []
 no_items [] e = refl
@@ -91,7 +105,7 @@ agree_trans Shapes s = shape_trans s
 agree_trans Selections s = selection_trans
 
 -- fields go together where they do without places, and agree without places where they agree
-together_up : (pass : Pass) (s : Judged) (f g : StandingField Place) → Together pass s (unplaced_content f) (unplaced_content g) → Together pass s f g
+pub together_up : (pass : Pass) (s : Judged) (f g : StandingField Place) → Together pass s (unplaced_content f) (unplaced_content g) → Together pass s f g
 together_up Shapes s f g t = key_up f g t
 together_up Selections s f g t = (key_up f g t.0, t.1)
 
@@ -102,9 +116,13 @@ agree_down Selections s f g a = (a.0, arguments_plain f.head.arguments g.head.ar
 -- before the first operation
 pub nothing_settled : (pass : Pass) (s : Judged) (d : MeantDocument Place) (kept : Kept) → kept ≡ nothing_kept → AreSettled d pass s kept
 nothing_settled pass s d kept e = subst (AreSettled d pass s) (sym e) (record {
-  fields = settled_nothing (PlainBelow d) (Together pass s) (Agree pass s) (StandIn []) (λ f g h. not_in_nil h.0 h.1.0);
+  fields = record { agree = λ f g h t. none f g (h t); below = λ f g x y h t. none f g (h t) };
   sets = λ sets c. not_in_nil sets c;
+  pairs = λ a b h. not_in_nil h.0 h.1.0;
 })
+  where
+    none : {X : Type 0} (f g : PlainField) → StandIn [] f g → X
+    none f g h = not_in_nil h.0 h.1.0
 
 -- ---- two sets in one list
 
@@ -113,54 +131,65 @@ both_on next later f g on (inl h) = inl h
 both_on next later f g on (inr (inl h)) = inr (inl h)
 both_on next later f g on (inr (inr (sets, (c, both)))) = inr (inr (sets, (on sets c, both)))
 
-sets_under : (group : List (StandingField Place)) (sets : List SelectedSet) → AreSetsOf group (meant_sets sets) → (vs : Sets) → Contains (all_sets (if_any sets)) vs → AreOf group vs
-sets_under group [] are vs c = not_in_nil vs c
-sets_under group (x ∷ xs) are vs c = λ v k. are.within v (subst (λ (l : Sets). Contains l v) (only (meant_sets (x ∷ xs)) vs c) k)
+-- ---- more of a list
 
-sets_below : (group : List (StandingField Place)) (sets : List SelectedSet) → AreSetsOf group (meant_sets sets) → (f g : StandingField Place) → Contains group f → Contains group g → HaveBoth (all_sets (if_any sets)) f g
-sets_below group [] are f g a b = elim (are.covers f a) [ inl bare ↦ inl bare | inr c ↦ not_in_nil (unplaced_set f.set) c ]
-sets_below group (x ∷ xs) are f g a b = elim (are.covers f a) [
-  | inl bare ↦ inl bare
-  | inr c ↦ elim (are.covers g b) [
-    | inl bare ↦ inr (inl bare)
-    | inr k ↦ inr (inr (meant_sets (x ∷ xs), (Contains-first (meant_sets (x ∷ xs)) [] (meant_sets (x ∷ xs)) refl, (c, k))))
-  ]
-]
+abbrev pub HasMore : {X : Type 0} → List X → List X → Type 0
+HasMore {X} old new = (x : X) → Contains old x → Contains new x
 
 -- ---- two by two
+
+pub swapped : {X : Type 0} (a b : X) → HaveSame (a ∷ b ∷ []) (b ∷ a ∷ [])
+swapped {X} a b x = (turn a b, turn b a)
+  where
+    turn : (c d : X) → Contains (c ∷ d ∷ []) x → Contains (d ∷ c ∷ []) x
+    turn c d h = elim (Contains-cons c (d ∷ []) x h) [
+      | inl e ↦ Contains-rest d (c ∷ []) x (Contains-first c [] x e)
+      | inr r ↦ Contains-first d (c ∷ []) x (sym (only d x r))
+    ]
+
+-- without places too
+pub same_plain : (xs ys : Sets) → HaveSame xs ys → HaveSame (plain_sets xs) (plain_sets ys)
+same_plain xs ys same x = (
+  λ c. let v = contains_unmap unplaced_set xs x c in subst (Contains (plain_sets ys)) v.1.1 (contains_map unplaced_set ys v.0 ((same v.0).0 v.1.0)),
+  λ c. let v = contains_unmap unplaced_set ys x c in subst (Contains (plain_sets xs)) v.1.1 (contains_map unplaced_set xs v.0 ((same v.0).1 v.1.0)),
+)
+
+-- a list of what is nowhere
+pub none_in : {X : Type 0} (xs : List X) → ((x : X) → Contains xs x → Contains [] x) → xs ≡ []
+none_in [] none = refl
+none_in (x ∷ xs) none = absurd (not_in_nil x (none x (Contains-first x xs x refl)))
 
 pub no_twos : AreTwosOf [] []
 no_twos = record { within = λ two c. not_in_nil two c; covers = λ v w a. not_in_nil v a }
 
-pub twos_more : (front : Sets) (v : MeantSet Place) (twos : List Sets) → AreTwosOf front twos → AreTwosOf (front ++ v ∷ []) (twos ++ with_each v (front ++ v ∷ []))
+pub twos_more : (front : Sets) (v : MeantSet Place) (twos : List Sets) → AreTwosOf front twos → AreTwosOf (front ++ v ∷ []) (twos ++ each_with (front ++ v ∷ []) v)
 twos_more front v twos are = record {
-  within = λ two c w k. elim (Contains-append_cases twos (with_each v (front ++ v ∷ [])) two c) [
+  within = λ two c w k. elim (Contains-append_cases twos (each_with (front ++ v ∷ []) v) two c) [
     | inl a ↦ Contains-append_left front (v ∷ []) w (are.within two a w k)
     | inr b ↦
-        let u = contains_unmap (λ (x : MeantSet Place). v ∷ x ∷ []) (front ++ v ∷ []) two b in
-        elim (Contains-cons v (u.0 ∷ []) w (subst (λ (l : Sets). Contains l w) (sym u.1.1) k)) [
-          | inl e ↦ subst (Contains (front ++ v ∷ [])) e (in_last front v)
-          | inr r ↦ subst (Contains (front ++ v ∷ [])) (sym (only u.0 w r)) u.1.0
+        let u = contains_unmap (λ (x : MeantSet Place). x ∷ v ∷ []) (front ++ v ∷ []) two b in
+        elim (Contains-cons u.0 (v ∷ []) w (subst (λ (l : Sets). Contains l w) (sym u.1.1) k)) [
+          | inl e ↦ subst (Contains (front ++ v ∷ [])) e u.1.0
+          | inr r ↦ subst (Contains (front ++ v ∷ [])) (sym (only v w r)) (in_last front v)
         ]
   ];
   covers = λ x y a b. elim (Contains-append_cases front (v ∷ []) x a) [
     | inl i ↦ elim (Contains-append_cases front (v ∷ []) y b) [
-      | inl j ↦ let two = are.covers x y i j in (two.0, (Contains-append_left twos (with_each v (front ++ v ∷ [])) two.0 two.1.0, two.1.1))
-      | inr j ↦ (v ∷ x ∷ [], (with_one x a, (Contains-rest v (x ∷ []) x (Contains-first x [] x refl), Contains-first v (x ∷ []) y (sym (only v y j)))))
+      | inl j ↦ let two = are.covers x y i j in (two.0, (Contains-append_left twos (each_with (front ++ v ∷ []) v) two.0 two.1.0, two.1.1))
+      | inr j ↦ (x ∷ v ∷ [], (with_last x a, subst (λ (z : MeantSet Place). HaveSame (x ∷ v ∷ []) (x ∷ z ∷ [])) (sym (only v y j)) (λ z. (λ c. c, λ c. c))))
     ]
-    | inr i ↦ (v ∷ y ∷ [], (with_one y b, (Contains-first v (y ∷ []) x (sym (only v x i)), Contains-rest v (y ∷ []) y (Contains-first y [] y refl))))
+    | inr i ↦ (y ∷ v ∷ [], (with_last y b, subst (λ (z : MeantSet Place). HaveSame (y ∷ v ∷ []) (z ∷ y ∷ [])) (sym (only v x i)) (swapped y v)))
   ];
 }
   where
-    with_one : (x : MeantSet Place) → Contains (front ++ v ∷ []) x → Contains (twos ++ with_each v (front ++ v ∷ [])) (v ∷ x ∷ [])
-    with_one x a = Contains-append_right twos (with_each v (front ++ v ∷ [])) (v ∷ x ∷ []) (contains_map (λ (w : MeantSet Place). v ∷ w ∷ []) (front ++ v ∷ []) x a)
+    with_last : (x : MeantSet Place) → Contains (front ++ v ∷ []) x → Contains (twos ++ each_with (front ++ v ∷ []) v) (x ∷ v ∷ [])
+    with_last x a = Contains-append_right twos (each_with (front ++ v ∷ []) v) (x ∷ v ∷ []) (contains_map (λ (w : MeantSet Place). w ∷ v ∷ []) (front ++ v ∷ []) x a)
 
 module _ (pass : Pass) (s : Judged) (d : MeantDocument Place) where
   -- ---- groups
 
-  pub group_examined : (group : List (StandingField Place)) (added : List (Broken Place)) (sets : List SelectedSet) → TellsGroup pass s group added → AreSetsOf group (meant_sets sets)
-      → GroupExamined pass s d group added (all_sets (if_any sets))
-  group_examined group added sets tells are = record { tells = tells; under = sets_under group sets are; below = sets_below group sets are }
+  pub key_examined : (groups : List (List (StandingField Place))) (added : List (Broken Place)) (lists : List Sets) → TellsEach pass s groups added → AreListsBelow groups lists → GroupsExamined pass s d groups added lists
+  key_examined groups added lists tells are = record { right = tells.right; under = are.under; agree = tells.agree; below = are.below }
 
   pub no_groups : GroupsExamined pass s d [] [] []
   no_groups = record {
@@ -170,26 +199,25 @@ module _ (pass : Pass) (s : Judged) (d : MeantDocument Place) where
     below = λ group c. not_in_nil group c;
   }
 
-  -- one more group
-  groups_more : (groups : List (List (StandingField Place))) (added : List (Broken Place)) (next : List Sets) (group : List (StandingField Place)) (more : List (Broken Place)) (below : List Sets)
-      → GroupsExamined pass s d groups added next → GroupExamined pass s d group more below → GroupsExamined pass s d (groups ++ group ∷ []) (added ++ more) (next ++ below)
-  groups_more groups added next group more below so_far here = record {
+  -- more groups
+  groups_more : (groups : List (List (StandingField Place))) (added : List (Broken Place)) (next : List Sets) (others : List (List (StandingField Place))) (more : List (Broken Place)) (below : List Sets)
+      → GroupsExamined pass s d groups added next → GroupsExamined pass s d others more below → GroupsExamined pass s d (groups ++ others) (added ++ more) (next ++ below)
+  groups_more groups added next others more below so_far here = record {
     right = λ fault c. elim (Contains-append_cases added more fault c) [
-      | inl a ↦ let t = so_far.right fault a in (t.0, (Contains-append_left groups (group ∷ []) t.0 t.1.0, t.1.1))
-      | inr b ↦ (group, (in_last groups group, here.tells.right fault b))
+      | inl a ↦ let t = so_far.right fault a in (t.0, (Contains-append_left groups others t.0 t.1.0, t.1.1))
+      | inr b ↦ let t = here.right fault b in (t.0, (Contains-append_right groups others t.0 t.1.0, t.1.1))
     ];
     under = λ sets c. elim (Contains-append_cases next below sets c) [
-      | inl a ↦ let u = so_far.under sets a in (u.0, (Contains-append_left groups (group ∷ []) u.0 u.1.0, u.1.1))
-      | inr b ↦ (group, (in_last groups group, here.under sets b))
+      | inl a ↦ let u = so_far.under sets a in (u.0, (Contains-append_left groups others u.0 u.1.0, u.1.1))
+      | inr b ↦ let u = here.under sets b in (u.0, (Contains-append_right groups others u.0 u.1.0, u.1.1))
     ];
-    agree = λ e g c. elim (Contains-append_cases groups (group ∷ []) g c) [
+    agree = λ e g c. elim (Contains-append_cases groups others g c) [
       | inl a ↦ so_far.agree (left_empty added more e) g a
-      | inr b ↦ subst (AgreeWithHead (Agree pass s)) (sym (only group g b)) (here.tells.agree (right_empty added more e))
+      | inr b ↦ here.agree (right_empty added more e) g b
     ];
-    below = λ g c f h in_f in_h. elim (Contains-append_cases groups (group ∷ []) g c) [
+    below = λ g c f h in_f in_h. elim (Contains-append_cases groups others g c) [
       | inl a ↦ both_on next (next ++ below) f h (λ sets k. Contains-append_left next below sets k) (so_far.below g a f h in_f in_h)
-      | inr b ↦ both_on below (next ++ below) f h (λ sets k. Contains-append_right next below sets k)
-          (here.below f h (subst (λ k. Contains k f) (only group g b) in_f) (subst (λ k. Contains k h) (only group g b) in_h))
+      | inr b ↦ both_on below (next ++ below) f h (λ sets k. Contains-append_right next below sets k) (here.below g b f h in_f in_h)
     ];
   }
 
@@ -197,17 +225,15 @@ module _ (pass : Pass) (s : Judged) (d : MeantDocument Place) where
   abbrev pub GroupsTold : List (Broken Place) → List (Broken Place) → List Sets → List Sets → List (List (StandingField Place)) → Type 0
   GroupsTold told later next last groups = (added : List (Broken Place)) × ((below : List Sets) × ((later ≡ told ++ added) × ((last ≡ next ++ below) × GroupsExamined pass s d groups added below)))
 
-  pub groups_step : (told mid later : List (Broken Place)) (next between last : List Sets) (groups : List (List (StandingField Place))) (group : List (StandingField Place))
-      → GroupsTold told mid next between groups
-      → ((added : List (Broken Place)) × ((below : List Sets) × ((later ≡ mid ++ added) × ((last ≡ between ++ below) × GroupExamined pass s d group added below))))
-      → GroupsTold told later next last (groups ++ group ∷ [])
-  groups_step told mid later next between last groups group (a, (n, (is, (lies, so_far)))) (b, (m, (is_too, (lies_too, here)))) = (
+  pub groups_step : (told mid later : List (Broken Place)) (next between last : List Sets) (groups others : List (List (StandingField Place)))
+      → GroupsTold told mid next between groups → GroupsTold mid later between last others → GroupsTold told later next last (groups ++ others)
+  groups_step told mid later next between last groups others (a, (n, (is, (lies, so_far)))) (b, (m, (is_too, (lies_too, here)))) = (
     a ++ b,
     (
       n ++ m,
       (
         is_too ∙ ap (λ l. l ++ b) is ∙ append_assoc told a b,
-        (lies_too ∙ ap (λ l. l ++ m) lies ∙ append_assoc next n m, groups_more groups a n group b m so_far here),
+        (lies_too ∙ ap (λ l. l ++ m) lies ∙ append_assoc next n m, groups_more groups a n others b m so_far here),
       ),
     ),
   )
@@ -215,38 +241,113 @@ module _ (pass : Pass) (s : Judged) (d : MeantDocument Place) where
   -- ---- what sets select
 
   -- what stood in lists does so with more of them
-  stand_more : (old new : List (List PlainField)) → ((list : List PlainField) → Contains old list → Contains new list) → (x y : PlainField) → StandIn old x y → StandIn new x y
+  pub stand_more : (old new : List (List PlainField)) → HasMore old new → (x y : PlainField) → StandIn old x y → StandIn new x y
   stand_more old new more x y h = (h.0, (more h.0 h.1.0, h.1.1))
+
+  pub together_more : (old new : List (List PlainField)) → HasMore old new → (x y : PlainField) → StandTogether pass s old x y → StandTogether pass s new x y
+  together_more old new more x y h t = stand_more old new more x y (h t)
+
+  -- what stands in more lists stood before, or is fresh
+  pub moved_lists : (o : MeantOperation Place) (Left Later : PlainField → PlainField → Type 0) (old new : List (List PlainField)) → HasMore old new
+      → ((f g : PlainField) → Left f g → StandTogether pass s new f g ⊎ Later f g)
+      → ((f g : PlainField) → StandIn new f g → StandIn old f g ⊎ (Together pass s f g → Agree pass s f g × ((x y : PlainField) → PlainBelow d f x → PlainBelow d g y → Later x y)))
+      → IsUnderWay (PlainBelow d) (Together pass s) (Agree pass s) (PlainStarts d o) Left (StandTogether pass s old)
+      → IsUnderWay (PlainBelow d) (Together pass s) (Agree pass s) (PlainStarts d o) Later (StandTogether pass s new)
+  moved_lists o Left Later old new keeps left fresh ok = record {
+    start = λ f g a b. on f g (ok.start f g a b);
+    agree = λ f g h t. elim (fresh f g (h t)) [ inl was ↦ ok.agree f g (λ u. was) t | inr now ↦ (now t).0 ];
+    below = λ f g x y h t a b. elim (fresh f g (h t)) [ inl was ↦ on x y (ok.below f g x y (λ u. was) t a b) | inr now ↦ inr ((now t).1 x y a b) ];
+  }
+    where
+      on : (f g : PlainField) → StandTogether pass s old f g ⊎ Left f g → StandTogether pass s new f g ⊎ Later f g
+      on f g (inl h) = inl (together_more old new keeps f g h)
+      on f g (inr h) = left f g h
 
   -- all that the sets select, without places, is in the list
   in_merged : (sets : Sets) (list : List FieldSelection) → IsMergedIn d sets list → (x : PlainField) → PlainSelected d (plain_sets sets) x → Contains (contents_of list) x
   in_merged sets list merged x h = let e = selected_plain d sets x h in subst (Contains (contents_of list)) e.1.1 (merged.covers e.0 e.1.0)
 
+  -- any two that the sets select stand in one of the lists, if they go together
+  abbrev pub SetsStand : Sets → List (List PlainField) → Type 0
+  SetsStand sets lists = (x y : PlainField) → PlainSelected d (plain_sets sets) x → PlainSelected d (plain_sets sets) y → StandTogether pass s lists x y
+
   -- a list of sets is left no more, whose fields stand
   abbrev Settles : Kept → Kept → List Sets → List Sets → Type 0
   Settles old new lists next = (o : MeantOperation Place) (left : List (List PlainSet))
-      → AreUnderWay d pass s o (all_plain lists ++ left) old → AreUnderWay d pass s o (left ++ all_plain next) new × AllStand d (all_plain lists) new.lists
+      → AreUnderWay d pass s o [] (all_plain lists ++ left) old → AreUnderWay d pass s o [] (left ++ all_plain next) new × AllStand d pass s (all_plain lists) new.lists
 
-  all_of_one : (sets : Sets) (lists : List (List PlainField)) → ((x y : PlainField) → PlainSelected d (plain_sets sets) x → PlainSelected d (plain_sets sets) y → StandIn lists x y) → AllStand d (all_plain (sets ∷ [])) lists
+  pub all_of_one : (sets : Sets) (lists : List (List PlainField)) → SetsStand sets lists → AllStand d pass s (all_plain (sets ∷ [])) lists
   all_of_one sets lists stand vs c x y a b =
       let same = only (plain_sets sets) vs c in
       stand x y (subst (λ (l : List PlainSet). PlainSelected d l x) same a) (subst (λ (l : List PlainSet). PlainSelected d l y) same b)
 
   -- the first list is left no more, and what is left later has all others
-  left_on : (sets : Sets) (left later : List (List PlainSet)) (lists : List (List PlainField)) → ((x y : PlainField) → PlainSelected d (plain_sets sets) x → PlainSelected d (plain_sets sets) y → StandIn lists x y)
-      → ((l : List PlainSet) → Contains left l → Contains later l) → (x y : PlainField) → IsLeft d (plain_sets sets ∷ left) x y → StandIn lists x y ⊎ IsLeft d later x y
+  left_on : (sets : Sets) (left later : List (List PlainSet)) (lists : List (List PlainField)) → SetsStand sets lists → HasMore left later
+      → (x y : PlainField) → IsLeft d (plain_sets sets ∷ left) x y → StandTogether pass s lists x y ⊎ IsLeft d later x y
   left_on sets left later lists stand on x y h = elim (Contains-cons (plain_sets sets) left h.0 h.1.0) [
     | inl e ↦ inl (stand x y (subst (λ (l : List PlainSet). PlainSelected d l x) (sym e) h.1.1.0) (subst (λ (l : List PlainSet). PlainSelected d l y) (sym e) h.1.1.1))
     | inr r ↦ inr (h.0, (on h.0 r, h.1.1))
   ]
 
-  dropped : (sets : Sets) (kept : Kept) → ((x y : PlainField) → PlainSelected d (plain_sets sets) x → PlainSelected d (plain_sets sets) y → StandIn kept.lists x y)
-      → (o : MeantOperation Place) (left : List (List PlainSet)) → AreUnderWay d pass s o (plain_sets sets ∷ left) kept → AreUnderWay d pass s o (left ++ []) kept
-  dropped sets kept stand o left under = subst (λ l. AreUnderWay d pass s o l kept) (sym (append-nil left)) (record {
-    fields = moved (PlainBelow d) (Together pass s) (Agree pass s) (PlainStarts d o) (IsLeft d (plain_sets sets ∷ left)) (IsLeft d left) (StandIn kept.lists) (StandIn kept.lists)
+  pub left_wider : (left later : List (List PlainSet)) → HasMore left later → (x y : PlainField) → IsLeft d left x y → IsLeft d later x y
+  left_wider left later on x y h = (h.0, (on h.0 h.1.0, h.1.1))
+
+  pub dropped : (sets : Sets) (kept : Kept) → SetsStand sets kept.lists → (o : MeantOperation Place) (left : List (List PlainSet)) → AreUnderWay d pass s o [] (plain_sets sets ∷ left) kept → AreUnderWay d pass s o [] left kept
+  dropped sets kept stand o left under = record {
+    fields = moved (PlainBelow d) (Together pass s) (Agree pass s) (PlainStarts d o) (IsLeft d (plain_sets sets ∷ left)) (IsLeft d left) (StandTogether pass s kept.lists) (StandTogether pass s kept.lists)
         (λ f g h. h) (left_on sets left left kept.lists stand (λ l c. c)) (λ f g h. inl h) under.fields;
     sets = under.sets;
-  })
+    pairs = under.pairs;
+  }
+
+  dropped_last : (sets : Sets) (kept : Kept) → SetsStand sets kept.lists → (o : MeantOperation Place) (left : List (List PlainSet)) → AreUnderWay d pass s o [] (plain_sets sets ∷ left) kept → AreUnderWay d pass s o [] (left ++ []) kept
+  dropped_last sets kept stand o left under = subst (λ l. AreUnderWay d pass s o [] l kept) (sym (append-nil left)) (dropped sets kept stand o left under)
+
+  -- ---- pairs that are done
+
+  abbrev pub DoneIn : Kept → PlainSet → PlainSet → Type 0
+  DoneIn kept a b = IsPairDone PlainOwn (PlainSpreads d) (Together pass s) (StandIn kept.lists) (AreLookedAt kept.looked) a b
+
+  pub looked_more : (old new : List (List PlainSet)) → HasMore old new → (a b : PlainSet) → AreLookedAt old a b → AreLookedAt new a b
+  looked_more old new more a b h = (h.0, (more h.0 h.1.0, h.1.1))
+
+  pub done_more : (old new : Kept) → HasMore old.lists new.lists → HasMore old.looked new.looked → (a b : PlainSet) → DoneIn old a b → DoneIn new a b
+  done_more old new lists looked a b h = record {
+    own = λ x y p q t. stand_more old.lists new.lists lists x y (h.own x y p q t);
+    one = λ c k. looked_more old.looked new.looked looked c b (h.one c k);
+    other = λ c k. looked_more old.looked new.looked looked a c (h.other c k);
+  }
+
+  -- with more lists
+  pub pairs_stay : (twos : List (List PlainSet)) (old : Kept) (lists : List (List PlainField)) → HasMore old.lists lists → PairsAreDone d pass s twos old → PairsAreDone d pass s twos (record old { lists = lists })
+  pairs_stay twos old lists more ok a b h = elim (ok a b h) [ inl left ↦ inl left | inr done ↦ inr (done_more old (record old { lists = lists }) more (λ l c. c) a b done) ]
+
+  -- ---- a list of fields
+
+  module _ (list : List FieldSelection) (next : List Sets) (h : ListExamined pass s d list [] next) where
+    -- their sets are in one of the next lists
+    below_both : (f g : StandingField Place) → HaveBoth next f g → (x y : PlainField) → PlainBelow d (unplaced_content f) x → PlainBelow d (unplaced_content g) y → IsLeft d (all_plain next) x y
+    below_both f g (inl bare) x y a b = absurd (bare_selects (unplaced_document d) (unplaced_set f.set) (bare_plain f.set bare) x a)
+    below_both f g (inr (inl bare)) x y a b = absurd (bare_selects (unplaced_document d) (unplaced_set g.set) (bare_plain g.set bare) y b)
+    below_both f g (inr (inr (vs, (c, (v, w))))) x y a b = (plain_sets vs, (contains_map plain_sets next vs c, ((unplaced_set f.set, (v, a)), (unplaced_set g.set, (w, b)))))
+
+    -- what is told of two of its fields that go together
+    abbrev IsTwoFresh : PlainField → PlainField → Type 0
+    IsTwoFresh x y = Together pass s x y → Agree pass s x y × ((u v : PlainField) → PlainBelow d x u → PlainBelow d y v → IsLeft d (all_plain next) u v)
+
+    fresh_fields : (f g : StandingField Place) → Contains (fields_of list) f → Contains (fields_of list) g → IsTwoFresh (unplaced_content f) (unplaced_content g)
+    fresh_fields f g in_f in_g t =
+        let shared = h.are.covered f g in_f in_g (together_up pass s f g t) in (
+          agree_down pass s f g (by_head (ContentBelow d) (Together pass s) (Agree pass s) (agree_sym pass s) (agree_trans pass s) shared.0 f g (h.examined.agree refl shared.0 shared.1.0) shared.1.1.0 shared.1.1.1),
+          below_both f g (h.examined.below shared.0 shared.1.0 f g shared.1.1.0 shared.1.1.1),
+        )
+
+    -- where nothing is told, it is fresh, in whatever order it is kept
+    pub list_fresh : (kept : List PlainField) → HaveSame (contents_of list) kept → IsFresh pass s d (all_plain next) kept
+    list_fresh kept same x y a b =
+        let f = contains_unmap unplaced_content (fields_of list) x ((same x).1 a) in
+        let g = contains_unmap unplaced_content (fields_of list) y ((same y).1 b) in
+        subst (λ v. IsTwoFresh v y) f.1.1 (subst (IsTwoFresh (unplaced_content f.0)) g.1.1 (fresh_fields f.0 g.0 f.1.0 g.1.0))
 
   -- ---- a list of fields that is new
 
@@ -255,60 +356,32 @@ module _ (pass : Pass) (s : Judged) (d : MeantDocument Place) where
     abbrev lists_now : List (List PlainField)
     lists_now = old.lists ++ kept ∷ []
 
-    stand_here : (f g : PlainField) → Contains (contents_of list) f → Contains (contents_of list) g → StandIn lists_now f g
-    stand_here f g a b = (kept, (in_last old.lists kept, ((same f).0 a, (same g).0 b)))
+    stand_selected : SetsStand sets lists_now
+    stand_selected x y a b t = (kept, (in_last old.lists kept, ((same x).0 (in_merged sets list merged x a), (same y).0 (in_merged sets list merged y b))))
 
-    stand_selected : (x y : PlainField) → PlainSelected d (plain_sets sets) x → PlainSelected d (plain_sets sets) y → StandIn lists_now x y
-    stand_selected x y a b = stand_here x y (in_merged sets list merged x a) (in_merged sets list merged y b)
-
-    more_here : (l : List PlainField) → Contains old.lists l → Contains lists_now l
+    more_here : HasMore old.lists lists_now
     more_here l c = Contains-append_left old.lists (kept ∷ []) l c
 
-    -- what is asked of two fields that stand in the list
-    abbrev Fresh : List (List PlainSet) → PlainField → PlainField → Type 0
-    Fresh later f g = (Together pass s f g → Agree pass s f g) × (Together pass s f g → (x y : PlainField) → PlainBelow d f x → PlainBelow d g y → StandIn lists_now x y ⊎ IsLeft d later x y)
-
-    -- their sets are in one of the next lists
-    below_both : (left : List (List PlainSet)) (f g : StandingField Place) → HaveBoth next f g → (x y : PlainField) → PlainBelow d (unplaced_content f) x → PlainBelow d (unplaced_content g) y → IsLeft d (left ++ all_plain next) x y
-    below_both left f g (inl bare) x y a b = absurd (bare_selects (unplaced_document d) (unplaced_set f.set) (bare_plain f.set bare) x a)
-    below_both left f g (inr (inl bare)) x y a b = absurd (bare_selects (unplaced_document d) (unplaced_set g.set) (bare_plain g.set bare) y b)
-    below_both left f g (inr (inr (vs, (c, (v, w))))) x y a b =
-        (plain_sets vs, (Contains-append_right left (all_plain next) (plain_sets vs) (contains_map plain_sets next vs c), ((unplaced_set f.set, (v, a)), (unplaced_set g.set, (w, b)))))
-
-    fresh_fields : (left : List (List PlainSet)) (f g : StandingField Place) → Contains (fields_of list) f → Contains (fields_of list) g → Fresh (left ++ all_plain next) (unplaced_content f) (unplaced_content g)
-    fresh_fields left f g in_f in_g = (
-      λ t.
-          let shared = h.are.covered f g in_f in_g (together_up pass s f g t) in
-          agree_down pass s f g (by_head (ContentBelow d) (Together pass s) (Agree pass s) (agree_sym pass s) (agree_trans pass s) shared.0 f g (h.examined.agree refl shared.0 shared.1.0) shared.1.1.0 shared.1.1.1),
-      λ t x y a b.
-          let shared = h.are.covered f g in_f in_g (together_up pass s f g t) in
-          inr (below_both left f g (h.examined.below shared.0 shared.1.0 f g shared.1.1.0 shared.1.1.1) x y a b),
-    )
-
-    fresh : (left : List (List PlainSet)) (f g : PlainField) → Contains (contents_of list) f → Contains (contents_of list) g → Fresh (left ++ all_plain next) f g
-    fresh left f g in_f in_g =
-        let y = contains_unmap unplaced_content (fields_of list) f in_f in
-        let z = contains_unmap unplaced_content (fields_of list) g in_g in
-        subst (λ v. Fresh (left ++ all_plain next) v g) y.1.1 (subst (Fresh (left ++ all_plain next) (unplaced_content y.0)) z.1.1 (fresh_fields left y.0 z.0 y.1.0 z.1.0))
-
-    new_settles : Settles old (record { lists = lists_now; expanded = old.expanded }) (sets ∷ []) next
+    new_settles : Settles old (record old { lists = lists_now }) (sets ∷ []) next
     new_settles o left under = (
       record {
-        fields = moved (PlainBelow d) (Together pass s) (Agree pass s) (PlainStarts d o) (IsLeft d (plain_sets sets ∷ left)) (IsLeft d (left ++ all_plain next)) (StandIn old.lists) (StandIn lists_now)
-            (stand_more old.lists lists_now more_here)
+        fields = moved_lists o (IsLeft d (plain_sets sets ∷ left)) (IsLeft d (left ++ all_plain next)) old.lists lists_now more_here
             (left_on sets left (left ++ all_plain next) lists_now stand_selected (λ l c. Contains-append_left left (all_plain next) l c))
             (λ f g k. elim (Contains-append_cases old.lists (kept ∷ []) k.0 k.1.0) [
               | inl a ↦ inl (k.0, (a, k.1.1))
-              | inr b ↦ inr (fresh left f g ((same f).1 (subst (λ (l : List PlainField). Contains l f) (only kept k.0 b) k.1.1.0)) ((same g).1 (subst (λ (l : List PlainField). Contains l g) (only kept k.0 b) k.1.1.1)))
+              | inr b ↦ inr (λ t.
+                  let now = list_fresh list next h kept same f g (subst (λ (l : List PlainField). Contains l f) (only kept k.0 b) k.1.1.0) (subst (λ (l : List PlainField). Contains l g) (only kept k.0 b) k.1.1.1) t in
+                  (now.0, λ x y p q. left_wider (all_plain next) (left ++ all_plain next) (λ l c. Contains-append_right left (all_plain next) l c) x y (now.1 x y p q)))
             ])
             under.fields;
-        sets = λ vs c x y a b. stand_more old.lists lists_now more_here x y (under.sets vs c x y a b);
+        sets = λ vs c x y a b. together_more old.lists lists_now more_here x y (under.sets vs c x y a b);
+        pairs = pairs_stay [] old lists_now more_here under.pairs;
       },
       all_of_one sets lists_now stand_selected,
     )
 
   pub new_fields : (sets : Sets) (list : List FieldSelection) (kept : List PlainField) (added : List (Broken Place)) (next : List Sets) (old new : Kept) → IsMergedIn d sets list → HaveSame (contents_of list) kept
-      → ListExamined pass s d list added next → new ≡ record { lists = old.lists ++ kept ∷ []; expanded = old.expanded } → SetsExamined pass s d (sets ∷ []) old new added next
+      → ListExamined pass s d list added next → new ≡ record old { lists = old.lists ++ kept ∷ [] } → SetsExamined pass s d (sets ∷ []) old new added next
   new_fields sets list kept added next old new merged same h is = record {
     right = λ fault c.
         let t = h.examined.right fault c in
@@ -321,7 +394,7 @@ module _ (pass : Pass) (s : Judged) (d : MeantDocument Place) where
     more = λ l c. subst (λ (k : Kept). Contains k.lists l) (sym is) (Contains-append_left old.lists (kept ∷ []) l c);
     settled = λ e o left under.
         let whole : ListExamined pass s d list [] next = subst (λ a. ListExamined pass s d list a next) e h in
-        subst (λ (k : Kept). AreUnderWay d pass s o (left ++ all_plain next) k × AllStand d (all_plain (sets ∷ [])) k.lists) (sym is) (new_settles sets list kept next old merged same whole o left under);
+        subst (λ (k : Kept). AreUnderWay d pass s o [] (left ++ all_plain next) k × AllStand d pass s (all_plain (sets ∷ [])) k.lists) (sym is) (new_settles sets list kept next old merged same whole o left under);
   }
 
   -- a list of fields of which one with the same members is known
@@ -332,9 +405,9 @@ module _ (pass : Pass) (s : Judged) (d : MeantDocument Place) where
     under = λ vs c. not_in_nil vs c;
     more = λ l c. subst (λ (k : Kept). Contains k.lists l) (sym is) c;
     settled = λ e o left under.
-        let stand : (x y : PlainField) → PlainSelected d (plain_sets sets) x → PlainSelected d (plain_sets sets) y → StandIn old.lists x y =
-        λ x y a b. (known, (there, ((same x).1 (in_merged sets list merged x a), (same y).1 (in_merged sets list merged y b)))) in
-        subst (λ (k : Kept). AreUnderWay d pass s o (left ++ []) k × AllStand d (all_plain (sets ∷ [])) k.lists) (sym is) (dropped sets old stand o left under, all_of_one sets old.lists stand);
+        let stand : SetsStand sets old.lists =
+        λ x y a b t. (known, (there, ((same x).1 (in_merged sets list merged x a), (same y).1 (in_merged sets list merged y b)))) in
+        subst (λ (k : Kept). AreUnderWay d pass s o [] (left ++ []) k × AllStand d pass s (all_plain (sets ∷ [])) k.lists) (sym is) (dropped_last sets old stand o left under, all_of_one sets old.lists stand);
   }
 
   -- sets with the same members select the same
@@ -348,83 +421,33 @@ module _ (pass : Pass) (s : Judged) (d : MeantDocument Place) where
     under = λ vs c. not_in_nil vs c;
     more = λ l c. subst (λ (k : Kept). Contains k.lists l) (sym is) c;
     settled = λ e o left under.
-        let stand : (x y : PlainField) → PlainSelected d (plain_sets sets) x → PlainSelected d (plain_sets sets) y → StandIn old.lists x y =
+        let stand : SetsStand sets old.lists =
         λ x y a b. under.sets known there x y (selected_same (plain_sets sets) known (same_sym known (plain_sets sets) same) x a) (selected_same (plain_sets sets) known (same_sym known (plain_sets sets) same) y b) in
-        subst (λ (k : Kept). AreUnderWay d pass s o (left ++ []) k × AllStand d (all_plain (sets ∷ [])) k.lists) (sym is) (dropped sets old stand o left under, all_of_one sets old.lists stand);
+        subst (λ (k : Kept). AreUnderWay d pass s o [] (left ++ []) k × AllStand d pass s (all_plain (sets ∷ [])) k.lists) (sym is) (dropped_last sets old stand o left under, all_of_one sets old.lists stand);
   }
 
   -- sets that were examined are remembered
   pub then_looked : (sets : Sets) (kept : List PlainSet) (lists : List Sets) (old mid new : Kept) (added : List (Broken Place)) (next : List Sets) → Contains lists sets → HaveSame kept (plain_sets sets)
-      → SetsExamined pass s d lists old mid added next → new ≡ record { lists = mid.lists; expanded = mid.expanded ++ kept ∷ [] } → SetsExamined pass s d lists old new added next
+      → SetsExamined pass s d lists old mid added next → new ≡ record mid { expanded = mid.expanded ++ kept ∷ [] } → SetsExamined pass s d lists old new added next
   then_looked sets kept lists old mid new added next there same h is = record {
     right = h.right;
     under = h.under;
     more = λ l c. subst (λ (k : Kept). Contains k.lists l) (sym is) (h.more l c);
     settled = λ e o left under.
         let r = h.settled e o left under in
-        subst (λ (k : Kept). AreUnderWay d pass s o (left ++ all_plain next) k × AllStand d (all_plain lists) k.lists) (sym is) (
+        subst (λ (k : Kept). AreUnderWay d pass s o [] (left ++ all_plain next) k × AllStand d pass s (all_plain lists) k.lists) (sym is) (
           record {
             fields = r.0.fields;
             sets = λ vs c. elim (Contains-append_cases mid.expanded (kept ∷ []) vs c) [
               | inl a ↦ r.0.sets vs a
-              | inr b ↦ subst (λ (l : List PlainSet). (x y : PlainField) → PlainSelected d l x → PlainSelected d l y → StandIn mid.lists x y) (sym (only kept vs b))
+              | inr b ↦ subst (λ (l : List PlainSet). (x y : PlainField) → PlainSelected d l x → PlainSelected d l y → StandTogether pass s mid.lists x y) (sym (only kept vs b))
                   (λ x y i j. r.1 (plain_sets sets) (contains_map plain_sets lists sets there) x y (selected_same kept (plain_sets sets) same x i) (selected_same kept (plain_sets sets) same y j))
             ];
+            pairs = r.0.pairs;
           },
           r.1,
         );
   }
-
-  -- ---- sets two by two
-
-  module _ (sets : Sets) (twos : List Sets) (are : AreTwosOf sets twos) where
-    widened : (two : Sets) → Contains twos two → (x : StandingField Place) → IsSelected d two x → IsSelected d sets x
-    widened two c x h = (h.0, (are.within two c h.0 h.1.0, h.1.1))
-
-    -- any two that the sets select, one of the twos selects
-    in_two : (x y : PlainField) → PlainSelected d (plain_sets sets) x → PlainSelected d (plain_sets sets) y
-        → (two : Sets) × (Contains twos two × (PlainSelected d (plain_sets two) x × PlainSelected d (plain_sets two) y))
-    in_two x y (p, (a, i)) (q, (b, j)) =
-        let v = contains_unmap unplaced_set sets p a in
-        let w = contains_unmap unplaced_set sets q b in
-        let two = are.covers v.0 w.0 v.1.0 w.1.0 in (
-          two.0,
-          (
-            two.1.0,
-            (
-              (p, (subst (Contains (plain_sets two.0)) v.1.1 (contains_map unplaced_set two.0 v.0 two.1.1.0), i)),
-              (q, (subst (Contains (plain_sets two.0)) w.1.1 (contains_map unplaced_set two.0 w.0 two.1.1.1), j)),
-            ),
-          ),
-        )
-
-    split : (left : List (List PlainSet)) (x y : PlainField) → IsLeft d (plain_sets sets ∷ left) x y → IsLeft d (all_plain twos ++ left) x y
-    split left x y h = elim (Contains-cons (plain_sets sets) left h.0 h.1.0) [
-      | inl e ↦
-          let two = in_two x y (subst (λ (l : List PlainSet). PlainSelected d l x) (sym e) h.1.1.0) (subst (λ (l : List PlainSet). PlainSelected d l y) (sym e) h.1.1.1) in
-          (plain_sets two.0, (Contains-append_left (all_plain twos) left (plain_sets two.0) (contains_map plain_sets twos two.0 two.1.0), two.1.1))
-      | inr r ↦ (h.0, (Contains-append_right (all_plain twos) left h.0 r, h.1.1))
-    ]
-
-    pub by_twos : (old new : Kept) (added : List (Broken Place)) (next : List Sets) → SetsExamined pass s d twos old new added next → SetsExamined pass s d (sets ∷ []) old new added next
-    by_twos old new added next h = record {
-      right = λ fault c.
-          let t = h.right fault c in
-          (sets, (Contains-first sets [] sets refl, (t.1.1.0, (t.1.1.1.0, (widened t.0 t.1.0 t.1.1.0 t.1.1.1.1.0, (widened t.0 t.1.0 t.1.1.1.0 t.1.1.1.1.1.0, t.1.1.1.1.1.1))))));
-      under = λ vs c.
-          let u = h.under vs c in
-          (sets, (Contains-first sets [] sets refl, (u.1.1.0, ((λ f g a b. let w = u.1.1.1.0 f g a b in (widened u.0 u.1.0 f w.0, w.1)), u.1.1.1.1))));
-      more = h.more;
-      settled = λ e o left under.
-          let r = h.settled e o left (record {
-            fields = moved (PlainBelow d) (Together pass s) (Agree pass s) (PlainStarts d o) (IsLeft d (plain_sets sets ∷ left)) (IsLeft d (all_plain twos ++ left)) (StandIn old.lists) (StandIn old.lists)
-                (λ f g k. k) (λ f g k. inr (split left f g k)) (λ f g k. inl k) under.fields;
-            sets = under.sets;
-          }) in (
-            r.0,
-            all_of_one sets new.lists (λ x y a b. let two = in_two x y a b in r.1 (plain_sets two.0) (contains_map plain_sets twos two.0 two.1.0) x y two.1.1.0 two.1.1.1),
-          );
-    }
 
   -- ---- lists, one after the other
 
@@ -433,7 +456,7 @@ module _ (pass : Pass) (s : Judged) (d : MeantDocument Place) where
     right = λ fault c. not_in_nil fault c;
     under = λ vs c. not_in_nil vs c;
     more = λ l c. c;
-    settled = λ e o left under. (subst (λ l. AreUnderWay d pass s o l old) (sym (append-nil left)) under, λ vs c. not_in_nil vs c);
+    settled = λ e o left under. (subst (λ l. AreUnderWay d pass s o [] l old) (sym (append-nil left)) under, λ vs c. not_in_nil vs c);
   }
 
   lists_more : (lists others : List Sets) (old mid new : Kept) (added more : List (Broken Place)) (next below : List Sets)
@@ -449,14 +472,14 @@ module _ (pass : Pass) (s : Judged) (d : MeantDocument Place) where
     ];
     more = λ l c. then'.more l (first.more l c);
     settled = λ e o left under.
-        let begin : AreUnderWay d pass s o (all_plain lists ++ (all_plain others ++ left)) old =
-        subst (λ l. AreUnderWay d pass s o l old) (ap (λ l. l ++ left) (map-append plain_sets lists others) ∙ append_assoc (all_plain lists) (all_plain others) left) under in
+        let begin : AreUnderWay d pass s o [] (all_plain lists ++ (all_plain others ++ left)) old =
+        subst (λ l. AreUnderWay d pass s o [] l old) (ap (λ l. l ++ left) (map-append plain_sets lists others) ∙ append_assoc (all_plain lists) (all_plain others) left) under in
         let half = first.settled (left_empty added more e) o (all_plain others ++ left) begin in
         let last = then'.settled (right_empty added more e) o (left ++ all_plain next)
-        (subst (λ l. AreUnderWay d pass s o l mid) (append_assoc (all_plain others) left (all_plain next)) half.0) in (
-          subst (λ l. AreUnderWay d pass s o l new) (append_assoc left (all_plain next) (all_plain below) ∙ ap (λ l. left ++ l) (sym (map-append plain_sets next below))) last.0,
+        (subst (λ l. AreUnderWay d pass s o [] l mid) (append_assoc (all_plain others) left (all_plain next)) half.0) in (
+          subst (λ l. AreUnderWay d pass s o [] l new) (append_assoc left (all_plain next) (all_plain below) ∙ ap (λ l. left ++ l) (sym (map-append plain_sets next below))) last.0,
           λ vs c. elim (Contains-append_cases (all_plain lists) (all_plain others) vs (subst (λ l. Contains l vs) (map-append plain_sets lists others) c)) [
-            | inl a ↦ λ x y i j. stand_more mid.lists new.lists then'.more x y (half.1 vs a x y i j)
+            | inl a ↦ λ x y i j. together_more mid.lists new.lists then'.more x y (half.1 vs a x y i j)
             | inr b ↦ last.1 vs b
           ],
         );
@@ -496,25 +519,8 @@ module _ (pass : Pass) (s : Judged) (d : MeantDocument Place) where
       → SetsTold told later old new next last (sets ∷ [])
   fields_told sets list old mid new told later next last is merged (same, so) =
       let r = so sets old.expanded merged in
-      let known : with_sets old.expanded new ≡ new = λ i. record { lists = new.lists; expanded = sym (same ∙ ap (λ (k : Kept). k.expanded) is) i } in
+      let known : with_sets old.expanded new ≡ new = λ i. record new { expanded = sym (same ∙ ap (λ (k : Kept). k.expanded) is) i } in
       subst (λ (k : Kept). SetsTold told later old k next last (sets ∷ [])) known (subst (λ (k : Kept). SetsTold told later k (with_sets old.expanded new) next last (sets ∷ [])) (ap (with_sets old.expanded) is) r)
-
-  -- after the sets were remembered
-  pub whole_told : (sets : Sets) (kept : List PlainSet) (list : List FieldSelection) (old mid new : Kept) (told later : List (Broken Place)) (next last : List Sets)
-      → HaveSame kept (plain_sets sets) → mid ≡ record { lists = old.lists; expanded = old.expanded ++ kept ∷ [] } → IsMergedIn d sets list
-      → (new.expanded ≡ mid.expanded) × ((vs : Sets) (looked : List (List PlainSet)) → IsMergedIn d vs list → SetsTold told later (with_sets looked mid) (with_sets looked new) next last (vs ∷ []))
-      → SetsTold told later old new next last (sets ∷ [])
-  whole_told sets kept list old mid new told later next last looks is merged (same, so) =
-      let r = subst (λ (k : Kept). SetsTold told later k (with_sets old.expanded new) next last (sets ∷ [])) (ap (with_sets old.expanded) is) (so sets old.expanded merged) in
-      told_so told later old new next last (sets ∷ []) (sets ∷ []) old (with_sets old.expanded new)
-      (λ added below h. then_looked sets kept (sets ∷ []) old (with_sets old.expanded new) new added below (Contains-first sets [] sets refl) looks h
-      (λ i. record { lists = new.lists; expanded = (same ∙ ap (λ (k : Kept). k.expanded) is) i })) r
-
-  -- two by two
-  pub twos_told : (sets : Sets) (old mid new : Kept) (told later : List (Broken Place)) (next last : List Sets) → mid ≡ old → (twos : List Sets) → AreTwosOf sets twos
-      → SetsTold told later mid new next last twos → SetsTold told later old new next last (sets ∷ [])
-  twos_told sets old mid new told later next last is twos are h =
-      subst (λ (k : Kept). SetsTold told later k new next last (sets ∷ [])) is (told_so told later mid new next last twos (sets ∷ []) mid new (λ added below k. by_twos sets twos are mid new added below k) h)
 
   -- before they are remembered
   pub looked_then : (sets : Sets) (old mid new : Kept) (is_new : Bool) (told later : List (Broken Place)) (next last : List Sets) → Expands mid (plain_sets sets) is_new new
@@ -577,7 +583,7 @@ module _ (pass : Pass) (s : Judged) (d : MeantDocument Place) where
     pub record SoFar (start now : Kept) (length : ℕ) (added : List (Broken Place)) (level : List Sets) : Type 0 where
       pub at : AtLevel (length + 1) level
       pub right : (fault : Broken Place) → Contains added fault → MergingBreaks s d o fault
-      pub settled : added ≡ [] → AreSettled d pass s start → AreUnderWay d pass s o (all_plain level) now
+      pub settled : added ≡ [] → AreSettled d pass s start → AreUnderWay d pass s o [] (all_plain level) now
 
     -- what starts is what the first set selects
     starting : (start : MeantSet Place) → o.set ≡ start → (sets : Sets) → Contains ((start ∷ []) ∷ []) sets → (x : StandingField Place) → IsSelected d sets x → ContentStarts d o x
@@ -599,8 +605,9 @@ module _ (pass : Pass) (s : Judged) (d : MeantDocument Place) where
       };
       right = λ fault c. not_in_nil fault c;
       settled = λ e ok. record {
-        fields = begun (PlainBelow d) (Together pass s) (Agree pass s) (PlainStarts d o) (IsLeft d (all_plain ((start ∷ []) ∷ []))) (StandIn old.lists) (start_left start is) ok.fields;
+        fields = begun (PlainBelow d) (Together pass s) (Agree pass s) (PlainStarts d o) (IsLeft d (all_plain ((start ∷ []) ∷ []))) (StandTogether pass s old.lists) (start_left start is) ok.fields;
         sets = ok.sets;
+        pairs = ok.pairs;
       };
     }
 
@@ -625,7 +632,7 @@ module _ (pass : Pass) (s : Judged) (d : MeantDocument Place) where
       ];
       settled = λ e ok.
           (h.settled (right_empty added more e) o []
-          (subst (λ l. AreUnderWay d pass s o l old) (sym (append-nil (all_plain level))) (so_far.settled (left_empty added more e) ok))).0;
+          (subst (λ l. AreUnderWay d pass s o [] l old) (sym (append-nil (all_plain level))) (so_far.settled (left_empty added more e) ok))).0;
     }
 
     pub level_step : (told mid later : List (Broken Place)) (start old new : Kept) (length : ℕ) (level next : List Sets)
@@ -661,7 +668,7 @@ module _ (pass : Pass) (s : Judged) (d : MeantDocument Place) where
       right = so_far.right;
       settled = λ e is ok.
           let under = so_far.settled e ok in
-          let all = ended (PlainBelow d) (Together pass s) (Agree pass s) (PlainStarts d o) (IsLeft d (all_plain level)) (StandIn now.lists) (none_left level none) under.fields in
-          (record { fields = all.0; sets = under.sets }, all.1);
+          let all = ended (PlainBelow d) (Together pass s) (Agree pass s) (PlainStarts d o) (IsLeft d (all_plain level)) (StandTogether pass s now.lists) (none_left level none) under.fields in
+          (record { fields = all.0; sets = under.sets; pairs = under.pairs }, all.1);
       bound = λ is. absurd (true≢false (sym is));
     }

@@ -1,6 +1,9 @@
 pub mod Bare
 pub mod Examining
 pub mod Remembering
+pub mod Looking
+pub mod Pairing
+pub mod PairStep
 pub mod Counting
 pub mod Operating
 pub mod Behind

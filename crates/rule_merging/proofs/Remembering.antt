@@ -19,7 +19,7 @@ use Rattle.rule_field_groups.specs.declared.below.SelectedSet.{SelectedSet}
 use Rattle.rule_merging_laws.specs.Contents.{PlainField, PlainSet}
 use Rattle.rule_field_groups.specs.Below.{contents_of, meant_at, meant_sets, plain_sets}
 use Rattle.rule_field_groups.proofs.Sets.{set_key_eq, same_sets}
-use Rattle.rule_merging.specs.Remembered.{Kept, Remembers, HasLooked, Expands}
+use Rattle.rule_merging.specs.Remembered.{Kept, Remembers, HasLooked, Expands, LooksAt}
 
 -- ---- what items of a table say
 
@@ -87,15 +87,15 @@ contents_said : (xs : List FieldSelection) → map content_of xs ≡ contents_of
 contents_said [] = refl
 contents_said (x ∷ xs) = ap (λ l. content_of x ∷ l) (contents_said xs)
 
-sound_fields : (a b : FieldSelection) → selection_eq a b ≡ true → content_of a ≡ content_of b
+pub sound_fields : (a b : FieldSelection) → selection_eq a b ≡ true → content_of a ≡ content_of b
 sound_fields a b = (selection_eq-Decides a b).0
 
-complete_fields : (a b : FieldSelection) → content_of a ≡ content_of b → selection_eq a b ≡ true
+pub complete_fields : (a b : FieldSelection) → content_of a ≡ content_of b → selection_eq a b ≡ true
 complete_fields a b = (selection_eq-Decides a b).1
 
-module _ (looked : List (List PlainSet)) where
+module _ (base : Kept) where
   abbrev kept_with : List (List PlainField) → Kept
-  kept_with ls = record { lists = ls; expanded = looked }
+  kept_with ls = record base { lists = ls }
 
   -- what is noted of a list, and that none with its members was there
   remembers_from : (old new : List (List PlainField)) (list : List PlainField) (is_new : Bool) → Notes old list is_new new → NoneSame old list is_new → Remembers (kept_with old) list is_new (kept_with new)
@@ -104,7 +104,7 @@ module _ (looked : List (List PlainSet)) where
 
   pub remembers : (old new : List FieldSelection) (lists now : List (List ℕ)) (list : List FieldSelection) (numbers : List ℕ) (is_new : Bool) → IsDistinct selection_eq new → Grows old new → AllWithin old lists
       → AreNumbersIn selection_eq new list numbers → Keeps lists numbers is_new now
-      → Remembers (record { lists = map (at_places (contents_of old)) lists; expanded = looked }) (contents_of list) is_new (record { lists = map (at_places (contents_of new)) now; expanded = looked })
+      → Remembers (record base { lists = map (at_places (contents_of old)) lists }) (contents_of list) is_new (record base { lists = map (at_places (contents_of new)) now })
   remembers old new lists now list numbers is_new distinct grown all are keeps =
       let from = remembers_from (map (at_places (map content_of old)) lists) (map (at_places (map content_of new)) now) (map content_of list) is_new
       (said_notes selection_eq content_of sound_fields old new lists now list numbers is_new grown all are keeps)
@@ -127,23 +127,41 @@ sets_said : (xs : List SelectedSet) → map plain_of xs ≡ plain_sets (meant_se
 sets_said [] = refl
 sets_said (x ∷ xs) = ap (λ l. plain_of x ∷ l) (sets_said xs)
 
-module _ (fields : List (List PlainField)) where
+sets_noted : (old new : List SelectedSet) (lists now : List (List ℕ)) (sets : List SelectedSet) (numbers : List ℕ) (is_new : Bool) → Grows old new → AllWithin old lists → AreNumbersIn set_key_eq new sets numbers
+    → Keeps lists numbers is_new now → Notes (map (at_places (plain_sets (meant_sets old))) lists) (plain_sets (meant_sets sets)) is_new (map (at_places (plain_sets (meant_sets new))) now)
+sets_noted old new lists now sets numbers is_new grown all are keeps =
+    subst (λ t. Notes (map (at_places t) lists) (plain_sets (meant_sets sets)) is_new (map (at_places (plain_sets (meant_sets new))) now)) (sets_said old)
+    (subst (λ t. Notes (map (at_places (map plain_of old)) lists) (plain_sets (meant_sets sets)) is_new (map (at_places t) now)) (sets_said new)
+    (subst (λ l. Notes (map (at_places (map plain_of old)) lists) l is_new (map (at_places (map plain_of new)) now)) (sets_said sets)
+    (said_notes set_key_eq plain_of same_sets old new lists now sets numbers is_new grown all are keeps)))
+
+module _ (base : Kept) where
   abbrev sets_with : List (List PlainSet) → Kept
-  sets_with ls = record { lists = fields; expanded = ls }
+  sets_with ls = record base { expanded = ls }
 
   expands_from : (old new : List (List PlainSet)) (sets : List PlainSet) (is_new : Bool) → Notes old sets is_new new → Expands (sets_with old) sets is_new (sets_with new)
   expands_from old new sets true (kept, (order, is)) = (kept, (same_sym sets kept (same_order sets kept order), ap sets_with is))
   expands_from old new sets false (known, is) = (known, ap sets_with is)
 
   pub expands : (old new : List SelectedSet) (lists now : List (List ℕ)) (sets : List SelectedSet) (numbers : List ℕ) (is_new : Bool) → Grows old new → AllWithin old lists → AreNumbersIn set_key_eq new sets numbers
-      → Keeps lists numbers is_new now → Expands (record { lists = fields; expanded = map (at_places (plain_sets (meant_sets old))) lists }) (plain_sets (meant_sets sets)) is_new
-      (record { lists = fields; expanded = map (at_places (plain_sets (meant_sets new))) now })
+      → Keeps lists numbers is_new now → Expands (record base { expanded = map (at_places (plain_sets (meant_sets old))) lists }) (plain_sets (meant_sets sets)) is_new
+      (record base { expanded = map (at_places (plain_sets (meant_sets new))) now })
   expands old new lists now sets numbers is_new grown all are keeps =
-      let from = expands_from (map (at_places (map plain_of old)) lists) (map (at_places (map plain_of new)) now) (map plain_of sets) is_new
-      (said_notes set_key_eq plain_of same_sets old new lists now sets numbers is_new grown all are keeps) in
-      subst (λ t. Expands (sets_with (map (at_places t) lists)) (plain_sets (meant_sets sets)) is_new (sets_with (map (at_places (plain_sets (meant_sets new))) now))) (sets_said old)
-      (subst (λ t. Expands (sets_with (map (at_places (map plain_of old)) lists)) (plain_sets (meant_sets sets)) is_new (sets_with (map (at_places t) now))) (sets_said new)
-      (subst (λ l. Expands (sets_with (map (at_places (map plain_of old)) lists)) l is_new (sets_with (map (at_places (map plain_of new)) now))) (sets_said sets) from))
+      expands_from (map (at_places (plain_sets (meant_sets old))) lists) (map (at_places (plain_sets (meant_sets new))) now) (plain_sets (meant_sets sets)) is_new (sets_noted old new lists now sets numbers is_new grown all are keeps)
+
+  -- two that are looked at
+  abbrev pairs_with : List (List PlainSet) → Kept
+  pairs_with ls = record base { looked = ls }
+
+  looks_from : (old new : List (List PlainSet)) (sets : List PlainSet) (is_new : Bool) → Notes old sets is_new new → LooksAt (pairs_with old) sets is_new (pairs_with new)
+  looks_from old new sets true (kept, (order, is)) = (kept, (same_sym sets kept (same_order sets kept order), ap pairs_with is))
+  looks_from old new sets false (known, is) = (known, ap pairs_with is)
+
+  pub looks : (old new : List SelectedSet) (lists now : List (List ℕ)) (sets : List SelectedSet) (numbers : List ℕ) (is_new : Bool) → Grows old new → AllWithin old lists → AreNumbersIn set_key_eq new sets numbers
+      → Keeps lists numbers is_new now → LooksAt (record base { looked = map (at_places (plain_sets (meant_sets old))) lists }) (plain_sets (meant_sets sets)) is_new
+      (record base { looked = map (at_places (plain_sets (meant_sets new))) now })
+  looks old new lists now sets numbers is_new grown all are keeps =
+      looks_from (map (at_places (plain_sets (meant_sets old))) lists) (map (at_places (plain_sets (meant_sets new))) now) (plain_sets (meant_sets sets)) is_new (sets_noted old new lists now sets numbers is_new grown all are keeps)
 
 pub sets_still : (old new : List SelectedSet) (lists now : List (List ℕ)) → Grows old new → AllWithin old lists → now ≡ lists → map (at_places (plain_sets (meant_sets new))) now ≡ map (at_places (plain_sets (meant_sets old))) lists
 sets_still old new lists now grown all is =

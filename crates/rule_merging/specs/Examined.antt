@@ -1,12 +1,11 @@
--- Private: leads to `MergingBreaks` and `FieldsMerge`. What the examination of a group, of a list, of a level and of all levels comes to.
-use Rattle.std.specs.Prelude.{◌≡◌, ◌++◌, ◌∷◌, ◌⊎◌, ℕ, Bool, true, false, List, [], map, Vec, Contains}
+-- Private: leads to `MergingBreaks` and `FieldsMerge`. What the examination of groups, of a list, of a level and of all levels comes to.
+use Rattle.std.specs.Prelude.{◌≡◌, ◌++◌, ◌∷◌, ◌≤◌, ℕ, Bool, true, false, List, [], map, length, drop, Vec, Contains}
 use Rattle.std.specs.declared.alloc.Global.{Global}
 use Rattle.graphql_names.specs.Placed.{Place}
 use Rattle.fault_document_data.specs.declared.build_error.BuildError.{BuildError}
-use Rattle.rule_field_groups.specs.declared.below.SelectedSet.{SelectedSet}
 use Rattle.document_typing.specs.in_schema.SchemaOf.{schema_tree}
 use Rattle.document_meaning.specs.MeantTree.{MeantSet, MeantOperation, MeantDocument}
-use Rattle.document_meaning.specs.Unplaced.{unplaced_set, unplaced_document}
+use Rattle.document_meaning.specs.Unplaced.{unplaced_document}
 use Rattle.document_typing.specs.DocumentView.{document_meant}
 use Rattle.rule_definitions.specs.Judged.{Judged, judged}
 use Rattle.rule_document_definitions.specs.DocumentFaults.{Broken}
@@ -18,12 +17,15 @@ use Rattle.rule_field_groups.specs.in_ground.Broken.{brokens_of}
 use Rattle.rule_field_groups.specs.in_ground.Fields.{fields_of}
 use Rattle.rule_field_groups.specs.in_ground.declared.field_selection.FieldSelection.{FieldSelection}
 use Rattle.rule_merging_laws.specs.Contents.{PlainField, PlainSet, PlainBelow, PlainStarts, IsSelected}
-use Rattle.rule_merging_laws.specs.Settled.{StandIn, StartsStand, IsSettledIn, IsUnderWay}
-use Rattle.rule_field_groups.specs.Passes.{Together, Agree, Conflict, TellsGroup}
-use Rattle.rule_field_groups.specs.Grouped.{lists_of}
-use Rattle.rule_field_groups.specs.Below.{contents_of, meant_sets, plain_sets, IsMergedIn, IsBare}
+use Rattle.rule_merging_laws.specs.Settled.{StandIn, StandWhere, StartsStand, IsSettledIn, IsUnderWay}
+use Rattle.rule_field_sets.specs.Paired.{ArePairsDone}
+use Rattle.rule_field_sets.specs.Own.{own_fields, spread_sets}
+use Rattle.rule_field_groups.specs.Passes.{Together, Agree, Conflict}
+pub use Rattle.rule_field_groups.specs.Under.{Sets, all_sets, sets_in, AreOf, IsAmong, HaveBoth}
+use Rattle.rule_field_groups.specs.Below.{contents_of, plain_sets, IsMergedIn}
 use Rattle.rule_field_groups.specs.declared.pass.Pass.{Pass}
-use Rattle.rule_merging.specs.Remembered.{Kept, remembered}
+use Rattle.rule_number_lists.specs.NumberLists.{HaveSame}
+use Rattle.rule_merging.specs.Remembered.{Kept, HasLooked, remembered, kept_of}
 use Rattle.rule_merging.specs.Counted.{AreLast, AreListed, Grows}
 use Rattle.rule_merging.specs.declared.remembered.Remembered.{Remembered}
 use Rattle.rule_merging.specs.declared.examination.Examination.{Examination}
@@ -38,16 +40,6 @@ document_of e = document_meant e.document.now
 abbrev pub Breaches : Type 0
 Breaches = Vec (Place × BuildError) Global
 
--- sets whose fields are examined together; such lists
-abbrev pub Sets : Type 0
-Sets = List (MeantSet Place)
-
-abbrev pub all_sets : List (List SelectedSet) → List Sets
-all_sets lists = map meant_sets lists
-
-abbrev pub sets_in : Vec (Vec SelectedSet Global) Global → List Sets
-sets_in lists = all_sets (lists_of lists)
-
 -- without places
 abbrev pub all_plain : List Sets → List (List PlainSet)
 all_plain lists = map plain_sets lists
@@ -56,22 +48,19 @@ all_plain lists = map plain_sets lists
 abbrev pub with_each : MeantSet Place → Sets → List Sets
 with_each v sets = map (λ w. v ∷ w ∷ []) sets
 
--- a list, if it has members
-abbrev pub if_any : {X : Type 0} → List X → List (List X)
-if_any [] = []
-if_any (x ∷ xs) = (x ∷ xs) ∷ []
+-- fields that go together stand in one of the lists
+abbrev pub StandTogether : Pass → Judged → List (List PlainField) → PlainField → PlainField → Type 0
+StandTogether pass s lists = StandWhere (Together pass s) lists
 
--- each of the sets is that of a field of the group
-abbrev pub AreOf : List (StandingField Place) → Sets → Type 0
-AreOf group sets = (v : MeantSet Place) → Contains sets v → (f : StandingField Place) × (Contains group f × (f.set ≡ v))
+-- ---- pairs of sets
 
--- the set says the same as one of these
-abbrev pub IsAmong : Sets → MeantSet Place → Type 0
-IsAmong sets v = Contains (plain_sets sets) (unplaced_set v)
+-- what a set has itself, without places
+abbrev pub PlainOwn : PlainSet → PlainField → Type 0
+PlainOwn a x = Contains (own_fields a) x
 
--- where both select something, one of these lists has the sets of both
-abbrev pub HaveBoth : List Sets → StandingField Place → StandingField Place → Type 0
-HaveBoth next f g = IsBare f.set ⊎ (IsBare g.set ⊎ ((sets : Sets) × (Contains next sets × (IsAmong sets f.set × IsAmong sets g.set))))
+-- two sets are among these pairs
+abbrev pub AreLookedAt : List (List PlainSet) → PlainSet → PlainSet → Type 0
+AreLookedAt looked a b = HasLooked looked (a ∷ b ∷ [])
 
 module _ (d : MeantDocument Place) where
   -- contents that sets select, without places
@@ -82,19 +71,34 @@ module _ (d : MeantDocument Place) where
   abbrev pub IsLeft : List (List PlainSet) → PlainField → PlainField → Type 0
   IsLeft left x y = (sets : List PlainSet) × (Contains left sets × (PlainSelected sets x × PlainSelected sets y))
 
-  -- any two that one of these lists of sets selects stand in one of the lists
-  abbrev pub AllStand : List (List PlainSet) → List (List PlainField) → Type 0
-  AllStand looked lists = (sets : List PlainSet) → Contains looked sets → (x y : PlainField) → PlainSelected sets x → PlainSelected sets y → StandIn lists x y
+  -- any two that one of these lists of sets selects stand in one of the lists, if they go together
+  abbrev pub AllStand : Pass → Judged → List (List PlainSet) → List (List PlainField) → Type 0
+  AllStand pass s looked lists = (sets : List PlainSet) → Contains looked sets → (x y : PlainField) → PlainSelected sets x → PlainSelected sets y → StandTogether pass s lists x y
 
-  -- fields that stand in one of the lists are settled, and what sets select that were looked at stands in them
+  -- what a set spreads itself, without places
+  abbrev pub PlainSpreads : PlainSet → PlainSet → Type 0
+  PlainSpreads a b = Contains (spread_sets (unplaced_document d).fragments a) b
+
+  -- of each pair that was looked at own fields stand in one of the lists, and what the one spreads was looked at with the other; or it is
+  -- one of these that are left
+  abbrev pub PairsAreDone : Pass → Judged → List (List PlainSet) → Kept → Type 0
+  PairsAreDone pass s twos kept = ArePairsDone PlainOwn PlainSpreads (Together pass s) (StandIn kept.lists) (AreLookedAt kept.looked) (AreLookedAt twos)
+
+  -- fields that go together are settled, what sets select that were looked at stands in the lists, and pairs are done
   pub record AreSettled (pass : Pass) (s : Judged) (kept : Kept) : Type 0 where
-    pub fields : IsSettledIn (PlainBelow d) (Together pass s) (Agree pass s) (StandIn kept.lists)
-    pub sets : AllStand kept.expanded kept.lists
+    pub fields : IsSettledIn (PlainBelow d) (Together pass s) (Agree pass s) (StandTogether pass s kept.lists)
+    pub sets : AllStand pass s kept.expanded kept.lists
+    pub pairs : PairsAreDone pass s [] kept
 
-  -- the same while lists of sets are left, with what starts
-  pub record AreUnderWay (pass : Pass) (s : Judged) (o : MeantOperation Place) (left : List (List PlainSet)) (kept : Kept) : Type 0 where
-    pub fields : IsUnderWay (PlainBelow d) (Together pass s) (Agree pass s) (PlainStarts d o) (IsLeft left) (StandIn kept.lists)
-    pub sets : AllStand kept.expanded kept.lists
+  -- the same while pairs and lists of sets are left, with what starts
+  pub record AreUnderWay (pass : Pass) (s : Judged) (o : MeantOperation Place) (twos left : List (List PlainSet)) (kept : Kept) : Type 0 where
+    pub fields : IsUnderWay (PlainBelow d) (Together pass s) (Agree pass s) (PlainStarts d o) (IsLeft left) (StandTogether pass s kept.lists)
+    pub sets : AllStand pass s kept.expanded kept.lists
+    pub pairs : PairsAreDone pass s twos kept
+
+  -- whatever the one list of sets selects, the other does
+  abbrev pub SelectsAsMuch : Sets → Sets → Type 0
+  SelectsAsMuch sets part = (x : StandingField Place) → IsSelected d part x → IsSelected d sets x
 
   -- whether some of the sets selects a field
   abbrev pub HaveFields : Bool → List Sets → Type 0
@@ -102,14 +106,6 @@ module _ (d : MeantDocument Place) where
   HaveFields false lists = (sets : Sets) → Contains lists sets → (x : StandingField Place) → IsSelected d sets x → ⊥
 
 module _ (pass : Pass) (s : Judged) (d : MeantDocument Place) where
-  -- ---- a group
-
-  -- what is told of a group, and the lists of sets below it: of any two of its fields one of these has both sets
-  pub record GroupExamined (group : List (StandingField Place)) (added : List (Broken Place)) (next : List Sets) : Type 0 where
-    pub tells : TellsGroup pass s group added
-    pub under : (sets : Sets) → Contains next sets → AreOf group sets
-    pub below : (f g : StandingField Place) → Contains group f → Contains group g → HaveBoth next f g
-
   -- ---- groups
 
   -- each of these is told of two fields of one of the groups
@@ -136,6 +132,11 @@ module _ (pass : Pass) (s : Judged) (d : MeantDocument Place) where
     pub are : AreGroups (Together pass s) (fields_of list) groups
     pub examined : GroupsExamined groups added next
 
+  -- two of the list that go together agree, and what lies below them is left
+  abbrev pub IsFresh : List (List PlainSet) → List PlainField → Type 0
+  IsFresh left list = (x y : PlainField) → Contains list x → Contains list y → Together pass s x y
+      → Agree pass s x y × ((u v : PlainField) → PlainBelow d x u → PlainBelow d y v → IsLeft d left u v)
+
   -- ---- lists of sets
 
   -- each of these is told of two fields that one of the lists selects and that go together
@@ -158,21 +159,47 @@ module _ (pass : Pass) (s : Judged) (d : MeantDocument Place) where
     pub more : (list : List PlainField) → Contains old.lists list → Contains new.lists list
     -- where nothing is told, whatever else is left
     pub settled : added ≡ [] → (o : MeantOperation Place) (left : List (List PlainSet))
-        → AreUnderWay d pass s o (all_plain lists ++ left) old → AreUnderWay d pass s o (left ++ all_plain next) new × AllStand d (all_plain lists) new.lists
+        → AreUnderWay d pass s o [] (all_plain lists ++ left) old → AreUnderWay d pass s o [] (left ++ all_plain next) new × AllStand d pass s (all_plain lists) new.lists
+
+  -- ---- pairs of sets
+
+  -- a pair is looked at: what each spreads is a pair with the other, and below fields of the two that go together are lists of sets
+  pub record PairExamined (two : Sets) (old new : Kept) (added : List (Broken Place)) (next : List Sets) : Type 0 where
+    pub right : (fault : Broken Place) → Contains added fault → TellsIn (two ∷ []) fault
+    pub under : (sets : Sets) → Contains next sets → ComeFrom (two ∷ []) sets
+    pub more : (list : List PlainField) → Contains old.lists list → Contains new.lists list
+    pub looks : (known : List PlainSet) → Contains old.looked known → Contains new.looked known
+    pub pairs : List Sets
+    pub is_pairs : new.pairs ≡ old.pairs ++ pairs
+    pub within : (part : Sets) → Contains pairs part → SelectsAsMuch d two part
+    -- where nothing is told, whatever else is left
+    pub settled : added ≡ [] → (o : MeantOperation Place) (twos left : List (List PlainSet))
+        → AreUnderWay d pass s o (plain_sets two ∷ twos) left old → AreUnderWay d pass s o (twos ++ all_plain pairs) (left ++ all_plain next) new
+
+  -- the same of the first pairs
+  pub record PairsExamined (n : ℕ) (old new : Kept) (added : List (Broken Place)) (next : List Sets) : Type 0 where
+    pub right : (fault : Broken Place) → Contains added fault → TellsIn old.pairs fault
+    pub under : (sets : Sets) → Contains next sets → ComeFrom old.pairs sets
+    pub more : (list : List PlainField) → Contains old.lists list → Contains new.lists list
+    pub looks : (known : List PlainSet) → Contains old.looked known → Contains new.looked known
+    pub within : (part : Sets) → Contains new.pairs part → (two : Sets) × (Contains old.pairs two × SelectsAsMuch d two part)
+    -- where nothing is told, whatever else is left
+    pub settled : added ≡ [] → (o : MeantOperation Place) (left : List (List PlainSet))
+        → AreUnderWay d pass s o (all_plain old.pairs) left old → AreUnderWay d pass s o (all_plain (drop n new.pairs)) (left ++ all_plain next) new
 
   -- ---- all
 
   -- from what an operation selects on all is examined, but for what is left
   pub record AllExamined (o : MeantOperation Place) (old new : Kept) (added : List (Broken Place)) (left : Bool) : Type 0 where
     pub right : (fault : Broken Place) → Contains added fault → MergingBreaks s d o fault
-    pub settled : added ≡ [] → left ≡ false → AreSettled d pass s old → AreSettled d pass s new × StartsStand (PlainStarts d o) (StandIn new.lists)
+    pub settled : added ≡ [] → left ≡ false → AreSettled d pass s old → AreSettled d pass s new × StartsStand (PlainStarts d o) (StandTogether pass s new.lists)
     pub bound : left ≡ true → PassesChainBound d o
 
 -- ---- the same of breaches and lists of the program
 
-abbrev pub ExaminesGroup : Examination → List (StandingField Place) → Breaches → Breaches → List Sets → List Sets → Type 0
-ExaminesGroup e group old new next next' = (added : List (Broken Place)) × ((below : List Sets) × ((brokens_of new ≡ brokens_of old ++ added) × ((next' ≡ next ++ below)
-    × GroupExamined e.pass (schema_of e) (document_of e) group added below)))
+abbrev pub ExaminesGroups : Examination → List (List (StandingField Place)) → Breaches → Breaches → List Sets → List Sets → Type 0
+ExaminesGroups e groups old new next next' = (added : List (Broken Place)) × ((below : List Sets) × ((brokens_of new ≡ brokens_of old ++ added) × ((next' ≡ next ++ below)
+    × GroupsExamined e.pass (schema_of e) (document_of e) groups added below)))
 
 abbrev pub ExaminesList : Examination → List FieldSelection → Breaches → Breaches → List Sets → List Sets → Type 0
 ExaminesList e list old new next next' = (added : List (Broken Place)) × ((below : List Sets) × ((brokens_of new ≡ brokens_of old ++ added) × ((next' ≡ next ++ below)
@@ -182,17 +209,26 @@ abbrev pub ExaminesSets : Examination → List Sets → Kept → Kept → Breach
 ExaminesSets e lists examined examined' old new next next' = (added : List (Broken Place)) × ((below : List Sets) × ((brokens_of new ≡ brokens_of old ++ added) × ((next' ≡ next ++ below)
     × SetsExamined e.pass (schema_of e) (document_of e) lists examined examined' added below)))
 
--- lists by which any two of these sets are examined together
+-- lists of two of these sets, and any two of them are one of the lists
 pub record AreTwosOf (sets : Sets) (twos : List Sets) : Type 0 where
   pub within : (two : Sets) → Contains twos two → (v : MeantSet Place) → Contains two v → Contains sets v
-  pub covers : (v w : MeantSet Place) → Contains sets v → Contains sets w → (two : Sets) × (Contains twos two × (Contains two v × Contains two w))
+  pub covers : (v w : MeantSet Place) → Contains sets v → Contains sets w → (two : Sets) × (Contains twos two × HaveSame two (v ∷ w ∷ []))
 
-abbrev pub ExaminesTwos : Examination → Sets → Kept → Kept → Breaches → Breaches → List Sets → List Sets → Type 0
-ExaminesTwos e sets examined examined' old new next next' = (twos : List Sets) × (AreTwosOf sets twos × ExaminesSets e twos examined examined' old new next next')
+abbrev pub ExaminesPair : Examination → Sets → Kept → Kept → Breaches → Breaches → List Sets → List Sets → Type 0
+ExaminesPair e two examined examined' old new next next' = (added : List (Broken Place)) × ((below : List Sets) × ((brokens_of new ≡ brokens_of old ++ added) × ((next' ≡ next ++ below)
+    × PairExamined e.pass (schema_of e) (document_of e) two examined examined' added below)))
+
+abbrev pub ExaminesFirst : Examination → ℕ → Kept → Kept → Breaches → Breaches → List Sets → List Sets → Type 0
+ExaminesFirst e n examined examined' old new next next' = (added : List (Broken Place)) × ((below : List Sets) × ((brokens_of new ≡ brokens_of old ++ added) × ((next' ≡ next ++ below)
+    × PairsExamined e.pass (schema_of e) (document_of e) n examined examined' added below)))
+
+-- all of them, if nothing is told
+abbrev pub ExaminesPairs : Examination → Kept → Kept → Breaches → Breaches → List Sets → List Sets → Type 0
+ExaminesPairs e examined examined' old new next next' = (n : ℕ) × ((brokens_of new ≡ brokens_of old → length examined'.pairs ≤ n) × ExaminesFirst e n examined examined' old new next next')
 
 -- whichever sets select the fields, and whichever were looked at
 abbrev pub with_sets : List (List PlainSet) → Kept → Kept
-with_sets looked kept = record { lists = kept.lists; expanded = looked }
+with_sets looked kept = record kept { expanded = looked }
 
 abbrev pub ExaminesFields : Examination → List FieldSelection → Kept → Kept → Breaches → Breaches → List Sets → List Sets → Type 0
 ExaminesFields e list examined examined' old new next next' = (examined'.expanded ≡ examined.expanded) × ((sets : Sets) (looked : List (List PlainSet)) → IsMergedIn (document_of e) sets list
@@ -205,6 +241,10 @@ ExaminesAll e start examined examined' old new left = (o : MeantOperation Place)
 -- lists of fields that come to those that were examined for what such sets select; the same for one list of fields
 abbrev pub GrowsOver : Examination → List Sets → Remembered → Remembered → ℕ → ℕ → Type 0
 GrowsOver e lists old new before after = Grows (document_of e) (λ os. AreListed (document_of e) os lists) e.pass (remembered old) (remembered new) before after
+
+-- the same of the pairs
+abbrev pub GrowsHere : Examination → Remembered → Remembered → ℕ → ℕ → Type 0
+GrowsHere e old new before after = GrowsOver e (kept_of old).pairs old new before after
 
 abbrev pub GrowsBy : Examination → List FieldSelection → Remembered → Remembered → ℕ → ℕ → Type 0
 GrowsBy e list old new before after = Grows (document_of e) (λ os. AreLast (document_of e) os (contents_of list)) e.pass (remembered old) (remembered new) before after

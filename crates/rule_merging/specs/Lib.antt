@@ -1,6 +1,8 @@
 pub mod Remembered
 pub mod Counted
 pub mod Examined
+pub mod Pairs
+pub mod Twos
 pub mod Verdict
 pub mod Merged
 pub mod Merger

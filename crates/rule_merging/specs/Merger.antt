@@ -5,10 +5,10 @@ use Rattle.document_typing.specs.in_schema.SchemaOf.{schema_tree}
 use Rattle.document_meaning.specs.MeantTree.{MeantOperation, MeantDocument}
 use Rattle.document_typing.specs.DocumentView.{document_meant}
 use Rattle.rule_definitions.specs.Judged.{Judged, judged}
-use Rattle.rule_document_definitions.specs.Merging.{FieldsMerge}
+use Rattle.rule_document_definitions.specs.Merging.{FieldsMerge, SameKey}
 use Rattle.rule_document_definitions.specs.Selected.{operations}
 use Rattle.rule_merging_laws.specs.Contents.{PlainField, PlainStarts, AreShapesStanding}
-use Rattle.rule_merging_laws.specs.Settled.{StandIn, StartsStand}
+use Rattle.rule_merging_laws.specs.Settled.{StandWhere, StartsStand}
 use Rattle.rule_merging.specs.Counted.{IsCountedBy}
 use Rattle.rule_merging.specs.Verdict.{lists_examined, comparisons_of, OnlyGrow}
 use Rattle.graphql_faults.specs.DetailsTree.{Telling}
@@ -52,12 +52,11 @@ MergerTold m o old new = MergingTold m.schema m.document o old new
 abbrev pub SilenceMeansMerging : Merger → MeantOperation Place → Telling → Telling → Type 0
 SilenceMeansMerging m o old new = IsTrue m.is_clean → new ≡ old → FieldsMerge m.schema m.document o
 
--- where a clean value tells nothing of the operation, the lists that it keeps are closed: fields that stand together in one of them and
--- have one key have one shape, and what lies below the one stands with what lies below the other; and they have what the operation
--- starts with
+-- where a clean value tells nothing of the operation, the lists that it keeps are closed: fields of one key that stand in one of them have
+-- one shape, and what lies below the one stands with what has its key and lies below the other; and so does what the operation starts with
 abbrev pub KeepsClosed : Merger → Merger → MeantOperation Place → (TellsNothing : Type 0) → Type 0
 KeepsClosed before after o TellsNothing = IsTrue before.is_clean → TellsNothing
-    → ∥ AreShapesStanding before.document before.schema (StandIn after.lists) × StartsStand (PlainStarts before.document o) (StandIn after.lists) ∥₁
+    → ∥ AreShapesStanding before.document before.schema (StandWhere SameKey after.lists) × StartsStand (PlainStarts before.document o) (StandWhere SameKey after.lists) ∥₁
 
 -- a call adds nothing to the list
 abbrev pub AddsNothing : DiagnosticList → DiagnosticList → Type 0

@@ -8,11 +8,11 @@ use Rattle.rule_document_definitions.specs.Merging.{FieldsMerge, MergingBreaks}
 use Rattle.rule_document_definitions.specs.Limits.{PassesChainBound}
 use Rattle.rule_field_groups.specs.in_ground.Broken.{brokens_of}
 use Rattle.rule_merging_laws.specs.Contents.{PlainField, PlainStarts}
-use Rattle.rule_merging_laws.specs.Settled.{StandIn, StartsStand}
+use Rattle.rule_merging_laws.specs.Settled.{StartsStand}
 use Rattle.rule_number_lists.specs.Numbered.{Grows}
 use Rattle.rule_merging.specs.Counted.{IsCountedBy}
 use Rattle.rule_merging.specs.Remembered.{remembered, kept_of}
-use Rattle.rule_merging.specs.Examined.{Breaches, AreSettled}
+use Rattle.rule_merging.specs.Examined.{Breaches, StandTogether, AreSettled}
 use Rattle.rule_merging.specs.declared.operation.Examined.{Examined}
 use Rattle.rule_field_groups.specs.declared.pass.Pass.TheVariants.{Shapes, Selections}
 
@@ -21,9 +21,9 @@ module _ (s : Judged) (d : MeantDocument Place) where
   abbrev pub AreBothSettled : Examined → Type 0
   AreBothSettled e = AreSettled d Shapes s (kept_of e.shapes) × AreSettled d Selections s (kept_of e.selections)
 
-  -- whatever the operation starts with stands together in lists that were examined, in both passes
+  -- whatever the operation starts with and goes together stands in one of the lists that were examined, in both passes
   abbrev pub StartsBothStand : MeantOperation Place → Examined → Type 0
-  StartsBothStand o e = StartsStand (PlainStarts d o) (StandIn (remembered e.shapes)) × StartsStand (PlainStarts d o) (StandIn (remembered e.selections))
+  StartsBothStand o e = StartsStand (PlainStarts d o) (StandTogether Shapes s (remembered e.shapes)) × StartsStand (PlainStarts d o) (StandTogether Selections s (remembered e.selections))
 
   -- what is told is true; where nothing is told and nothing is left, what is settled stays so, what the operation starts with stands there, and its fields merge
   pub record OperationExamined (o : MeantOperation Place) (old new : Examined) (added : List (Broken Place)) (left : Bool) : Type 0 where

@@ -1,7 +1,7 @@
-//! What lists of more than two sets may cost. What is not paid is examined by two sets at a time: if each list had
-//! different sets, members would never come to an end.
+//! What lists of sets may cost. What is not paid is examined in pairs of sets: in lists of different sets members would never
+//! come to an end, and pairs are no more than sets times sets.
 
-/// So many members of such lists may be examined for each field that was seen, if these are few.
+/// So many members of lists may be examined for each field that was seen, if these are few.
 const FOR_EACH_FIELD: usize = 4;
 
 /// If they are many, one for so many fields: so lists that are as long as a document has types, for each of the types, are paid.
@@ -19,7 +19,7 @@ fn is_above(members: usize, fields: usize) -> bool {
     each == 0 || members / each > fields
 }
 
-/// Whether so many members of lists of more than two sets are paid by so many fields.
+/// Whether so many members of lists are paid by so many fields.
 pub(crate) fn is_paid(members: usize, fields: usize) -> bool {
     !is_above(members.saturating_sub(AT_FIRST), fields)
 }

@@ -1,18 +1,20 @@
 //! The examination of lists, level by level.
-ghost use Rattle.std.specs.Prelude.{◌≡◌, ◌≤◌, ◌+◌, ◌++◌, ◌∷◌, [], map, IfOk, OnOk};
+ghost use Rattle.std.specs.Prelude.{◌≡◌, ◌≤◌, ◌+◌, ◌∷◌, [], map, IfOk, OnOk};
 ghost use Rattle.rule_field_groups.specs.in_ground.Fields.{fields_of};
 ghost use Rattle.rule_field_groups.specs.Compared.{compared};
-ghost use Rattle.rule_field_groups.specs.Grouped.{lists_of};
+ghost use Rattle.rule_field_groups.specs.KeyGroups.{parts_of, compared_in};
+ghost use Rattle.rule_field_groups.specs.Under.{sets_in};
 ghost use Rattle.rule_field_groups.specs.Below.{contents_of, meant_at, meant_sets};
 ghost use Rattle.rule_cycle_search.specs.Paths.{HasNoRepeat};
 ghost use Rattle.rule_merging.specs.Remembered.{kept_of};
-ghost use Rattle.rule_merging.specs.Examined.{if_any, sets_in, document_of, with_each, HaveFields, ExaminesGroup, ExaminesList, ExaminesFields, ExaminesSets, ExaminesTwos, ExaminesAll, GrowsOver, GrowsBy};
+ghost use Rattle.rule_merging.specs.Examined.{document_of, HaveFields, ExaminesGroups, ExaminesList, ExaminesFields, ExaminesSets, ExaminesAll, GrowsOver, GrowsBy};
 
 use crate::remembered::Remembered;
 use document_typed_operations::ExecutableDocument;
 use document_typing::Schema;
 use rule_field_groups::{
-    Breach, FieldSelection, Pass, SelectedSet, check_group, groups_of, merged_list, sets_of,
+    Breach, FieldSelection, KeyGroup, Pass, SelectedSet, check_key_group, groups_of, lists_below,
+    merged_list,
 };
 use std::alloc::{AllocError, Global};
 
@@ -25,19 +27,6 @@ pub(crate) struct Examination<'doc> {
     pub(crate) pass: Pass,
     pub(crate) schema: &'doc Schema,
     pub(crate) document: &'doc ExecutableDocument,
-}
-
-/// Adds the sets, if there are some.
-fn push_filled<'doc>(
-    sets: Vec<SelectedSet<'doc>>,
-    next: &mut Vec<Vec<SelectedSet<'doc>>>,
-) -> Result<(), AllocError>
-    ensures { OnOk result (lists_of next.new ≡ lists_of next.old ++ if_any sets.entry.items) }
-{
-    if !sets.is_empty() {
-        next.push(sets)?;
-    }
-    Ok(())
 }
 
 /// A level of one list, of this set alone.
@@ -55,25 +44,26 @@ fn first_level<'doc>(
 }
 
 impl<'doc> Examination<'doc> {
-    /// Compares the fields of a group, and adds the sets below it, if there are some.
+    /// Compares the fields of one key, and adds the lists of sets below them.
     fn examine_group(
         &self,
-        group: &[FieldSelection<'doc>],
+        group: &KeyGroup<'doc>,
         next: &mut Vec<Vec<SelectedSet<'doc>>>,
         breaches: &mut Vec<Breach>,
         comparisons: &mut u128,
     ) -> Result<(), AllocError>
-        ensures examined { OnOk result (ExaminesGroup self.now (fields_of group.now) breaches.old breaches.new (sets_in next.old) (sets_in next.new)) }
+        ensures examined { OnOk result (ExaminesGroups self.now (map fields_of (parts_of group.now)) breaches.old breaches.new (sets_in next.old) (sets_in next.new)) }
         ensures more { comparisons.old ≤ comparisons.new }
-        ensures counted { comparisons.new ≤ comparisons.old + compared self.now.pass group.now }
+        ensures counted { comparisons.new ≤ comparisons.old + compared_in self.now.pass group.now }
     {
-        check_group(self.pass, self.schema, group, breaches, comparisons)?;
-        let sets = sets_of(*next.allocator(), group)?;
-        push_filled(sets, next)
+        check_key_group(self.pass, self.schema, group, breaches, comparisons)?;
+        let mut lists = lists_below(*next.allocator(), group)?;
+        next.append(&mut lists)?;
+        Ok(())
     }
 
     /// Examines a list: compares the fields of each group, and adds the sets below the groups.
-    fn examine_list(
+    pub(crate) fn examine_list(
         &self,
         list: &[FieldSelection<'doc>],
         next: &mut Vec<Vec<SelectedSet<'doc>>>,
@@ -109,80 +99,6 @@ impl<'doc> Examination<'doc> {
         self.examine_list(list, next, breaches, comparisons)
     }
 
-    /// Examines what some sets select, unless this was looked at before.
-    fn examine_whole(
-        &self,
-        sets: &[SelectedSet<'doc>],
-        examined: &mut Remembered<'doc>,
-        next: &mut Vec<Vec<SelectedSet<'doc>>>,
-        breaches: &mut Vec<Breach>,
-        comparisons: &mut u128,
-    ) -> Result<(), AllocError>
-        ensures examined { OnOk result (ExaminesSets self.now (meant_sets sets.now ∷ []) (kept_of examined.old) (kept_of examined.new) breaches.old breaches.new (sets_in next.old) (sets_in next.new)) }
-        ensures counted { GrowsOver self.now (meant_sets sets.now ∷ []) examined.old examined.new comparisons.old comparisons.new }
-    {
-        if !examined.expand(sets)? {
-            return Ok(());
-        }
-        let list = merged_list(*next.allocator(), &self.document.fragments, sets)?;
-        self.examine_fields(&list, examined, next, breaches, comparisons)
-    }
-
-    /// Examines what two sets select, unless this was looked at before.
-    fn examine_two(
-        &self,
-        first: SelectedSet<'doc>,
-        other: SelectedSet<'doc>,
-        examined: &mut Remembered<'doc>,
-        next: &mut Vec<Vec<SelectedSet<'doc>>>,
-        breaches: &mut Vec<Breach>,
-        comparisons: &mut u128,
-    ) -> Result<(), AllocError>
-        ensures examined { OnOk result (ExaminesSets self.now ((meant_at first.entry ∷ meant_at other.entry ∷ []) ∷ []) (kept_of examined.old) (kept_of examined.new) breaches.old breaches.new (sets_in next.old) (sets_in next.new)) }
-        ensures counted { GrowsOver self.now ((meant_at first.entry ∷ meant_at other.entry ∷ []) ∷ []) examined.old examined.new comparisons.old comparisons.new }
-    {
-        self.examine_whole(&[first, other], examined, next, breaches, comparisons)
-    }
-
-    /// Examines what a set selects with each of the others.
-    fn examine_with(
-        &self,
-        first: SelectedSet<'doc>,
-        others: &[SelectedSet<'doc>],
-        examined: &mut Remembered<'doc>,
-        next: &mut Vec<Vec<SelectedSet<'doc>>>,
-        breaches: &mut Vec<Breach>,
-        comparisons: &mut u128,
-    ) -> Result<(), AllocError>
-        ensures examined { OnOk result (ExaminesSets self.now (with_each (meant_at first.entry) (meant_sets others.now)) (kept_of examined.old) (kept_of examined.new) breaches.old breaches.new (sets_in next.old) (sets_in next.new)) }
-        ensures counted { GrowsOver self.now (with_each (meant_at first.entry) (meant_sets others.now)) examined.old examined.new comparisons.old comparisons.new }
-    {
-        for other in others {
-            self.examine_two(first, *other, examined, next, breaches, comparisons)?;
-        }
-        Ok(())
-    }
-
-    /// Examines what each two of the sets select.
-    fn examine_twos(
-        &self,
-        sets: &[SelectedSet<'doc>],
-        examined: &mut Remembered<'doc>,
-        next: &mut Vec<Vec<SelectedSet<'doc>>>,
-        breaches: &mut Vec<Breach>,
-        comparisons: &mut u128,
-    ) -> Result<(), AllocError>
-        ensures examined { OnOk result (ExaminesTwos self.now (meant_sets sets.now) (kept_of examined.old) (kept_of examined.new) breaches.old breaches.new (sets_in next.old) (sets_in next.new)) }
-        ensures counted { GrowsOver self.now (meant_sets sets.now ∷ []) examined.old examined.new comparisons.old comparisons.new }
-    {
-        let mut seen = Vec::new(*next.allocator());
-        for set in sets {
-            seen.push(*set)?;
-            self.examine_with(*set, &seen, examined, next, breaches, comparisons)?;
-        }
-        Ok(())
-    }
-
     /// Examines what some sets select: all of it, or where that is not paid, what each two of them select.
     fn examine_paid(
         &self,
@@ -202,8 +118,8 @@ impl<'doc> Examination<'doc> {
         self.examine_fields(&list, examined, next, breaches, comparisons)
     }
 
-    /// Examines what more than two sets select, unless this was looked at before.
-    fn examine_many(
+    /// Examines what some sets select.
+    fn examine_new(
         &self,
         sets: &[SelectedSet<'doc>],
         examined: &mut Remembered<'doc>,
@@ -214,13 +130,10 @@ impl<'doc> Examination<'doc> {
         ensures examined { OnOk result (ExaminesSets self.now (meant_sets sets.now ∷ []) (kept_of examined.old) (kept_of examined.new) breaches.old breaches.new (sets_in next.old) (sets_in next.new)) }
         ensures counted { GrowsOver self.now (meant_sets sets.now ∷ []) examined.old examined.new comparisons.old comparisons.new }
     {
-        let is_known = examined.has_expanded(sets)?;
-        if is_known {
-            return Ok(());
+        if examined.skips(sets) {
+            return self.examine_twos(sets, examined, next, breaches, comparisons);
         }
-        self.examine_paid(sets, examined, next, breaches, comparisons)?;
-        examined.expand(sets)?;
-        Ok(())
+        self.examine_paid(sets, examined, next, breaches, comparisons)
     }
 
     /// Examines what some sets select, unless this was looked at before.
@@ -235,10 +148,13 @@ impl<'doc> Examination<'doc> {
         ensures examined { OnOk result (ExaminesSets self.now (meant_sets sets.now ∷ []) (kept_of examined.old) (kept_of examined.new) breaches.old breaches.new (sets_in next.old) (sets_in next.new)) }
         ensures counted { GrowsOver self.now (meant_sets sets.now ∷ []) examined.old examined.new comparisons.old comparisons.new }
     {
-        if sets.len() > 2 {
-            return self.examine_many(sets, examined, next, breaches, comparisons);
+        let is_known = examined.has_expanded(sets)?;
+        if is_known {
+            return Ok(());
         }
-        self.examine_whole(sets, examined, next, breaches, comparisons)
+        self.examine_new(sets, examined, next, breaches, comparisons)?;
+        examined.expand(sets)?;
+        Ok(())
     }
 
     /// Examines the lists of one level. The lists of the next one are given.

@@ -2,8 +2,10 @@
 //!
 //! Fields are examined in lists: what the set of an operation selects, and then what the sets of each group of a list select,
 //! level by level. How a list is grouped, and what is told of a group, is of `rule_field_groups`. Sets that were looked at
-//! together are not looked at again, nor is a list whose contents were examined before. Where lists of many sets are not paid
-//! by fields that are new, their sets are looked at two by two (`budget.rt`).
+//! together are not looked at again, nor is a list whose contents were examined before. Where lists are not paid by fields that
+//! are new (`budget.rt`), their sets are looked at in pairs (`pairs.rt`, `twos.rt`), each pair once: own fields of the two are
+//! compared, and a spread is a step in one of the two alone. Where fields go together, lists of their sets are left for the
+//! next level.
 //!
 //! For the layers above: a `FieldsInSetCanMerge` tells a list of faults what does not merge in an operation (`MergerTold` of
 //! `specs/Merger.antt`, over `specs/Merged.antt`), and is clean where the fields of all operations merge so far. It calls
@@ -18,8 +20,10 @@ mod budget;
 mod examination;
 mod merging;
 mod operation;
+mod pairs;
 mod remembered;
 mod told;
+mod twos;
 
 pub use merging::FieldsInSetCanMerge;
 pub use operation::{Examined, examine_operation};

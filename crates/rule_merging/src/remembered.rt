@@ -1,21 +1,35 @@
 //! What was examined.
-ghost use Rattle.std.specs.Prelude.{◌≡◌, IsTrue, IfOk, OnErr};
-ghost use Rattle.rule_field_groups.specs.Below.{contents_of, meant_sets, plain_sets};
-ghost use Rattle.rule_merging.specs.Remembered.{remembered, kept_of, nothing_kept, HasLooked, Remembers, Expands};
+ghost use Rattle.std.specs.Prelude.{◌≡◌, ◌∷◌, [], IsTrue, IfOk, OnErr};
+ghost use Rattle.rule_field_groups.specs.Below.{contents_of, meant_at, meant_sets, plain_sets};
+ghost use Rattle.rule_merging.specs.Remembered.{remembered, kept_of, nothing_kept, HasLooked, Remembers, Expands, LooksAt};
 
 use crate::budget::is_paid;
 use rule_field_groups::{FieldSelection, SelectedSet};
 use rule_number_lists::ListMemory;
 use std::alloc::{AllocError, Global};
 
-/// The contents of the lists of fields that were examined, each once, and of the lists of sets that were looked at: what
-/// these select is in lists that were examined. A list is known by which contents it has, in whatever order.
+/// Two sets that are looked at together: the fields of the one with those of the other.
+#[derive(Clone, Copy)]
+pub(crate) struct Pair<'doc> {
+    pub(crate) one: SelectedSet<'doc>,
+    pub(crate) other: SelectedSet<'doc>,
+}
+
+/// The contents of the lists of fields that were examined, each once, and of the lists of sets that were looked at: fields that
+/// these select and that go together are in lists that were examined. A list is known by which contents it has, in whatever
+/// order; so is a pair of sets.
 #[derive(Drop)]
 pub(crate) struct Remembered<'doc> {
     lists: ListMemory<FieldSelection<'doc>>,
     expanded: ListMemory<SelectedSet<'doc>>,
-    /// How many members of lists of more than two sets were examined.
+    /// The pairs that were looked at, or are left.
+    looked: ListMemory<SelectedSet<'doc>>,
+    /// Of these the ones that came last, in turn.
+    pub(crate) pairs: Vec<Pair<'doc>>,
+    /// How many members of lists were examined.
     spent: usize,
+    /// Whether a list was not paid.
+    is_spent: bool,
 }
 
 impl<'doc> Remembered<'doc> {
@@ -26,7 +40,10 @@ impl<'doc> Remembered<'doc> {
         Remembered {
             lists: ListMemory::new(alloc),
             expanded: ListMemory::new(alloc),
+            looked: ListMemory::new(alloc),
+            pairs: Vec::new(alloc),
             spent: 0,
+            is_spent: false,
         }
     }
 
@@ -54,7 +71,32 @@ impl<'doc> Remembered<'doc> {
         self.expanded.contains(sets)
     }
 
-    /// Whether a list of more than two sets may be examined: what it costs is paid by fields that are new.
+    /// Notes that two sets are looked at together. Whether they were not noted before is given: sets with the same contents.
+    pub(crate) fn look(
+        &mut self,
+        one: SelectedSet<'doc>,
+        other: SelectedSet<'doc>,
+    ) -> Result<bool, AllocError>
+        ensures looks { IfOk result (λ is_new. LooksAt (kept_of self.old) (plain_sets (meant_at one.entry ∷ meant_at other.entry ∷ [])) is_new (kept_of self.new)) }
+        ensures lists { remembered self.new ≡ remembered self.old }
+    {
+        self.looked.remember(&[one, other])
+    }
+
+    /// No pair is left to look at.
+    pub(crate) fn begin_pairs(&mut self)
+        ensures { kept_of self.new ≡ record (kept_of self.old) { pairs = [] } }
+    {
+        self.pairs.clear();
+    }
+
+    /// Whether sets are looked at in pairs before they are expanded: they are two, and a list was not paid. There may be as many
+    /// lists of two sets as sets times sets.
+    pub(crate) fn skips(&self, sets: &[SelectedSet<'doc>]) -> bool {
+        self.is_spent && sets.len() == 2
+    }
+
+    /// Whether a list may be examined: what it costs is paid by fields that are new.
     pub(crate) fn pays(&mut self, list: &[FieldSelection<'doc>]) -> Result<bool, AllocError>
         ensures { kept_of self.new ≡ kept_of self.old }
     {
@@ -63,6 +105,8 @@ impl<'doc> Remembered<'doc> {
         let is_paid = is_paid(spent, fields);
         if is_paid {
             self.spent = spent;
+        } else {
+            self.is_spent = true;
         }
         Ok(is_paid)
     }

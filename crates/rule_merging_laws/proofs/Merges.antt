@@ -15,7 +15,7 @@ use Rattle.rule_document_definitions.proofs.Along.{chain_up, meet_up}
 use Rattle.rule_document_definitions.proofs.ContentFacts.{contents_merge}
 use Rattle.rule_document_definitions.proofs.Same.{merges_by_contents}
 use Rattle.rule_merging_laws.specs.Contents.{PlainBelow, PlainStarts, IsGoingByKeys, IsGoingByParents}
-use Rattle.rule_merging_laws.specs.Settled.{StandIn}
+use Rattle.rule_merging_laws.specs.Settled.{StandWhere}
 use Rattle.rule_merging_laws.specs.Laws.{SettledFieldsMerge, StandingFieldsMerge, GoingFieldsAgree, GoingFieldsBreak, LongChainsPassTheBound}
 use Rattle.rule_merging_laws.proofs.SettledFacts.{standing_merge, settled_merge}
 use Rattle.rule_merging_laws.proofs.Elsewhere.{content_below, content_starts}
@@ -27,11 +27,11 @@ fields_merge s d o shapes selections settled start settled_too start_too = (merg
   selections = settled_merge (PlainBelow d) (MayShare s) SameNameAndArguments selections settled_too (PlainStarts d o) start_too;
 })
 
--- and where fields are settled that stand together in lists
+-- and where fields are settled that go together and stand in lists
 pub standing_fields_merge : StandingFieldsMerge
 standing_fields_merge s d o shapes selections settled start settled_too start_too = (merges_by_contents s d o).1 (record {
-  shapes = standing_merge (PlainBelow d) SameKey (SameShape s) (StandIn shapes) settled (PlainStarts d o) start;
-  selections = standing_merge (PlainBelow d) (MayShare s) SameNameAndArguments (StandIn selections) settled_too (PlainStarts d o) start_too;
+  shapes = standing_merge (PlainBelow d) SameKey (SameShape s) (StandWhere SameKey shapes) settled (PlainStarts d o) start;
+  selections = standing_merge (PlainBelow d) (MayShare s) SameNameAndArguments (StandWhere (MayShare s) selections) settled_too (PlainStarts d o) start_too;
 })
 
 -- ---- what is told is true

@@ -9,7 +9,7 @@ use Rattle.rule_document_definitions.specs.Selected.{StandingField, response_key
 use Rattle.rule_document_definitions.specs.Merging.{FieldsMerge, SameKey, SameShape, MayShare, SameName, SameArgument, SameNameAndArguments, telling, telling_argument, MergingBreaks}
 use Rattle.rule_document_definitions.specs.Contents.{ContentBelow, ContentStarts}
 use Rattle.rule_document_definitions.specs.Limits.{chain_bound, PassesChainBound}
-use Rattle.rule_merging_laws.specs.Settled.{StandIn, HasStart, StartsStand}
+use Rattle.rule_merging_laws.specs.Settled.{StandWhere, HasStart, StartsStand}
 use Rattle.rule_merging_laws.specs.Going.{IsEndOf}
 use Rattle.rule_merging_laws.specs.Contents.{PlainField, PlainStarts, AreShapesSettled, AreSelectionsSettled, AreShapesStanding, AreSelectionsStanding, IsGoingByKeys, IsGoingByParents}
 
@@ -20,11 +20,12 @@ SettledFieldsMerge = (s : Judged) (d : MeantDocument Place) (o : MeantOperation 
     → AreSelectionsSettled d s selections → HasStart (PlainStarts d o) (Contains selections)
     → FieldsMerge s d o
 
--- where fields that stand together in these lists are settled, and all that starts stands with all that starts, the fields merge
+-- where fields that go together and stand in these lists are settled, and all that starts stands with all that starts and goes together
+-- with it, the fields merge
 abbrev pub StandingFieldsMerge : Type 0
 StandingFieldsMerge = (s : Judged) (d : MeantDocument Place) (o : MeantOperation Place) (shapes selections : List (List PlainField))
-    → AreShapesStanding d s (StandIn shapes) → StartsStand (PlainStarts d o) (StandIn shapes)
-    → AreSelectionsStanding d s (StandIn selections) → StartsStand (PlainStarts d o) (StandIn selections)
+    → AreShapesStanding d s (StandWhere SameKey shapes) → StartsStand (PlainStarts d o) (StandWhere SameKey shapes)
+    → AreSelectionsStanding d s (StandWhere (MayShare s) selections) → StartsStand (PlainStarts d o) (StandWhere (MayShare s) selections)
     → FieldsMerge s d o
 
 module _ (s : Judged) (d : MeantDocument Place) (o : MeantOperation Place) where

@@ -7,6 +7,10 @@ module _ {F : Type 0} where
   abbrev pub StandIn : List (List F) → F → F → Type 0
   StandIn lists f g = (list : List F) × (Contains lists list × (Contains list f × Contains list g))
 
+  -- the same of two that go together
+  abbrev pub StandWhere : (F → F → Type 0) → List (List F) → F → F → Type 0
+  StandWhere Together lists f g = Together f g → StandIn lists f g
+
   -- one of these lists has all that Starts
   abbrev pub HasStart : (F → Type 0) → (List F → Type 0) → Type 0
   HasStart Starts Kept = (list : List F) × (Kept list × ((f : F) → Starts f → Contains list f))

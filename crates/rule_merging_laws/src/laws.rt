@@ -9,8 +9,8 @@ pub fn settled_fields_merge()
     ensures { SettledFieldsMerge }
 {}
 
-/// Where fields that stand together are settled, those by keys in shape and those by keys and parents in name and arguments, and
-/// all that starts stands with all that starts, the fields of an operation merge.
+/// Where fields that go together and are in one list are settled, those by keys in shape and those by keys and parents in name and
+/// arguments, and all that starts stands with all that starts and goes together with it, the fields of an operation merge.
 pub fn standing_fields_merge()
     ensures { StandingFieldsMerge }
 {}

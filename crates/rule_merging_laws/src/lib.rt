@@ -2,9 +2,9 @@
 //!
 //! Fields that stand together are settled where those that go together agree and what lies below the one stands with what lies
 //! below the other again (`IsSettledIn` of `specs/Settled.antt`); so what was examined before needs no examination, wherever it
-//! stands. Fields of one list stand together, and settled lists are settled so. Chains lead to each list
-//! (`specs/Going.antt`), so what is told of two of its fields is true. `proofs/SettledFacts.antt` has the steps of an
-//! examination, `proofs/SharingFacts.antt` the groups, `proofs/Merges.antt` what follows in the end.
+//! stands. Fields of one list stand together, or those of them that go together (`StandWhere`); settled lists are settled so.
+//! Chains lead to each list (`specs/Going.antt`), so what is told of two of its fields is true. `proofs/SettledFacts.antt` has
+//! the steps of an examination, `proofs/SharingFacts.antt` the groups, `proofs/Merges.antt` what follows in the end.
 #![tactic(auto)]
 
 pub mod laws;

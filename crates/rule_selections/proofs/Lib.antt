@@ -6,3 +6,9 @@ pub mod Takers
 pub mod Selecting
 pub mod Typing
 pub mod NoArguments
+pub mod WithoutVariables
+pub mod Elsewhere
+pub mod Instead
+pub mod SameFaults
+pub mod Thinning
+pub mod Standing

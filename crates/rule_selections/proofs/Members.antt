@@ -1,7 +1,8 @@
 -- A typed selection as a member of what is reached.
-use Rattle.std.proofs.Common.{◌≡◌, ◌↔◌, ◌<◌, ℕ, List, map, length, get_or, refl, ap, sym, subst, None, Some, true≢false, is_some, Contains}
+use Rattle.std.proofs.Common.{◌≡◌, ◌↔◌, ◌<◌, ◌∙◌, ℕ, not, true, List, map, length, get_or, refl, ap, sym, subst, Option, None, Some, true≢false, is_some, is_none, option_map, Contains}
 use Rattle.graphql_names.specs.NameValue.{NameValue}
-use Rattle.graphql_names.specs.Placed.{Place}
+use Rattle.graphql_names.specs.Node.{content as node_content}
+use Rattle.graphql_names.specs.Placed.{Place, name_tree}
 use Rattle.graphql_names.specs.declared.node.Node.{Node}
 use Rattle.tree_directives.specs.declared.directive_location.DirectiveLocation.TheVariants as location
 use Rattle.document_typed_selections.specs.TypedTree.{TypedSelection, TypedField, TypedSpread, TypedInline, typed_selection_tree}
@@ -21,6 +22,7 @@ use Rattle.rule_definitions.proofs.Listing.{present_known}
 use Rattle.rule_document_ground.specs.Reach.{field_of}
 use Rattle.rule_document_ground.proofs.Bridge.{to_map}
 use Rattle.rule_selections.specs.Steps.{standing_field, IsDefined}
+use Rattle.rule_selections.specs.Settled.{enters_none}
 
 -- ---- where its directives stand
 
@@ -31,6 +33,20 @@ pub inline_location : (n : Node InlineFragment) → selection_location (meant (t
 inline_location n = ap (λ t. selection_location (meant t)) (typed_tree_inline n)
 
 pub ruleset location_rules = (field_location, inline_location)
+
+-- ---- whether it enters a fragment on a type
+
+pub field_enters : (n : Node Field) → enters_none (meant (typed_selection_tree (Field' n))) ≡ true
+field_enters n = ap (λ t. enters_none (meant t)) (typed_tree_field n)
+
+without_condition : (o : Option NameValue) → not (is_some (option_map name_tree o)) ≡ is_none o
+without_condition None = refl
+without_condition (Some n) = refl
+
+pub inline_enters : (n : Node InlineFragment) → enters_none (meant (typed_selection_tree (InlineFragment' n))) ≡ is_none (node_content n).type_condition
+inline_enters n = ap (λ t. enters_none (meant t)) (typed_tree_inline n) ∙ without_condition (node_content n).type_condition
+
+pub ruleset entering_rules = (field_enters, inline_enters)
 
 -- ---- its parts
 

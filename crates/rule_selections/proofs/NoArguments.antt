@@ -1,5 +1,5 @@
 -- What takes no arguments and is given none breaks no rule on arguments.
-use Rattle.std.proofs.Common.{◌≡◌, ◌⊎◌, inl, inr, []}
+use Rattle.std.proofs.Common.{◌≡◌, inl, inr, []}
 use Rattle.graphql_names.specs.Placed.{Place}
 use Rattle.schema_types.specs.Addresses.{Address}
 use Rattle.rule_definitions.specs.Judged.{Judged}

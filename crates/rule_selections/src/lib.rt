@@ -4,12 +4,19 @@
 //! For the layers above: each check adds exactly the faults by which the rules of its name break, over what the operation
 //! reaches in a document: `SelectionsBreak` under a schema, `GivenInBreaks` without one.
 //!
-//! Begin with `selections.rt`, then `fields.rt`.
+//! What operations share is judged once: `settled_fragments` gives what replaces the fragments of a document (`StandIn` of
+//! `specs/Settled.antt`), each without those of its selections of which nothing is told, whatever the variables. So a walk from
+//! an operation does not meet them, and the same is told (`proofs/SameFaults.antt`).
+//!
+//! Begin with `selections.rt`, then `fields.rt`; `settled.rt`, then `quiet.rt`.
 #![tactic(auto)]
 
 mod alone;
 mod fields;
+mod quiet;
 mod selections;
+mod settled;
 
 pub use alone::check_selections_alone;
 pub use selections::check_selections;
+pub use settled::settled_fragments;

@@ -72,7 +72,7 @@ fn check_selection(
 }
 
 /// Adds the faults of each selection.
-fn check_each_selection(
+pub(crate) fn check_each_selection(
     schema: &Schema,
     reach: &Reach<'_>,
     variables: &DefinedVariables<'_>,

@@ -1,12 +1,12 @@
 -- Whether selections nest too deep in a document, by a test and by the definitions.
-use Rattle.std.proofs.Common.{◌≡◌, ℕ, suc, Bool, true, false, ◌||◌, List, [], ◌∷◌, ◌++◌, refl, sym, ap, subst, ◌∙◌, inl, inr, Contains}
+use Rattle.std.proofs.Common.{◌≡◌, ℕ, suc, true, List, ◌∷◌, ◌++◌, inl, inr, Contains}
 use Rattle.std.specs.List.{flat_map, list_any}
 use Rattle.std.proofs.lemmas.List.Elements.{Contains-append_left, Contains-append_right}
 use Rattle.rule_cycle_search.proofs.Lists.{not_in_nil, Contains-cons, Contains-first, given_in, index_found, index_given}
-use Rattle.document_meaning.specs.MeantTree.{MeantSelection, MeantSet, meant_set, MeantSelections, no_meant, meant_then, MeantOperation, MeantFragment, MeantDocument}
+use Rattle.document_meaning.specs.MeantTree.{MeantSet, meant_set, MeantSelections, no_meant, meant_then, MeantOperation, MeantFragment, MeantDocument}
 use Rattle.rule_document_definitions.specs.Selected.{Position, InOperation, InFragment, SelectionAt, Standing, stand, standing_in, all_in, all_from, all_below, all_selections, operation_name, operations, fragments, own, held}
 use Rattle.rule_document_definitions.specs.Limits.{path_bound, entered, PassesPathBound}
-use Rattle.rule_subscriptions.specs.Nested.{HasInside, IsOutermost, NestsTooDeep, deeper_in, some_nests}
+use Rattle.rule_subscriptions.specs.Nested.{NestsTooDeep, deeper_in, some_nests}
 use Rattle.rule_always.proofs.Staying.{or_cases, or_left, or_right, any_index, index_any}
 use Rattle.rule_subscriptions.proofs.Nested.{Path, path_in, path_deeper, way_enters, enters_none, none_again}
 

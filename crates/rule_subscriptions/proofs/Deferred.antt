@@ -1,6 +1,6 @@
 -- What is told of `@defer` in an operation is what breaks its rules.
-use Rattle.std.proofs.Common.{◌≡◌, ◌≢◌, ◌↔◌, ◌⊎◌, ℕ, Bool, true, false, not, ◌&&◌, ◌||◌, List, [], ◌∷◌, ◌++◌, map, codes, Option, None, Some, slice_get, refl, sym, ap, subst, ◌∙◌, inl, inr, true≢false, is_some, Contains}
-use Rattle.std.specs.Prelude.{if◌then◌else◌, unwrap_or}
+use Rattle.std.proofs.Common.{◌≡◌, ◌≢◌, ◌↔◌, ◌⊎◌, ℕ, Bool, true, false, not, ◌&&◌, List, [], ◌++◌, codes, Option, None, Some, slice_get, refl, sym, ap, subst, ◌∙◌, inl, inr, true≢false, is_some, Contains}
+use Rattle.std.specs.Prelude.{unwrap_or}
 use Rattle.std.specs.List.{flat_map, filter}
 use Rattle.std.specs.Option.{option_map_or, option_and_then}
 use Rattle.std.proofs.lemmas.Option.{same_Some}
@@ -15,15 +15,14 @@ use Rattle.document_meaning.specs.MeantTree.{MeantSelection, MeantField, MeantSp
 use Rattle.fault_document_data.specs.DocumentBreaches.{DeferOnRootMutationOrSubscriptionField, DeferInSubscriptionMustBeConditional}
 use Rattle.rule_definitions.specs.Words.{AtSomeIndex, Present}
 use Rattle.rule_document_definitions.specs.DocumentFaults.{Broken, broken}
-use Rattle.rule_document_definitions.specs.Selected.{Position, Standing, StandingField, as_field, field_there, selection_directives}
-use Rattle.rule_document_definitions.specs.Reached.{AtRoot}
-use Rattle.rule_document_definitions.specs.DeferUses.{defers, given_if, literal_if, IsConditional, ReachedAlways}
+use Rattle.rule_document_definitions.specs.Selected.{Position, Standing, field_there, selection_directives}
+use Rattle.rule_document_definitions.specs.DeferUses.{given_if, IsConditional}
 use Rattle.rule_document_definitions.specs.Defer.{DeferOnRootMutationOrSubscriptionFieldAt, DeferInSubscriptionMustBeConditionalAt, DeferBreaks}
 use Rattle.rule_always.specs.Stays.{is_directive}
 use Rattle.rule_subscriptions.specs.Listed.{deferred_at_root, fragment_deferred, is_condition, is_conditional, deferred_always, always_deferred}
 use Rattle.rule_subscriptions.specs.Rooted.{AreRoots}
 use Rattle.rule_always.specs.Always.{AreAlways}
-use Rattle.rule_always.proofs.Staying.{or_cases, or_left, or_right, and_both, and_is, not_true}
+use Rattle.rule_always.proofs.Staying.{or_left, or_right, and_both, and_is, not_true}
 use Rattle.rule_subscriptions.proofs.Listing.{when_true, true_when, at_index, index_at, filtered, in_filter, mapped_told, told_mapped}
 
 -- ---- uses of @defer among directives

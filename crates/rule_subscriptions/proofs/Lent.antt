@@ -1,5 +1,5 @@
 -- What is lent by a walk, one by one.
-use Rattle.std.proofs.Common.{◌≡◌, ◌++◌, suc, length, List, [], ◌∷◌, map, refl, sym, ap, subst, ◌∙◌, append_assoc, append-nil}
+use Rattle.std.proofs.Common.{◌≡◌, ◌++◌, List, [], ◌∷◌, map, sym, ap, ◌∙◌, append_assoc, append-nil}
 use Rattle.std.specs.Borrow.{Bor}
 use Rattle.std.proofs.lemmas.List.{map-append}
 use Rattle.graphql_names.specs.Placed.{Place}

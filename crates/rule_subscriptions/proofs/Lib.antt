@@ -9,3 +9,5 @@ pub mod Sets
 pub mod Bounded
 pub mod Introspected
 pub mod Labelled
+pub mod Operations
+pub mod InDocuments

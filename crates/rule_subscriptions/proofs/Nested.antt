@@ -1,5 +1,5 @@
 -- A set in which selections nest deeper than a bound has a path that is longer, and the other way round.
-use Rattle.std.proofs.Common.{◌≡◌, ◌⊎◌, ℕ, zero, suc, ◌+◌, ◌-◌, ◌<◌, ◌≤◌, Bool, true, false, ◌||◌, eqb, List, [], ◌∷◌, ◌++◌, length, Option, None, Some, slice_get, option_to_list, refl, sym, ap, subst, ◌∙◌, inl, inr, arith, true≢false, is_some, Contains}
+use Rattle.std.proofs.Common.{◌≡◌, ◌⊎◌, ℕ, suc, ◌-◌, ◌<◌, Bool, true, ◌||◌, List, [], ◌∷◌, ◌++◌, length, None, slice_get, option_to_list, refl, sym, ap, subst, ◌∙◌, inl, inr, arith, true≢false, is_some, Contains}
 use Rattle.std.specs.Prelude.{nat_eq}
 use Rattle.std.proofs.lemmas.Bool.{cases_lt, eqb-true, eq-eqb}
 use Rattle.std.proofs.lemmas.Option.{same_Some}
@@ -8,8 +8,7 @@ use Rattle.rule_cycle_search.specs.Paths.{IsWay, HasNoRepeat}
 use Rattle.rule_cycle_search.proofs.Lists.{not_in_nil, Contains-cons, Contains-first}
 use Rattle.document_meaning.specs.MeantTree.{MeantSelection, MeantField, MeantSpread, MeantInline, MeantSet, meant_set, MeantSelections, no_meant, meant_then, MeantDocument}
 use Rattle.rule_definitions.specs.Words.{Present}
-use Rattle.rule_document_definitions.specs.Selected.{Position, SelectionAt, Standing, StandingField, as_field, field_there, in_inline, stand, standing_in, spread_name}
-use Rattle.rule_document_definitions.specs.Reached.{InField}
+use Rattle.rule_document_definitions.specs.Selected.{Position, SelectionAt, Standing, StandingField, field_there, in_inline, stand, standing_in, spread_name}
 use Rattle.rule_document_definitions.specs.Limits.{entered, Enters}
 use Rattle.rule_subscriptions.specs.Nested.{HasInside, deeper_in, deeper_along, deeper_of}
 use Rattle.rule_always.proofs.Staying.{or_cases, or_left, or_right}

@@ -1,25 +1,23 @@
 -- What a walk lends of the root of an operation are the selections at its root, each once.
-use Rattle.std.proofs.Common.{◌≡◌, ◌↔◌, ◌++◌, ℕ, Bool, true, false, List, [], ◌∷◌, Option, None, Some, map, find, refl, sym, ap, subst, ◌∙◌, inl, inr, true≢false, is_some, Contains}
+use Rattle.std.proofs.Common.{◌≡◌, ◌++◌, ℕ, Bool, true, false, List, [], ◌∷◌, Option, None, Some, map, find, refl, sym, ap, subst, ◌∙◌, inl, inr, true≢false, is_some, Contains}
 use Rattle.std.specs.Prelude.{if◌then◌else◌}
 use Rattle.std.specs.List.{flat_map, IsDistinct, AllByRecursion}
-use Rattle.std.specs.Option.{option_map, option_map_or}
+use Rattle.std.specs.Option.{option_map_or}
 use Rattle.std.specs.Str.{bytes_eq}
 use Rattle.std.proofs.lemmas.Option.{same_Some}
 use Rattle.std.proofs.lemmas.List.{map-append}
-use Rattle.std.proofs.lemmas.List.Elements.{Contains-append_left, Contains-append_right, Contains-append_cases}
+use Rattle.std.proofs.lemmas.List.Elements.{Contains-append_right}
 use Rattle.std.proofs.lemmas.Slice.Eq.{bytes_eq-Decides}
 use Rattle.std.proofs.lemmas.Map.Keys.{IsDistinct-head, IsDistinct-tail}
-use Rattle.graphql_names.specs.Placed.{Text}
 use Rattle.rule_cycle_search.proofs.Lists.{not_in_nil, Contains-cons, only, found_in, given_in, Contains-first, mapped_some}
 use Rattle.document_typed_selections.specs.TypedTree.{TypedSelection, TypedField, TypedSpread, TypedInline, TypedSet, typed_set, TypedSelections, no_typed, typed_then}
 use Rattle.document_typed_operations.specs.TypedDocument.{TypedDocumentTree}
 use Rattle.document_meaning.specs.MeantTree.{MeantSelection, MeantSet, MeantOperation, MeantFragment, MeantDocument, meant, meant_of_set, meant_of_all}
 use Rattle.document_typing.specs.DocumentView.{meant_document}
-use Rattle.document_walks.specs.Reached.{NamedSet, Fragments, Member, document_fragments, selections_of, selections_in, selections_along, members_in, spread_names, Spreads, ReachedFragment, by_start, by_fragment, IsMemberWalk, fragment_named as named_set_of}
-use Rattle.document_walks.specs.Left.{bare_selections}
+use Rattle.document_walks.specs.Reached.{NamedSet, Member, document_fragments, selections_of, selections_in, selections_along, members_in, spread_names, ReachedFragment, by_start, by_fragment, IsMemberWalk, fragment_named as named_set_of}
 use Rattle.document_walks.proofs.Passing.{bare_in}
 use Rattle.rule_document_definitions.specs.Selected.{Position, InOperation, InFragment, Standing, spread_name, operation_name, fragment_named, own}
-use Rattle.rule_document_definitions.specs.Reached.{Closed, first, next, InFragmentOf, AtRoot}
+use Rattle.rule_document_definitions.specs.Reached.{first, next, AtRoot}
 use Rattle.rule_subscriptions.specs.Told.{FragmentsUnderOwnNames}
 use Rattle.rule_always.specs.Inside.{contents_in, contents_along, contents_of, inside, inside_fragment, located, ReachesBy}
 use Rattle.rule_always.specs.Stays.{all_stay}

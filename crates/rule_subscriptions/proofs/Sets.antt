@@ -1,39 +1,28 @@
 -- How deep selections nest in a set, along these; and what is found in a document, along its operations and fragments.
-use Rattle.std.proofs.Common.{◌≡◌, ◌++◌, ℕ, ◌<◌, ◌≤◌, length, take, get_or, Bool, true, false, ◌||◌, List, [], ◌∷◌, map, Option, None, Some, refl, sym, ap, subst, ◌∙◌, append_assoc}
-use Rattle.std.specs.Prelude.{if◌then◌else◌, not}
-use Rattle.std.specs.Borrow.{Bor}
+use Rattle.std.proofs.Common.{◌≡◌, ◌++◌, ℕ, ◌<◌, ◌≤◌, length, take, get_or, Bool, true, false, ◌||◌, List, [], ◌∷◌, map, Option, None, Some, refl, sym, ap, ◌∙◌}
 use Rattle.std.specs.List.{flat_map, list_any, cons_option}
 use Rattle.std.specs.Map.{values_of}
 use Rattle.std.specs.Option.{option_map}
-use Rattle.graphql_names.specs.Node.{content}
 use Rattle.graphql_names.specs.Placed.{Placed, Place, node_tree}
 use Rattle.graphql_names.specs.NameValue.{NameValue}
 use Rattle.graphql_names.specs.declared.node.Node.{Node}
 use Rattle.document_typed_selections.specs.TypedTree.{typed_selections, typed_selection_tree, typed_set_tree}
 use Rattle.document_typed_selections.specs.declared.selection.Selection.{Selection}
-use Rattle.document_typed_selections.specs.declared.selection.Field.{Field}
-use Rattle.document_typed_selections.specs.declared.selection.FragmentSpread.{FragmentSpread}
-use Rattle.document_typed_selections.specs.declared.selection.InlineFragment.{InlineFragment}
 use Rattle.document_typed_selections.specs.declared.selection.SelectionSet.{SelectionSet}
-use Rattle.document_typed_selections.specs.declared.selection.Selection.TheOpen.{FragmentSpread as SpreadOf}
-use Rattle.document_typed_selections.specs.declared.selection.Selection.TheViews.{Field as Field', InlineFragment as InlineFragment', out-Selection}
-use Rattle.document_typed_selections.specs.TypedParts.{typed_field_node, typed_spread_node, typed_inline_node}
-use Rattle.document_typed_selections.proofs.TypedTrees.{typed_tree_field, typed_tree_inline, typed_set_tree_out, typed_selection_tree_out, tree_here}
+use Rattle.document_typed_selections.proofs.TypedTrees.{typed_set_tree_out}
 use Rattle.document_typed_operations.specs.TypedDocument.{TypedOperation, TypedFragment, typed_operation_tree, typed_fragment_tree}
 use Rattle.document_typed_operations.specs.declared.operation.Operation.{Operation}
 use Rattle.document_typed_operations.specs.declared.operation.Fragment.{Fragment}
 use Rattle.document_typed_operations.specs.declared.document.ExecutableDocument.{ExecutableDocument}
-use Rattle.document_meaning.specs.MeantTree.{MeantSelection, MeantSet, MeantOperation, MeantFragment, meant, meant_of_set, meant_of_all}
+use Rattle.document_meaning.specs.MeantTree.{MeantSet, MeantOperation, MeantFragment, meant_of_set, meant_of_all}
 use Rattle.document_typing.specs.DocumentView.{meant_by_operation, meant_by_fragment, document_meant}
 use Rattle.rule_document_definitions.specs.Selected.{operations, fragments}
 use Rattle.rule_document_definitions.specs.Limits.{path_bound}
-use Rattle.rule_always.specs.Inside.{contents_in, contents_along, contents_of, contents_below}
 use Rattle.rule_subscriptions.specs.Nested.{deeper_in, deeper_along, deeper_of, some_nests}
 use Rattle.rule_always.specs.Lent.{lent}
 use Rattle.rule_subscriptions.specs.Rooted.{operation_set, fragment_set, alone_so, alone_told}
 use Rattle.std.proofs.lemmas.List.{take_all}
 use Rattle.rule_always.proofs.Telling.{any_there}
-use Rattle.std.proofs.lemmas.Grind.{flat_map-append}
 
 deeper_each : (b : ℕ) (ss : List Selection) → deeper_along b (meant_of_all (typed_selections typed_selection_tree ss)) ≡ list_any (λ s. deeper_of b (lent s)) ss
 deeper_each b [] = refl

@@ -1,6 +1,5 @@
 -- What is told of the selections at the root of a subscription is what breaks its rules.
-use Rattle.std.proofs.Common.{◌≡◌, ◌↔◌, ◌⊎◌, ℕ, zero, suc, ◌<◌, Bool, true, false, ltb, List, [], ◌∷◌, ◌++◌, map, length, codes, bytes_eq, Option, None, Some, slice_get, option_to_list, refl, sym, ap, subst, ◌∙◌, inl, inr, arith, true≢false, is_some, Contains}
-use Rattle.std.specs.Prelude.{if◌then◌else◌}
+use Rattle.std.proofs.Common.{◌≡◌, ◌↔◌, ◌⊎◌, ℕ, zero, suc, ◌<◌, Bool, true, false, ltb, List, [], ◌∷◌, ◌++◌, map, length, codes, bytes_eq, Some, option_to_list, refl, sym, ap, subst, ◌∙◌, inl, inr, arith, true≢false, is_some, Contains}
 use Rattle.std.specs.List.{flat_map, list_any}
 use Rattle.std.proofs.lemmas.Bool.{ltb-true, ltb-false}
 use Rattle.std.proofs.lemmas.Option.{same_Some}
@@ -8,20 +7,19 @@ use Rattle.std.proofs.lemmas.List.{map-append}
 use Rattle.std.proofs.lemmas.List.Elements.{Contains-append_left, Contains-append_right, Contains-append_cases}
 use Rattle.std.proofs.lemmas.Slice.Eq.{bytes_eq-Decides}
 use Rattle.graphql_names.specs.Placed.{Placed}
-use Rattle.tree_directives.specs.DirectiveTree.{DirectiveTree, Directives}
+use Rattle.tree_directives.specs.DirectiveTree.{DirectiveTree}
 use Rattle.tree_directives.specs.declared.operation_type.OperationType.TheVariants as operation
 use Rattle.rule_cycle_search.specs.Paths.{HasNoRepeat}
-use Rattle.rule_cycle_search.proofs.Lists.{not_in_nil, Contains-cons, Contains-first, only, found_in, given_in, index_found, index_given}
+use Rattle.rule_cycle_search.proofs.Lists.{not_in_nil, Contains-cons, Contains-first, only, found_in, given_in, index_given}
 use Rattle.document_meaning.specs.MeantTree.{MeantSelection, MeantField, MeantSpread, MeantInline, MeantOperation, MeantDocument}
 use Rattle.fault_document_data.specs.DocumentBreaches.{SubscriptionUsesMultipleFields, SubscriptionUsesIntrospection, SubscriptionUsesConditionalSelection}
-use Rattle.rule_definitions.specs.Words.{AtSomeIndex, Present}
 use Rattle.rule_definitions.specs.Names.{directive_name}
 use Rattle.rule_document_definitions.specs.DocumentFaults.{Broken, broken}
 use Rattle.rule_document_definitions.specs.Selected.{Position, Standing, StandingField, as_field, field_there, field_name, operation_name, selection_directives}
 use Rattle.rule_document_definitions.specs.Reached.{AtRoot}
 use Rattle.rule_document_definitions.specs.RootFields.{meta_field_names, IsRootField, AreRootFields}
-use Rattle.rule_document_definitions.specs.Subscriptions.{SubscriptionUsesMultipleFieldsAt, SubscriptionUsesIntrospectionAt, SubscriptionUsesConditionalSelectionAt, SubscriptionBreaks}
-use Rattle.rule_subscriptions.specs.Told.{FragmentsUnderOwnNames, AreAlike, TellsSubscription}
+use Rattle.rule_document_definitions.specs.Subscriptions.{SubscriptionUsesMultipleFieldsAt, SubscriptionUsesIntrospectionAt, SubscriptionUsesConditionalSelectionAt}
+use Rattle.rule_subscriptions.specs.Told.{FragmentsUnderOwnNames, TellsSubscription}
 use Rattle.rule_always.specs.Stays.{is_directive}
 use Rattle.rule_subscriptions.specs.Listed.{root_names, multiple_fields, introspection, conditional, at_root}
 use Rattle.rule_subscriptions.specs.Rooted.{Apart, AreRoots}

@@ -4,3 +4,4 @@ pub mod Listed
 pub mod Nested
 pub mod Rooted
 pub mod Labels
+pub mod Documents

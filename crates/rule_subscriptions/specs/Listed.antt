@@ -9,7 +9,6 @@ use Rattle.tree_literals.specs.ValueQueries.{variable_name, boolean_value}
 use Rattle.tree_directives.specs.DirectiveTree.{DirectiveTree}
 use Rattle.document_meaning.specs.MeantTree.{MeantSelection, MeantField, MeantSpread, MeantInline, MeantOperation}
 use Rattle.fault_document_data.specs.DocumentBreaches.{SubscriptionUsesMultipleFields, SubscriptionUsesIntrospection, SubscriptionUsesConditionalSelection, DeferOnRootMutationOrSubscriptionField, DeferInSubscriptionMustBeConditional}
-use Rattle.rule_definitions.specs.Names.{directive_name}
 use Rattle.rule_document_definitions.specs.DocumentFaults.{Broken, broken}
 use Rattle.rule_document_definitions.specs.Selected.{operation_name, selection_directives}
 use Rattle.rule_document_definitions.specs.RootFields.{meta_field_names}

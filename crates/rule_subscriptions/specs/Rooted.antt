@@ -5,11 +5,10 @@ use Rattle.std.specs.Option.{option_map_or}
 use Rattle.graphql_names.specs.Node.{content}
 use Rattle.graphql_names.specs.declared.node.Node.{Node}
 use Rattle.graphql_names.specs.Placed.{Place}
-use Rattle.document_typed_selections.specs.TypedTree.{typed_selection_tree, typed_set_tree}
-use Rattle.document_typed_selections.specs.declared.selection.Selection.{Selection}
+use Rattle.document_typed_selections.specs.TypedTree.{typed_set_tree}
 use Rattle.document_typed_operations.specs.declared.operation.Operation.{Operation}
 use Rattle.document_typed_operations.specs.declared.operation.Fragment.{Fragment}
-use Rattle.document_meaning.specs.MeantTree.{MeantSelection, MeantSet, MeantOperation, MeantDocument, meant, meant_of_set}
+use Rattle.document_meaning.specs.MeantTree.{MeantSelection, MeantSet, MeantOperation, MeantDocument, meant_of_set}
 use Rattle.rule_document_definitions.specs.Selected.{Standing}
 use Rattle.rule_document_definitions.specs.Reached.{AtRoot}
 use Rattle.rule_subscriptions.specs.Told.{FragmentsUnderOwnNames}

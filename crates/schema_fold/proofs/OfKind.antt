@@ -8,8 +8,8 @@ use Rattle.std.proofs.lemmas.List.{append-nil}
 use Rattle.std.proofs.lemmas.Grind.{flat_map-append}
 use Rattle.std.proofs.lemmas.Option.{same_Some}
 use Rattle.graphql_names.specs.Placed.{Place}
-use Rattle.schema_types.specs.in_definitions.DefinitionTree as tree
-use Rattle.schema_types.specs.in_definitions.DefinitionTree.{DefinitionTree}
+use Rattle.tree_definitions.specs.DefinitionTree as tree
+use Rattle.tree_definitions.specs.DefinitionTree.{DefinitionTree}
 use Rattle.schema_types.specs.in_components.Lists.{firsts}
 use Rattle.schema_types.specs.in_components.Given.{ExtensionTree, given_name}
 use Rattle.schema_types.specs.SchemaTree.{same_kind}

@@ -6,7 +6,7 @@ use Rattle.tree_directives.specs.DirectiveTree.{DirectiveTree, Directives}
 use Rattle.tree_directives.specs.declared.directive_location.DirectiveLocation.{DirectiveLocation}
 use Rattle.tree_directives.specs.declared.operation_type.OperationType.{OperationType}
 use Rattle.schema_types.specs.in_type_members.TypeSystemTree.{FieldDefinitionTree, RootOperationTree, FieldsParts}
-use Rattle.schema_types.specs.in_definitions.DefinitionTree.{DefinitionTree, DirectiveDefinition, Schema, ScalarType, ObjectType, InterfaceType, ExtendSchema, ExtendScalar, ExtendObject}
+use Rattle.tree_definitions.specs.DefinitionTree.{DefinitionTree, DirectiveDefinition, Schema, ScalarType, ObjectType, InterfaceType, ExtendSchema, ExtendScalar, ExtendObject}
 
 abbrev pub word : List ℕ → Text Place
 word n = record { it = n; place = None }

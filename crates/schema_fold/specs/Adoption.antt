@@ -3,7 +3,7 @@ use Rattle.std.specs.Prelude.{ℕ, Bool, false, not, ◌&&◌, List, [], ◌∷�
 use Rattle.std.specs.List.{flat_map, filter, list_any}
 use Rattle.std.specs.Option.{option_map_or}
 use Rattle.graphql_names.specs.Placed.{Place}
-use Rattle.schema_types.specs.in_definitions.DefinitionTree.{DefinitionTree, Schema}
+use Rattle.tree_definitions.specs.DefinitionTree.{DefinitionTree, Schema}
 use Rattle.schema_types.specs.in_components.Lists.{firsts}
 use Rattle.schema_types.specs.TypeParts.{TypeParts, type_here, type_extension_here, bare, definition_by}
 use Rattle.schema_fold.specs.Listed.{Definitions, type_name, type_named}

@@ -4,8 +4,8 @@ use Rattle.std.specs.Option.{option_map_or}
 use Rattle.graphql_names.specs.Placed.{Placed, Place}
 use Rattle.tree_directives.specs.declared.operation_type.OperationType.{OperationType}
 use Rattle.tree_directives.specs.DirectiveTree.{DirectiveDefinitionTree}
-use Rattle.schema_types.specs.in_definitions.DefinitionTree.{DefinitionTree}
-use Rattle.schema_types.specs.in_definitions.Queries.{is_executable, definition_place}
+use Rattle.tree_definitions.specs.DefinitionTree.{DefinitionTree}
+use Rattle.tree_definitions.specs.Queries.{is_executable, definition_place}
 use Rattle.schema_types.specs.in_components.Lists.{AtSomePlace, IsRepeated, firsts, has_name}
 use Rattle.schema_types.specs.in_components.Given.{Given, given_name}
 use Rattle.schema_types.specs.SchemaTree.{same_kind}

@@ -16,7 +16,7 @@ pub mod Kept
 pub mod Made
 pub use Rattle.schema_types.specs as in_schema_types
 pub use Rattle.schema_types.specs.in_components as in_components
-pub use Rattle.schema_types.specs.in_definitions as in_definitions
+pub use Rattle.tree_definitions.specs as in_definitions
 pub use Rattle.tree_directives.specs as in_directives
 pub use Rattle.tree_directives.specs.in_literals as in_literals
 pub use Rattle.tree_operations.specs as in_operations

@@ -4,8 +4,8 @@ use Rattle.std.specs.List.{flat_map, filter, find}
 use Rattle.std.specs.Str.{bytes_eq}
 use Rattle.graphql_names.specs.Placed.{Placed, Place}
 use Rattle.tree_directives.specs.DirectiveTree.{DirectiveDefinitionTree}
-use Rattle.schema_types.specs.in_definitions.DefinitionTree.{DefinitionTree, DirectiveDefinition}
-use Rattle.schema_types.specs.in_definitions.Queries.{is_extension, definition_place}
+use Rattle.tree_definitions.specs.DefinitionTree.{DefinitionTree, DirectiveDefinition}
+use Rattle.tree_definitions.specs.Queries.{is_extension, definition_place}
 use Rattle.schema_types.specs.in_components.Lists.{each_place}
 use Rattle.schema_types.specs.in_components.Given.{ExtensionTree}
 use Rattle.schema_types.specs.TypeParts.{TypeDefinition, type_here}

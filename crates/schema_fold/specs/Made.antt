@@ -2,7 +2,7 @@
 use Rattle.std.specs.Prelude.{◌≡◌, [], Option, Some}
 use Rattle.std.specs.Option.{option_map}
 use Rattle.graphql_names.specs.Placed.{Place, Text, name_tree, text_tree}
-use Rattle.schema_types.specs.in_definitions.DefinitionTree.{DefinitionTree}
+use Rattle.tree_definitions.specs.DefinitionTree.{DefinitionTree}
 use Rattle.schema_types.specs.SchemaTree.{SchemaType}
 use Rattle.schema_types.specs.TypeParts.{TypeDefinition, type_here}
 use Rattle.schema_types.specs.declared.type_kind.TypeKind.{TypeKind}

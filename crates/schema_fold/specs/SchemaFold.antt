@@ -8,7 +8,7 @@ use Rattle.schema_types.specs.in_values.OperationQueries.{operation_keyword, def
 use Rattle.tree_directives.specs.declared.operation_type.OperationType.{OperationType}
 use Rattle.tree_directives.specs.declared.operation_type.OperationType.TheVariants as operation
 use Rattle.schema_types.specs.in_type_members.TypeSystemTree.{RootOperationTree, SchemaParts}
-use Rattle.schema_types.specs.in_definitions.DefinitionTree.{DefinitionTree, Schema, ExtendSchema}
+use Rattle.tree_definitions.specs.DefinitionTree.{DefinitionTree, Schema, ExtendSchema}
 use Rattle.schema_types.specs.in_components.Given.{Given}
 use Rattle.schema_types.specs.SchemaTree.{SchemaRoots, same_kind}
 use Rattle.schema_types.specs.declared.type_kind.TypeKind.TheVariants.{Object}

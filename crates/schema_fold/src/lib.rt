@@ -24,6 +24,5 @@ pub use fold::fold_type;
 pub use insert::insert_new;
 pub use listed::Listed;
 pub use parts::{Defined, Parts, extension_parts, type_definition};
-pub use schema_types::{
-    Definition, Document, ExtendedType, SchemaDefinition, SourceFile, TypeKind, node_at,
-};
+pub use schema_types::{ExtendedType, SchemaDefinition, TypeKind, node_at};
+pub use tree_definitions::{Definition, Document, SourceFile};

@@ -3,7 +3,8 @@ ghost use Rattle.std.specs.Prelude.{◌≡◌};
 ghost use Rattle.std.specs.Option.{option_map};
 ghost use Rattle.schema_types.specs.in_components.Given.{extension_tree, origin_tree};
 
-use schema_types::{ComponentOrigin, Definition, ExtensionId};
+use schema_types::{ComponentOrigin, ExtensionId};
+use tree_definitions::Definition;
 
 /// A definition of the list, and its number if it is an extension.
 pub struct Listed {

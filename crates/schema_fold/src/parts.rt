@@ -4,13 +4,14 @@ ghost use Rattle.std.specs.Option.{option_map};
 ghost use Rattle.graphql_names.specs.Placed.{name_tree, node_tree};
 ghost use Rattle.tree_directives.specs.DirectiveTree.{directives_tree, input_value_tree};
 ghost use Rattle.schema_types.specs.in_type_members.TypeSystemTree.{field_definition_tree, enum_value_tree};
-ghost use Rattle.schema_types.specs.in_definitions.DefinitionTree.{definition_tree};
+ghost use Rattle.tree_definitions.specs.DefinitionTree.{definition_tree};
 ghost use Rattle.schema_types.specs.TypeParts.{type_here, type_extension_here};
 ghost use Rattle.schema_fold.specs.PartsView.{parts_view};
 ghost use Rattle.schema_fold.specs.Made.{defined_view};
 
 use graphql_names::{Name, Node, NodeStr, SourceSpan};
-use schema_types::{Definition, EnumValueDefinition, FieldDefinition, TypeKind};
+use schema_types::{EnumValueDefinition, FieldDefinition, TypeKind};
+use tree_definitions::Definition;
 use tree_directives::{DirectiveList, InputValueDefinition};
 
 /// What a definition or an extension gives to its type. Interfaces, fields, members, values and input fields

@@ -7,8 +7,8 @@ use Rattle.graphql_names.specs.Placed.{Place, text_tree, unplaced_text}
 use Rattle.tree_directives.specs.DirectiveTree.{input_value_tree, unplaced_input_value}
 use Rattle.schema_components.proofs.in_values.Decided.{through, pair_decides, options_decide, name_decides, text_decides}
 use Rattle.schema_components.proofs.in_values.DirectiveEquality.{input_value_eq-Decides}
-use Rattle.tree_definitions.specs.in_type_members.TypeSystemTree.{field_definition_tree, unplaced_field_definition, enum_value_tree, unplaced_enum_value}
-use Rattle.tree_definitions.proofs.TreeEquality.{field_definition_eq-Decides, enum_value_eq-Decides}
+use Rattle.tree_type_members.specs.TypeSystemTree.{field_definition_tree, unplaced_field_definition, enum_value_tree, unplaced_enum_value}
+use Rattle.tree_meaning.proofs.MemberEquality.{field_definition_eq-Decides, enum_value_eq-Decides}
 use Rattle.schema_components.specs.Given.{component_tree, component_name_tree, plain_given, given_name}
 use Rattle.schema_components.proofs.NamedEquality.{maps_decide, sets_decide}
 use Rattle.schema_components.proofs.ComponentEquality.{component_text, component_name_eq-Decides, directives_eq-Decides}

@@ -9,7 +9,7 @@ use Rattle.tree_directives.specs.in_literals.TypeTree.{TypeTree, NamedTree, NonN
 use Rattle.tree_directives.specs.DirectiveTree.{DirectiveTree, Directives, ArgumentTree, InputValueTree, InputValues, DirectiveDefinitionTree}
 use Rattle.schema_components.specs.in_operations.in_directives.declared.operation_type.OperationType.{OperationType}
 use Rattle.schema_components.specs.in_operations.in_directives.declared.operation_type.OperationType.TheVariants as operation
-use Rattle.tree_definitions.specs.in_type_members.TypeSystemTree.{FieldDefinitionTree, EnumValueTree}
+use Rattle.tree_type_members.specs.TypeSystemTree.{FieldDefinitionTree, EnumValueTree}
 use Rattle.schema_components.specs.Names.{Entries}
 use Rattle.schema_components.specs.Given.{Given, given_name}
 use Rattle.schema_components.specs.Applied.{Applied}

@@ -11,7 +11,7 @@ use Rattle.tree_directives.specs.DirectiveTree.{InputValueTree}
 use Rattle.tree_directives.specs.declared.directive_location.DirectiveLocation.{DirectiveLocation}
 use Rattle.tree_directives.specs.declared.directive_location.DirectiveLocation.TheVariants as at
 use Rattle.schema_types.specs.in_type_members.TypeSystemTree.{FieldDefinitionTree, EnumValueTree}
-use Rattle.schema_types.specs.in_definitions.DefinitionTree.{DefinitionTree, DirectiveDefinition, ScalarType, ObjectType, EnumType}
+use Rattle.tree_meaning.specs.DefinitionTree.{DefinitionTree, DirectiveDefinition, ScalarType, ObjectType, EnumType}
 
 -- the place of what is built in: file 0, offset 0, length 0
 abbrev pub built_in : Place

@@ -5,7 +5,7 @@ use Rattle.std.specs.FinMap as fin
 use Rattle.std.specs.FinSet as set
 use Rattle.graphql_names.specs.Placed.{Text}
 use Rattle.tree_directives.specs.DirectiveTree.{DirectiveTree, InputValueTree, DirectiveDefinitionTree}
-use Rattle.tree_definitions.specs.in_type_members.TypeSystemTree.{FieldDefinitionTree, EnumValueTree}
+use Rattle.tree_type_members.specs.TypeSystemTree.{FieldDefinitionTree, EnumValueTree}
 use Rattle.schema_types.specs.Plain.{PlainType, PlainRoots, PlainSchema}
 use Rattle.schema_types.specs.declared.type_kind.TypeKind.{TypeKind}
 

@@ -7,8 +7,8 @@ use Rattle.indexmap.specs.IndexMap.{values}
 use Rattle.graphql_names.specs.Node.{content}
 use Rattle.tree_directives.specs.declared.directive.Directive.{Directive}
 use Rattle.tree_directives.specs.declared.input_value.InputValueDefinition.{InputValueDefinition}
-use Rattle.tree_definitions.specs.in_type_members.declared.field_definition.FieldDefinition.{FieldDefinition}
-use Rattle.tree_definitions.specs.in_type_members.declared.enum_value.EnumValueDefinition.{EnumValueDefinition}
+use Rattle.tree_type_members.specs.declared.field_definition.FieldDefinition.{FieldDefinition}
+use Rattle.tree_type_members.specs.declared.enum_value.EnumValueDefinition.{EnumValueDefinition}
 use Rattle.schema_components.specs.Lists.{firsts}
 use Rattle.schema_components.specs.Given.{extension_id, number_of}
 use Rattle.schema_components.specs.declared.extension.ExtensionId.{ExtensionId}

@@ -2,7 +2,7 @@
 use Rattle.std.specs.Prelude.{ℕ, Bool, ◌==◌, ◌||◌, not, List, Option, codes}
 use Rattle.graphql_names.specs.Placed.{Placed, Text}
 use Rattle.tree_directives.specs.DirectiveTree.{InputValueTree, DirectiveDefinitionTree}
-use Rattle.tree_definitions.specs.in_type_members.TypeSystemTree.{FieldDefinitionTree, EnumValueTree}
+use Rattle.tree_type_members.specs.TypeSystemTree.{FieldDefinitionTree, EnumValueTree}
 use Rattle.schema_components.specs.Names.{Entries}
 use Rattle.schema_components.specs.Given.{Given}
 use Rattle.schema_components.specs.Applied.{Applied}

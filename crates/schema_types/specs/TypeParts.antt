@@ -2,9 +2,9 @@
 use Rattle.std.specs.Prelude.{List, [], Option, None, Some}
 use Rattle.graphql_names.specs.Placed.{Placed, Text}
 use Rattle.tree_directives.specs.DirectiveTree.{Directives, InputValues}
-use Rattle.tree_definitions.specs.in_type_members.TypeSystemTree.{FieldDefinitionTree, EnumValueTree, ScalarParts, FieldsParts, UnionParts, EnumParts, InputObjectParts}
-use Rattle.tree_definitions.specs.DefinitionTree as tree
-use Rattle.tree_definitions.specs.DefinitionTree.{DefinitionTree}
+use Rattle.tree_type_members.specs.TypeSystemTree.{FieldDefinitionTree, EnumValueTree, ScalarParts, FieldsParts, UnionParts, EnumParts, InputObjectParts}
+use Rattle.tree_meaning.specs.DefinitionTree as tree
+use Rattle.tree_meaning.specs.DefinitionTree.{DefinitionTree}
 use Rattle.schema_types.specs.declared.type_kind.TypeKind.{TypeKind}
 use Rattle.schema_types.specs.declared.type_kind.TypeKind.TheVariants.{Scalar, Object, Interface, Union, Enum, InputObject}
 

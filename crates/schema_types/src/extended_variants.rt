@@ -1,6 +1,6 @@
 //! A type as one of its kinds.
 ghost use Rattle.std.specs.Prelude.{◌≡◌};
-ghost use Rattle.tree_definitions.specs.Queries.{IsContentOf};
+ghost use Rattle.tree_meaning.specs.Queries.{IsContentOf};
 ghost use Rattle.schema_types.specs.SchemaTree.{same_kind};
 ghost use Rattle.schema_types.specs.TypeView.{extended_type};
 ghost use Rattle.schema_types.specs.declared.type_kind.TypeKind.TheVariants as kind;

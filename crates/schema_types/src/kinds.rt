@@ -6,8 +6,8 @@
 use graphql_names::{Name, NodeStr};
 use indexmap::{IndexMap, IndexSet};
 use schema_components::{Component, ComponentName, DirectiveList};
-use tree_definitions::{EnumValueDefinition, FieldDefinition};
 use tree_directives::InputValueDefinition;
+use tree_type_members::{EnumValueDefinition, FieldDefinition};
 
 /// A scalar type (section 3.5).
 #[derive(PartialEq, Eq)]

@@ -28,7 +28,5 @@ pub use schema_components::{
 };
 pub use schema_definition::SchemaDefinition;
 pub use shared::{node_at, shared_description};
-pub use tree_definitions::{
-    Definition, Document, EnumValueDefinition, FieldDefinition, SourceFile,
-};
+pub use tree_type_members::{EnumValueDefinition, FieldDefinition};
 pub use type_kind::TypeKind;

@@ -7,8 +7,8 @@ ghost use Rattle.schema_types.specs.OriginsLeft.{left_origins, noted};
 use indexmap::IndexSet;
 use schema_components::{Component, ComponentName, ComponentOrigin, ExtensionId};
 use std::alloc::{AllocError, Global};
-use tree_definitions::{EnumValueDefinition, FieldDefinition};
 use tree_directives::{Directive, InputValueDefinition};
+use tree_type_members::{EnumValueDefinition, FieldDefinition};
 
 /// Where the components that are left come from: applied directives, then roots, then interfaces or members,
 /// then fields, values or input fields.

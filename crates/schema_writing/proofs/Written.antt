@@ -9,7 +9,7 @@ use Rattle.graphql_names.specs.declared.node.Node.{Node}
 use Rattle.graphql_names.specs.Placed.{Place, node_tree}
 use Rattle.tree_directives.specs.DirectiveTree.{Directives, directive_definition_tree}
 use Rattle.tree_directives.specs.declared.directive.DirectiveDefinition.{DirectiveDefinition}
-use Rattle.schema_types.specs.in_definitions.DefinitionTree.{DefinitionTree}
+use Rattle.tree_definitions.specs.DefinitionTree.{DefinitionTree}
 use Rattle.tree_directives.specs.declared.operation_type.OperationType.TheVariants as operation
 use Rattle.schema_components.specs.Given.{ExtensionTree, extension_tree, place_of}
 use Rattle.schema_components.specs.declared.extension.ExtensionId.{ExtensionId}

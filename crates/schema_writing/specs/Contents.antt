@@ -8,7 +8,7 @@ use Rattle.graphql_names.specs.Places.{is_built_in}
 use Rattle.graphql_names.specs.Placed.{Placed, Place, Text, name_tree, text_tree}
 use Rattle.tree_directives.specs.DirectiveTree.{Directives, InputValues, InputValueTree, input_value_tree}
 use Rattle.tree_type_members.specs.TypeSystemTree.{FieldDefinitionTree, EnumValueTree, field_definition_tree, enum_value_tree}
-use Rattle.schema_types.specs.in_definitions.DefinitionTree.{DefinitionTree}
+use Rattle.tree_definitions.specs.DefinitionTree.{DefinitionTree}
 use Rattle.schema_components.specs.Applied.{Applied, applied_tree}
 use Rattle.schema_components.specs.Given.{Given, ExtensionTree, component_tree, component_name_tree}
 use Rattle.schema_types.specs.Out.{given_by, givers, each_once}

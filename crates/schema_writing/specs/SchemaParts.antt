@@ -4,7 +4,7 @@ use Rattle.graphql_names.specs.declared.node.Node.{Node}
 use Rattle.graphql_names.specs.Placed.{Place, node_tree}
 use Rattle.tree_directives.specs.DirectiveTree.{Directives, directive_definition_tree}
 use Rattle.tree_directives.specs.declared.directive.DirectiveDefinition.{DirectiveDefinition}
-use Rattle.schema_types.specs.in_definitions.DefinitionTree.{DefinitionTree, Schema, ExtendSchema}
+use Rattle.tree_definitions.specs.DefinitionTree.{DefinitionTree, Schema, ExtendSchema}
 use Rattle.schema_components.specs.Given.{ExtensionTree}
 use Rattle.schema_types.specs.SchemaTree.{SchemaRoots, SchemaTree}
 use Rattle.schema_types.specs.SchemaView.{types_view}

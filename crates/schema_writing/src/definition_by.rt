@@ -4,7 +4,7 @@ ghost use Rattle.std.specs.Option.{option_map};
 ghost use Rattle.graphql_names.specs.Node.{content, place};
 ghost use Rattle.graphql_names.specs.declared.node.Node.{Node};
 ghost use Rattle.graphql_names.specs.Placed.{name_tree, text_tree};
-ghost use Rattle.schema_types.specs.in_definitions.DefinitionTree.{definition_tree};
+ghost use Rattle.tree_definitions.specs.DefinitionTree.{definition_tree};
 ghost use Rattle.schema_types.specs.TypeParts.{definition_by};
 ghost use Rattle.schema_writing.specs.Contents.{named_parts};
 ghost use Rattle.schema_writing.specs.ContentsView.{parts_view};
@@ -15,8 +15,9 @@ use crate::extension_by::{
 };
 use crate::parts::Parts;
 use graphql_names::{Name, Node, NodeStr, SourceSpan};
-use schema_types::{Definition, TypeKind, node_at};
+use schema_types::{TypeKind, node_at};
 use std::alloc::{AllocError, Global};
+use tree_definitions::Definition;
 
 /// Writes a definition or an extension of this content, at that place.
 pub(crate) fn write_placed<T: Drop>(

@@ -1,12 +1,12 @@
 //! The definitions of directives.
 ghost use Rattle.std.specs.Prelude.{◌≡◌, ◌++◌, map, OnOk};
 ghost use Rattle.std.specs.List.{flat_map};
-ghost use Rattle.schema_types.specs.in_definitions.DefinitionTree.{definition_tree};
+ghost use Rattle.tree_definitions.specs.DefinitionTree.{definition_tree};
 ghost use Rattle.schema_writing.specs.SchemaParts.{written_node};
 
 use graphql_names::Node;
-use schema_types::Definition;
 use std::alloc::AllocError;
+use tree_definitions::Definition;
 use tree_directives::DirectiveDefinition;
 
 /// Writes each definition of a directive that is not built in.

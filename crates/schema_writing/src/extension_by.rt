@@ -1,7 +1,7 @@
 //! An extension of a type of each kind.
 ghost use Rattle.std.specs.Prelude.{◌≡◌, ◌++◌, [], ◌∷◌, map, OnOk};
 ghost use Rattle.graphql_names.specs.Placed.{name_tree};
-ghost use Rattle.schema_types.specs.in_definitions.DefinitionTree.{definition_tree, scalar_extension_parts, object_extension_parts, interface_extension_parts, union_extension_parts, enum_extension_parts, input_object_extension_parts};
+ghost use Rattle.tree_definitions.specs.DefinitionTree.{definition_tree, scalar_extension_parts, object_extension_parts, interface_extension_parts, union_extension_parts, enum_extension_parts, input_object_extension_parts};
 ghost use Rattle.schema_types.specs.TypeParts.{extension_by, fields_parts};
 ghost use Rattle.schema_types.specs.declared.type_kind.TypeKind.TheVariants as kind;
 ghost use Rattle.schema_writing.specs.Contents.{named_parts};
@@ -10,10 +10,11 @@ ghost use Rattle.schema_writing.specs.ContentsView.{parts_view};
 use crate::definition_by::write_placed;
 use crate::parts::Parts;
 use graphql_names::{Name, SourceSpan};
-use schema_types::{Definition, TypeKind};
+use schema_types::TypeKind;
 use std::alloc::{AllocError, Global};
 use std::mem;
 use tree_composite_types::{InterfaceTypeExtension, ObjectTypeExtension, UnionTypeExtension};
+use tree_definitions::Definition;
 use tree_directives::DirectiveList;
 use tree_input_types::{EnumTypeExtension, InputObjectTypeExtension, ScalarTypeExtension};
 

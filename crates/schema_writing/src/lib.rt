@@ -19,7 +19,8 @@ mod types;
 mod write;
 
 pub use schema_types::{
-    Document, EnumType, ExtendedType, InputObjectType, InterfaceType, ObjectType, Origins,
-    RootOperations, ScalarType, SchemaDefinition, SourceFile, TypeKind, UnionType,
+    EnumType, ExtendedType, InputObjectType, InterfaceType, ObjectType, Origins, RootOperations,
+    ScalarType, SchemaDefinition, TypeKind, UnionType,
 };
+pub use tree_definitions::{Document, SourceFile};
 pub use write::written_definitions;

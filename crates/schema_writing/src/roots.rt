@@ -2,7 +2,7 @@
 ghost use Rattle.std.specs.Prelude.{◌≡◌, ◌++◌, [], map, None, OnOk};
 ghost use Rattle.std.specs.Option.{option_map};
 ghost use Rattle.graphql_names.specs.Placed.{node_tree};
-ghost use Rattle.schema_types.specs.in_definitions.DefinitionTree.{root_tree};
+ghost use Rattle.tree_definitions.specs.DefinitionTree.{root_tree};
 ghost use Rattle.schema_components.specs.Given.{origin_tree, component_name_tree};
 ghost use Rattle.schema_types.specs.TypeView.{schema_roots};
 ghost use Rattle.schema_types.specs.Out.{same_giver, root_given_by, schema_parts_given_by};

@@ -2,7 +2,7 @@
 ghost use Rattle.std.specs.Prelude.{◌≡◌, ◌++◌, [], ◌∷◌, map, None, Some, IfOk, OnOk};
 ghost use Rattle.graphql_names.specs.Placed.{node_tree};
 ghost use Rattle.tree_directives.specs.DirectiveTree.{directive_tree};
-ghost use Rattle.schema_types.specs.in_definitions.DefinitionTree.{definition_tree, schema_extension_parts};
+ghost use Rattle.tree_definitions.specs.DefinitionTree.{definition_tree, schema_extension_parts};
 ghost use Rattle.schema_components.specs.Given.{extension_tree, origin_tree};
 ghost use Rattle.schema_types.specs.TypeView.{schema_roots};
 ghost use Rattle.schema_types.specs.Out.{written_schema, schema_parts_given_by};
@@ -16,8 +16,9 @@ use crate::roots::add_roots;
 use graphql_names::{Name, Node};
 use indexmap::IndexMap;
 use schema_components::{ComponentOrigin, ExtensionId};
-use schema_types::{Definition, ExtendedType, SchemaDefinition, shared_description};
+use schema_types::{ExtendedType, SchemaDefinition, shared_description};
 use std::alloc::{AllocError, Global};
+use tree_definitions::Definition;
 use tree_directives::{Directive, DirectiveList};
 use tree_input_types::SchemaExtension;
 

@@ -2,7 +2,7 @@
 ghost use Rattle.std.specs.Prelude.{◌≡◌, ◌++◌, [], ◌∷◌, map, None, Some, OnOk, if◌then◌else◌};
 ghost use Rattle.std.specs.List.{flat_map};
 ghost use Rattle.graphql_names.specs.Places.{is_built_in};
-ghost use Rattle.schema_types.specs.in_definitions.DefinitionTree.{definition_tree};
+ghost use Rattle.tree_definitions.specs.DefinitionTree.{definition_tree};
 ghost use Rattle.schema_components.specs.Given.{extension_tree, place_of};
 ghost use Rattle.schema_writing.specs.Contents.{type_contents, written_contents, defined_from, extended_from};
 ghost use Rattle.schema_writing.specs.ContentsView.{HoldsNothing, filed_parts};
@@ -11,8 +11,9 @@ use crate::definition_by::write_definition_by;
 use crate::extension_by::write_extension_by;
 use crate::parts::{FiledType, Parts};
 use schema_components::{ComponentOrigin, ExtensionId};
-use schema_types::{Definition, ExtendedType, shared_description};
+use schema_types::{ExtendedType, shared_description};
 use std::alloc::{AllocError, Global};
+use tree_definitions::Definition;
 
 /// Writes each type.
 pub(crate) fn write_types(

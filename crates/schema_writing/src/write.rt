@@ -1,6 +1,6 @@
 //! All that is written of a schema.
 ghost use Rattle.std.specs.Prelude.{◌≡◌, map, IfOk};
-ghost use Rattle.schema_types.specs.in_definitions.DefinitionTree.{definition_tree};
+ghost use Rattle.tree_definitions.specs.DefinitionTree.{definition_tree};
 ghost use Rattle.schema_types.specs.Out.{written};
 ghost use Rattle.schema_types.specs.SchemaView.{schema_view};
 
@@ -9,8 +9,9 @@ use crate::schema::write_schema;
 use crate::types::write_types;
 use graphql_names::{Name, Node};
 use indexmap::IndexMap;
-use schema_types::{Definition, ExtendedType, SchemaDefinition};
+use schema_types::{ExtendedType, SchemaDefinition};
 use std::alloc::{AllocError, Global};
+use tree_definitions::Definition;
 use tree_directives::DirectiveDefinition;
 
 /// A schema as a list of definitions: the schema definition unless it is implicit, the directives and the types, each

@@ -1,63 +1,125 @@
-//! Selections that are built of their parts.
+//! Selections that a set makes, with what is added to them.
 
-use crate::parts::{directive, field, node, spread};
-use graphql_documents::{Field, FragmentSpread, InlineFragment};
+use crate::told::{got, is_copied, node, push_if};
+use graphql_documents::{Field, Selection, SelectionSet, SelectionSetExt};
 use graphql_names::name;
-use std::alloc::{AllocError, Global};
-use tree_literals::Value;
+use graphql_schema::Schema;
+use row_files::Lines;
+use std::alloc::Global;
+use std::process::Abort;
 
-/// `z: ofType(x: null) @e { ...F }`
-pub(crate) fn field_with_each(alloc: Global) -> Result<Field, AllocError> {
-    let value = node(alloc, Value::Null)?;
-    field(alloc)?
-        .with_opt_alias(Some(name!("z")))
-        .with_argument(name!("x"), value)?
-        .with_directive(directive(alloc)?)?
-        .with_selection(spread(alloc)?)
-}
-
-/// The field, with each part that it has twice.
-pub(crate) fn field_with_all(field: &Field) -> Result<Field, AllocError> {
-    field
-        .clone()?
-        .with_arguments(field.arguments.clone()?)?
-        .with_directives(field.directives.0.clone()?)?
-        .with_selections(field.selection_set.selections.clone()?)
-}
-
-/// `...F @e`, and the directives of the field.
-pub(crate) fn spread_with_all(alloc: Global, field: &Field) -> Result<FragmentSpread, AllocError> {
-    let directive = directive(alloc)?;
-    field
-        .selection_set
-        .new_fragment_spread(alloc, name!("F"))
-        .with_directive(directive)?
-        .with_directives(field.directives.0.clone()?)
-}
-
-/// `... on __Type @e { ...F }`, and the directives and selections of the field.
-pub(crate) fn inline_with_all(alloc: Global, field: &Field) -> Result<InlineFragment, AllocError> {
-    field
-        .selection_set
-        .new_inline_fragment(alloc, Some(name!("__Type")))?
-        .with_directive(directive(alloc)?)?
-        .with_selection(spread(alloc)?)?
-        .with_directives(field.directives.0.clone()?)?
-        .with_selections(field.selection_set.selections.clone()?)
-}
-
-/// `... { ...F }`, with what the field selects.
-pub(crate) fn inline_without_condition(
+/// The field `a` that the set makes, as `z`, with each part of the single one twice.
+fn doubled(
+    rt: &impl Abort,
     alloc: Global,
-    field: &Field,
-) -> Result<InlineFragment, AllocError> {
-    let mut inline = field.selection_set.new_inline_fragment(alloc, None)?;
-    let selections = field.selection_set.selections.clone()?;
-    inline.selection_set.extend(selections)?;
-    Ok(inline)
+    schema: &Schema,
+    set: &SelectionSet,
+    single: &Field,
+) -> Option<Field> {
+    let argument = single.arguments.first()?.content();
+    let directive = single.directives.0.first()?;
+    let selection = single.selection_set.selections.first()?;
+    let made = got(rt, set.new_field(alloc, schema, name!("a")));
+    let made = made.with_opt_alias(Some(name!("z")));
+    let value = got(rt, argument.value.clone());
+    let made = got(rt, made.with_argument(name!("x"), value));
+    let made = got(rt, made.with_arguments(got(rt, single.arguments.clone())));
+    let made = got(rt, made.with_directive(got(rt, directive.clone())));
+    let directives = got(rt, single.directives.0.clone());
+    let made = got(rt, made.with_directives(directives));
+    let made = got(rt, made.with_selection(got(rt, selection.clone())));
+    let selections = got(rt, single.selection_set.selections.clone());
+    Some(got(rt, made.with_selections(selections)))
 }
 
-/// `... on __Type { }`
-pub(crate) fn empty_inline(alloc: Global) -> Result<InlineFragment, AllocError> {
-    InlineFragment::with_type_condition(alloc, name!("__Type"))
+/// Adds whether that field is the second of the set, and its copy equals it.
+fn push_field(
+    rt: &impl Abort,
+    alloc: Global,
+    schema: &Schema,
+    set: &SelectionSet,
+    lines: &mut Lines,
+) -> Option<()> {
+    let single = set.selections.get(0)?.as_field()?.content();
+    let wanted = set.selections.get(1)?.as_field()?.content();
+    let made = doubled(rt, alloc, schema, set, single)?;
+    push_if(made == *wanted, "a field, ", lines);
+    push_if(is_copied(&made), "copied\n", lines);
+    Some(())
+}
+
+/// Adds whether `...F @e @e` is the third selection of the set, and its copy equals it.
+fn push_spread(
+    rt: &impl Abort,
+    alloc: Global,
+    set: &SelectionSet,
+    single: &Field,
+    lines: &mut Lines,
+) -> Option<()> {
+    let directive = single.directives.0.first()?;
+    let wanted = set.selections.get(2)?;
+    let made = set.new_fragment_spread(alloc, name!("F"));
+    let made = got(rt, made.with_directive(got(rt, directive.clone())));
+    let directives = got(rt, single.directives.0.clone());
+    let made = got(rt, made.with_directives(directives));
+    let is_copied = is_copied(&made);
+    let made = Selection::from(node(rt, alloc, made));
+    push_if(made == *wanted, "a spread, ", lines);
+    push_if(is_copied, "copied\n", lines);
+    Some(())
+}
+
+/// Adds whether `... on Query @e @e { ...F ...F }` is the fourth selection of the set, and its copy equals it.
+fn push_inline(
+    rt: &impl Abort,
+    alloc: Global,
+    set: &SelectionSet,
+    single: &Field,
+    lines: &mut Lines,
+) -> Option<()> {
+    let directive = single.directives.0.first()?;
+    let selection = single.selection_set.selections.first()?;
+    let wanted = set.selections.get(3)?.as_inline_fragment()?.content();
+    let made = got(rt, set.new_inline_fragment(alloc, Some(name!("Query"))));
+    let made = got(rt, made.with_directive(got(rt, directive.clone())));
+    let directives = got(rt, single.directives.0.clone());
+    let made = got(rt, made.with_directives(directives));
+    let made = got(rt, made.with_selection(got(rt, selection.clone())));
+    let selections = got(rt, single.selection_set.selections.clone());
+    let made = got(rt, made.with_selections(selections));
+    push_if(made == *wanted, "an inline fragment, ", lines);
+    push_if(is_copied(&made), "copied\n", lines);
+    Some(())
+}
+
+/// Adds whether `... { ...F }` is the fifth selection of the set, and its copy equals it.
+fn push_bare(
+    rt: &impl Abort,
+    alloc: Global,
+    set: &SelectionSet,
+    single: &Field,
+    lines: &mut Lines,
+) -> Option<()> {
+    let wanted = set.selections.get(4)?.as_inline_fragment()?.content();
+    let mut made = got(rt, set.new_inline_fragment(alloc, None));
+    let selections = got(rt, single.selection_set.selections.clone());
+    got(rt, made.selection_set.extend(selections));
+    push_if(made == *wanted, "one without a condition, ", lines);
+    push_if(is_copied(&made), "copied\n", lines);
+    Some(())
+}
+
+/// Adds whether each selection of the set that a set can make is made.
+pub(crate) fn push_made(
+    rt: &impl Abort,
+    alloc: Global,
+    schema: &Schema,
+    set: &SelectionSet,
+    lines: &mut Lines,
+) -> Option<()> {
+    let single = set.selections.first()?.as_field()?.content();
+    push_field(rt, alloc, schema, set, lines)?;
+    push_spread(rt, alloc, set, single, lines)?;
+    push_inline(rt, alloc, set, single, lines)?;
+    push_bare(rt, alloc, set, single, lines)
 }

@@ -42,30 +42,11 @@ use Rattle.tree_input_types.specs.contracts.enum_type.EnumTypeDefinitionPartialE
 use Rattle.tree_input_types.specs.contracts.enum_type.EnumTypeExtensionPartialEq.TheImpl as enum_extension_impl
 use Rattle.tree_input_types.specs.contracts.input_object_type.InputObjectTypeDefinitionPartialEq.TheImpl as input_object_impl
 use Rattle.tree_input_types.specs.contracts.input_object_type.InputObjectTypeExtensionPartialEq.TheImpl as input_object_extension_impl
+pub use Rattle.tree_meaning.proofs.MemberEquality.{field_definition_eq-Decides, enum_value_eq-Decides}
 use Rattle.graphql_values.proofs.Decided.{through, pair_decides, lists_decide, nodes_decide, options_decide, name_decides, text_decides}
 use Rattle.graphql_values.proofs.TypeEquality.{type_eq-Decides}
 use Rattle.graphql_values.proofs.DirectiveEquality.{directive_list_eq-Decides, input_value_eq-Decides}
 use Rattle.graphql_values.proofs.OperationEquality.{operation_type_eq, operation_type_eq-Decides}
-
-pub field_definition_eq-Decides : (a b : FieldDefinition) → Decides (field_definition_impl.ghosts.eq a b) (unplaced_field_definition (field_definition_tree a) ≡ unplaced_field_definition (field_definition_tree b))
-field_definition_eq-Decides a b =
-    through
-    (pair_decides _ _ (options_decide _ unplaced_text text_tree text_decides a.description b.description)
-    (pair_decides _ _ (name_decides a.name b.name)
-    (pair_decides _ _ (nodes_decide _ unplaced_input_value input_value_tree input_value_eq-Decides a.arguments.items b.arguments.items)
-    (pair_decides _ _ (type_eq-Decides a.ty b.ty)
-    (directive_list_eq-Decides a.directives b.directives)))))
-    (λ h i. record { description = h.0 i; name = h.1.0 i; arguments = h.1.1.0 i; ty = h.1.1.1.0 i; directives = h.1.1.1.1 i })
-    (λ e. (ap (λ t. t.description) e, (ap (λ t. t.name) e, (ap (λ t. t.arguments) e, (ap (λ t. t.ty) e, ap (λ t. t.directives) e)))))
-
-pub enum_value_eq-Decides : (a b : EnumValueDefinition) → Decides (enum_value_impl.ghosts.eq a b) (unplaced_enum_value (enum_value_tree a) ≡ unplaced_enum_value (enum_value_tree b))
-enum_value_eq-Decides a b =
-    through
-    (pair_decides _ _ (options_decide _ unplaced_text text_tree text_decides a.description b.description)
-    (pair_decides _ _ (name_decides a.value b.value)
-    (directive_list_eq-Decides a.directives b.directives)))
-    (λ h i. record { description = h.0 i; value = h.1.0 i; directives = h.1.1 i })
-    (λ e. (ap (λ t. t.description) e, (ap (λ t. t.value) e, ap (λ t. t.directives) e)))
 
 root_eq-Decides : (a b : OperationType × NameValue) → Decides (operation_type_eq a.0 b.0 && pointwise nat_eq a.1.text b.1.text) (unplaced_root (root_tree a) ≡ unplaced_root (root_tree b))
 root_eq-Decides a b =

@@ -1,36 +1,16 @@
--- Definitions of a document (GraphQL, October 2021, sections 2.2 and 3).
-use Rattle.std.specs.Prelude.{List, map, Option}
+-- What contracts see of definitions and of whole documents.
+use Rattle.std.specs.Prelude.{List, map}
 use Rattle.std.specs.Option.{option_map}
 use Rattle.graphql_names.specs.Node.{content, place}
-use Rattle.graphql_values.specs.Placed.{Place, Text, text_tree, unplaced_text}
-use Rattle.graphql_values.specs.DirectiveTree.{DirectiveDefinitionTree, directive_definition_tree, unplaced_directive_definition}
-use Rattle.graphql_values.specs.OperationTree.{OperationTree, FragmentTree, operation_tree, fragment_tree, unplaced_operation, unplaced_fragment}
-use Rattle.tree_composite_types.specs.in_type_members.TypeSystemTree.{SchemaParts, ScalarParts, FieldsParts, UnionParts, EnumParts, InputObjectParts, unplaced_schema, unplaced_scalar, unplaced_fields, unplaced_union, unplaced_enum, unplaced_input_object}
+use Rattle.graphql_values.specs.Placed.{Place, text_tree}
+use Rattle.graphql_values.specs.DirectiveTree.{directive_definition_tree}
+use Rattle.graphql_values.specs.OperationTree.{operation_tree, fragment_tree}
 pub use Rattle.tree_composite_types.specs.CompositeTree.{object_parts, object_extension_parts, interface_parts, interface_extension_parts, union_parts, union_extension_parts}
 pub use Rattle.tree_input_types.specs.InputTypeTree.{root_tree, schema_parts, schema_extension_parts, scalar_parts, scalar_extension_parts, enum_parts, enum_extension_parts, input_object_parts, input_object_extension_parts}
+pub use Rattle.tree_meaning.specs.DefinitionTree.{DefinitionTree, Operation, Fragment, DirectiveDefinition, Schema, ScalarType, ObjectType, InterfaceType, UnionType, EnumType, InputObjectType, ExtendSchema, ExtendScalar, ExtendObject, ExtendInterface, ExtendUnion, ExtendEnum, ExtendInputObject, unplaced_definition, unplaced_document}
 use Rattle.tree_definitions.specs.declared.definition.Definition.{Definition}
 use Rattle.tree_definitions.specs.declared.definition.Definition.TheVariants as rust
 use Rattle.tree_definitions.specs.declared.document.Document.{Document}
-
--- a definition with its place and, where the grammar has one, its description
-pub data DefinitionTree (P : Type 0) : Type 0 where
-  Operation : P → OperationTree P → DefinitionTree P
-  Fragment : P → FragmentTree P → DefinitionTree P
-  DirectiveDefinition : P → DirectiveDefinitionTree P → DefinitionTree P
-  Schema : P → Option (Text P) → SchemaParts P → DefinitionTree P
-  ScalarType : P → Option (Text P) → ScalarParts P → DefinitionTree P
-  ObjectType : P → Option (Text P) → FieldsParts P → DefinitionTree P
-  InterfaceType : P → Option (Text P) → FieldsParts P → DefinitionTree P
-  UnionType : P → Option (Text P) → UnionParts P → DefinitionTree P
-  EnumType : P → Option (Text P) → EnumParts P → DefinitionTree P
-  InputObjectType : P → Option (Text P) → InputObjectParts P → DefinitionTree P
-  ExtendSchema : P → SchemaParts P → DefinitionTree P
-  ExtendScalar : P → ScalarParts P → DefinitionTree P
-  ExtendObject : P → FieldsParts P → DefinitionTree P
-  ExtendInterface : P → FieldsParts P → DefinitionTree P
-  ExtendUnion : P → UnionParts P → DefinitionTree P
-  ExtendEnum : P → EnumParts P → DefinitionTree P
-  ExtendInputObject : P → InputObjectParts P → DefinitionTree P
 
 abbrev pub definition_tree : Definition → DefinitionTree Place
 definition_tree (rust.OperationDefinition n) = Operation (place n) (operation_tree (content n))
@@ -54,26 +34,3 @@ definition_tree (rust.InputObjectTypeExtension n) = ExtendInputObject (place n) 
 -- what a document is: its definitions in order
 abbrev pub document_tree : Document → List (DefinitionTree Place)
 document_tree d = map definition_tree d.definitions.items
-
-abbrev pub unplaced_definition : {P : Type 0} → DefinitionTree P → DefinitionTree (Unit {0})
-unplaced_definition (Operation p o) = Operation tt (unplaced_operation o)
-unplaced_definition (Fragment p f) = Fragment tt (unplaced_fragment f)
-unplaced_definition (DirectiveDefinition p d) = DirectiveDefinition tt (unplaced_directive_definition d)
-unplaced_definition (Schema p d s) = Schema tt (option_map unplaced_text d) (unplaced_schema s)
-unplaced_definition (ScalarType p d t) = ScalarType tt (option_map unplaced_text d) (unplaced_scalar t)
-unplaced_definition (ObjectType p d t) = ObjectType tt (option_map unplaced_text d) (unplaced_fields t)
-unplaced_definition (InterfaceType p d t) = InterfaceType tt (option_map unplaced_text d) (unplaced_fields t)
-unplaced_definition (UnionType p d t) = UnionType tt (option_map unplaced_text d) (unplaced_union t)
-unplaced_definition (EnumType p d t) = EnumType tt (option_map unplaced_text d) (unplaced_enum t)
-unplaced_definition (InputObjectType p d t) = InputObjectType tt (option_map unplaced_text d) (unplaced_input_object t)
-unplaced_definition (ExtendSchema p s) = ExtendSchema tt (unplaced_schema s)
-unplaced_definition (ExtendScalar p t) = ExtendScalar tt (unplaced_scalar t)
-unplaced_definition (ExtendObject p t) = ExtendObject tt (unplaced_fields t)
-unplaced_definition (ExtendInterface p t) = ExtendInterface tt (unplaced_fields t)
-unplaced_definition (ExtendUnion p t) = ExtendUnion tt (unplaced_union t)
-unplaced_definition (ExtendEnum p t) = ExtendEnum tt (unplaced_enum t)
-unplaced_definition (ExtendInputObject p t) = ExtendInputObject tt (unplaced_input_object t)
-
--- a document without places
-abbrev pub unplaced_document : {P : Type 0} → List (DefinitionTree P) → List (DefinitionTree (Unit {0}))
-unplaced_document = map unplaced_definition

@@ -13,10 +13,10 @@ use Rattle.verdict_definitions.specs.Judge.{AreSchemasCertain, IsDocumentCertain
 use Rattle.verdict_definitions.specs.Out.{Layout}
 use Rattle.verdict_definitions.specs.Answer.{Answer}
 use Rattle.checker_schemas.specs.CheckedSchemaValue.{CheckedSchemaValue, IsCheckedSchemaOf}
-use Rattle.checker_documents.specs.CheckerValue.{CheckerValue, IsCheckedDocumentOf}
-use Rattle.checker_documents.specs.CheckedView.{CheckedSchemaParts, CheckedDocumentParts, schema_value, document_value}
-use Rattle.checker_documents.specs.CheckerAnswers.{IsFinishRefusal}
-use Rattle.checker_documents.specs.DocumentRefusals.{RefusalOfDocument}
+use Rattle.graphql_checked.specs.CheckerValue.{CheckerValue, IsCheckedDocumentOf}
+use Rattle.graphql_checked.specs.CheckedView.{CheckedSchemaParts, CheckedDocumentParts, schema_value, document_value}
+use Rattle.graphql_checked.specs.CheckerAnswers.{IsFinishRefusal}
+use Rattle.graphql_checked.specs.DocumentRefusals.{RefusalOfDocument}
 use Rattle.graphql_checked.specs.Run.{BytesOf, TellCertain, IsAnswerToCertain, WritesAnswer, RunFaultIsDue}
 use Rattle.graphql_checked.proofs.Completing.{text_told, texts_told}
 use Rattle.checker_texts.specs.declared.refusal.Refusal.{Refusal}

@@ -15,7 +15,7 @@ use Rattle.checker_answers.specs.declared.run_fault.Outcome.{Outcome}
 use Rattle.checker_answers.specs.declared.run_fault.Outcome.TheVariants as outcome
 use Rattle.checker_answers.specs.declared.run_fault.RunFault.{RunFault}
 use Rattle.checker_schemas.specs.CheckedSchemaValue.{CheckedSchemaValue, IsCheckedSchemaOf}
-use Rattle.checker_documents.specs.CheckerValue.{CheckerValue, CheckedDocumentValue, IsCheckedDocumentOf}
+use Rattle.graphql_checked.specs.CheckerValue.{CheckerValue, CheckedDocumentValue, IsCheckedDocumentOf}
 use Rattle.graphql_checked.specs.Run.{IsAnswerToCertain}
 use Rattle.graphql_checked.specs.Verdicts.{first_terms}
 use Rattle.checker_texts.specs.declared.refusal.Refusal.{Refusal}

@@ -9,7 +9,7 @@ use Rattle.verdict_definitions.specs.Out.{Layout, layout_text}
 use Rattle.verdict_laws.specs.AnyNumber.{IsNumber}
 use Rattle.verdict_laws.specs.Rearranged.{AreRearranged, AreCut, TextsHaveNumbers, LeaveNumber}
 use Rattle.checker_schemas.specs.CheckedSchemaValue.{CheckedSchemaValue}
-use Rattle.checker_documents.specs.CheckerValue.{CheckerValue, CheckedDocumentValue}
+use Rattle.graphql_checked.specs.CheckerValue.{CheckerValue, CheckedDocumentValue}
 use Rattle.checker_texts.specs.declared.refusal.Refusal.{Refusal}
 use Rattle.checker_texts.specs.declared.refusal.Refusal.TheVariants as refusal
 use Rattle.checker_answers.specs.declared.verdict.Verdict.{Verdict}

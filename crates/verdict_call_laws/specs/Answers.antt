@@ -8,9 +8,9 @@ use Rattle.verdict_definitions.specs.Judge.{AreSchemasCertain, IsDocumentCertain
 use Rattle.verdict_definitions.specs.Out.{Layout}
 use Rattle.verdict_definitions.specs.Answer.{Answer}
 use Rattle.checker_schemas.specs.CheckedSchemaValue.{CheckedSchemaValue, IsCheckedSchemaOf}
-use Rattle.checker_documents.specs.CheckerValue.{CheckerValue, CheckedDocumentValue, IsCheckedDocumentOf}
-use Rattle.checker_documents.specs.CheckerAnswers.{IsFinishRefusal}
-use Rattle.checker_documents.specs.DocumentRefusals.{RefusalOfDocument}
+use Rattle.graphql_checked.specs.CheckerValue.{CheckerValue, CheckedDocumentValue, IsCheckedDocumentOf}
+use Rattle.graphql_checked.specs.CheckerAnswers.{IsFinishRefusal}
+use Rattle.graphql_checked.specs.DocumentRefusals.{RefusalOfDocument}
 use Rattle.graphql_checked.specs.Run.{BytesOf, IsAnswerToCertain}
 use Rattle.graphql_checked.specs.Verdicts.{IsVerdict}
 use Rattle.checker_texts.specs.declared.refusal.Refusal.{Refusal}

@@ -10,7 +10,7 @@ use Rattle.verdict_definitions.specs.Out.{Layout, layout_text}
 use Rattle.verdict_definitions.specs.Answer.{WritesDocument}
 use Rattle.verdict_road_back_laws.specs.RoadBack.{IsPlainLayout}
 use Rattle.checker_schemas.specs.CheckedSchemaValue.{CheckedSchemaValue, IsCheckedSchemaOf}
-use Rattle.checker_documents.specs.CheckerValue.{IsCheckedDocumentOf}
+use Rattle.graphql_checked.specs.CheckerValue.{IsCheckedDocumentOf}
 
 -- The schema is that of some texts, on some terms; no text has the number of what is built in.
 pub record IsOfTextsElsewhere (schema : CheckedSchemaValue) : Type 0 where

@@ -5,8 +5,8 @@ use Rattle.graphql_names.specs.Device.{device_inner}
 use Rattle.graphql_names.specs.declared.device.Device.{Device}
 use Rattle.checker_answers.specs.Devices.{TellsText}
 use Rattle.checker_schemas.specs.CheckedSchemaValue.{CheckedSchemaValue}
-use Rattle.checker_documents.specs.CheckerValue.{CheckedDocumentValue}
-use Rattle.checker_documents.specs.CheckedView.{CheckedSchemaParts, CheckedDocumentParts, schema_value, document_value}
+use Rattle.graphql_checked.specs.CheckerValue.{CheckedDocumentValue}
+use Rattle.graphql_checked.specs.CheckedView.{CheckedSchemaParts, CheckedDocumentParts, schema_value, document_value}
 use Rattle.checker_texts.specs.declared.refusal.Refusal.{Refusal}
 use Rattle.verdict_call_laws.specs.Answers.{RunValue}
 

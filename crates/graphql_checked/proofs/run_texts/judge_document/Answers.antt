@@ -1,6 +1,6 @@
 use Rattle.std.proofs.Common.{subst}
 use Rattle.checker_layouts.specs.Layouts.{prefix_of}
-use Rattle.checker_documents.specs.CheckedView.{CheckedSchemaParts, schema_value, document_value}
+use Rattle.graphql_checked.specs.CheckedView.{CheckedSchemaParts, schema_value, document_value}
 use Rattle.graphql_checked.specs.Run.{IsWrittenAnswer}
 use Rattle.graphql_checked.proofs.Verdicts.{certain_document, document_not_failed}
 use Rattle.graphql_checked.proofs.Answering.{accepted_bytes, document_answer, memory_answer}

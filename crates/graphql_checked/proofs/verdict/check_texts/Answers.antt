@@ -1,5 +1,5 @@
 use Rattle.std.proofs.Common.{map}
-use Rattle.checker_documents.specs.CheckedView.{schema_value}
+use Rattle.graphql_checked.specs.CheckedView.{schema_value}
 use Rattle.graphql_checked.specs.Verdicts.{first_terms}
 use Rattle.graphql_checked.proofs.Verdicts.{yes_pair, certain_document, certain_schemas, document_verdict, schemas_verdict, memory_verdict, schemas_not_failed, document_not_failed}
 use Rattle.graphql_checked.proofs.verdict.check_texts.Goals as goal

@@ -12,7 +12,7 @@ use Rattle.rule_definitions.proofs.Listing.{gains_none, gains_more, gains_same}
 use Rattle.rule_document_ground.proofs.AtReaches.{some_index}
 use Rattle.graphql_validation.specs.Operations.{OperationFailsAlone, ReachesNamed, NotesNames}
 use Rattle.graphql_validation.proofs.Noting.{notes_none, notes_more, notes_same}
-use Rattle.graphql_validation.proofs.Operations.{lent_operation, lent_operations, all_operations, one_behind, lent_more, lent_all}
+use Rattle.rule_subscriptions.proofs.Operations.{lent_operation, lent_operations, all_operations, one_behind, lent_more, lent_all}
 use Rattle.graphql_validation.proofs.alone.check_operations.Goals as goal
 
 pub loop-operation-init : goal.loop-operation-init

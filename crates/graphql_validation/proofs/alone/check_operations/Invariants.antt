@@ -6,7 +6,7 @@ use Rattle.rule_definitions.specs.Words.{AtSomeIndex}
 use Rattle.rule_document_definitions.specs.Selected.{operations}
 use Rattle.rule_document_ground.specs.NotedNames.{noted_names}
 use Rattle.graphql_validation.specs.Operations.{OperationFailsAlone, ReachesNamed, NotesNames}
-use Rattle.graphql_validation.proofs.Operations.{lent_operations}
+use Rattle.rule_subscriptions.proofs.Operations.{lent_operations}
 use Rattle.graphql_validation.proofs.alone.check_operations.Given as goal
 
 abbrev pub invariant-loop-operation : goal.invariant-loop-operation

@@ -12,7 +12,7 @@ use Rattle.document_typing.specs.DocumentView.{document_meant, operation_meant}
 use Rattle.rule_merging.specs.Merged.{MergingTold}
 use Rattle.rule_merging.specs.Merger.{merger_of}
 use Rattle.graphql_validation.proofs.MergedOperations.{merging_none, merging_more, merging_begins, so_far_none, so_far_more}
-use Rattle.graphql_validation.proofs.Operations.{lent_operation, lent_operations, all_operations, one_behind, lent_more, lent_all, lent_among}
+use Rattle.rule_subscriptions.proofs.Operations.{lent_operation, lent_operations, all_operations, one_behind, lent_more, lent_all, lent_among}
 use Rattle.rule_merging.proofs.Behind.{refused_so}
 use Rattle.graphql_validation.proofs.document.merge_operations.Goals as goal
 

@@ -8,7 +8,7 @@ use Rattle.document_typing.specs.DocumentView.{document_meant, operation_meant}
 use Rattle.rule_merging.specs.Merged.{DocumentMergingTold}
 use Rattle.rule_merging.specs.Merger.{merger_of}
 use Rattle.graphql_validation.proofs.MergedOperations.{MergeSoFar}
-use Rattle.graphql_validation.proofs.Operations.{lent_operations}
+use Rattle.rule_subscriptions.proofs.Operations.{lent_operations}
 use Rattle.graphql_validation.proofs.document.merge_operations.Given as goal
 
 abbrev pub invariant-loop-operation : goal.invariant-loop-operation

@@ -8,13 +8,15 @@ use Rattle.rule_definitions.specs.Judged.{judged}
 use Rattle.rule_document_definitions.specs.Selected.{operations}
 use Rattle.rule_fragments.specs.Possible.{ArePossibleIfFound}
 use Rattle.rule_document_ground.specs.NotedNames.{noted_names}
+use Rattle.rule_document_ground.specs.Reach.{meant_fragments}
+use Rattle.rule_selections.specs.Settled.{StandIn}
 use Rattle.graphql_validation.specs.Operations.{OperationFails, AreReachesTyped, ReachesNamed, NotesNames}
-use Rattle.graphql_validation.proofs.Operations.{lent_operations}
+use Rattle.rule_subscriptions.proofs.Operations.{lent_operations}
 use Rattle.graphql_validation.proofs.under_schema.check_operations.Given as goal
 
 abbrev pub invariant-loop-operation : goal.invariant-loop-operation
-invariant-loop-operation l = (AreReachesTyped (schema_tree l.schema) (document_meant l.document) → ArePossibleIfFound (judged (schema_tree l.schema)) l.fn.possible
+invariant-loop-operation l = (StandIn (schema_tree l.schema) (document_meant l.document).fragments (meant_fragments l.fragments) → AreReachesTyped (schema_tree l.schema) (document_meant l.document) → ArePossibleIfFound (judged (schema_tree l.schema)) l.fn.possible
     → Adds l.fn.found.faults l.found.faults (λ f. AtSomeIndex (lent_operations l.yielded) (λ k o. OperationFails (document_meant l.document) o (schema_tree l.schema) f)))
-    × (NotesNames (noted_names l.fn.found.used) (noted_names l.found.used) (λ n. AtSomeIndex (lent_operations l.yielded) (λ k o. ReachesNamed (document_meant l.document) o n)))
+    × (StandIn (schema_tree l.schema) (document_meant l.document).fragments (meant_fragments l.fragments) → NotesNames (noted_names l.fn.found.used) (noted_names l.found.used) (λ n. AtSomeIndex (lent_operations l.yielded) (λ k o. ReachesNamed (document_meant l.document) o n)))
     × (ArePossibleIfFound (judged (schema_tree l.schema)) l.fn.possible → ArePossibleIfFound (judged (schema_tree l.schema)) l.possible)
     × (lent_operations l.yielded ++ map operation_meant (left_operations l.operation-iterator) ≡ operations (document_meant l.document))

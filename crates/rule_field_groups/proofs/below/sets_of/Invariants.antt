@@ -4,4 +4,4 @@ use Rattle.rule_field_groups.specs.Below.{meant_sets, AreSetsOf}
 use Rattle.rule_field_groups.proofs.below.sets_of.Given as goal
 
 abbrev pub invariant-loop-field : goal.invariant-loop-field
-invariant-loop-field l = AreSetsOf (fields_of (take l.field-index l.group)) (meant_sets l.sets.keys)
+invariant-loop-field l = AreSetsOf (fields_of (take l.field-index l.fields)) (meant_sets l.sets.keys)

@@ -1,72 +1,32 @@
-use Rattle.std.proofs.Common.{◌<◌, ◌≤◌, length, arith}
+use Rattle.std.proofs.Common.{◌∷◌, sym, subst}
+use Rattle.std.proofs.lemmas.Result.{on_ok_weaker}
 use Rattle.graphql_schema.specs.SchemaOf.{schema_tree}
 use Rattle.rule_definitions.specs.Judged.{judged}
-use Rattle.rule_field_groups.proofs.Telling.{no_group, begun, compared_more, all_compared, counts_zero, count_none, count_more, count_within, count_next, count_all}
+use Rattle.rule_document_ground.specs.Fields.{fields_of}
+use Rattle.rule_document_ground.specs.declared.field_selection.FieldSelection.{FieldSelection}
+use Rattle.std.specs.Prelude.{List}
+use Rattle.rule_field_groups.specs.Passes.{AddsGroup}
+use Rattle.rule_field_groups.proofs.Telling.{no_group, count_none, count_group, exact_group}
 use Rattle.rule_field_groups.proofs.conflicts.check_group.Goals as goal
 
-pub returns-in_default-clause-told : goal.returns-in_default-clause-told
-returns-in_default-clause-told c =
-    no_group c.args.pass (judged (schema_tree c.args.schema.now)) c.args.group.now c.in_default.ensures.cases c.args.breaches.now
+pub returns-in-None-clause-told : goal.returns-in-None-clause-told
+returns-in-None-clause-told c =
+    no_group c.args.pass (judged (schema_tree c.args.schema.now)) c.args.group.now c.in-None.ensures.cases c.args.breaches.now
 
-pub returns-in_default-clause-exact : goal.returns-in_default-clause-exact
-returns-in_default-clause-exact c = count_none c.args.pass c.args.group.now c.in_default.ensures.cases c.args.comparisons.now
+pub returns-in-None-clause-exact : goal.returns-in-None-clause-exact
+returns-in-None-clause-exact c = count_none c.args.pass c.args.group.now c.in-None.ensures.cases c.args.comparisons.now
 
-pub loop-other-init : goal.loop-other-init
-loop-other-init c = record {
-  told = begun c.args.pass (judged (schema_tree c.args.schema.now)) c.args.group.now c.in-Some.first.now c.in-Some.others.now c.in-Some.ensures.cases c.args.breaches.now;
-  counted = counts_zero c.args.pass c.args.comparisons.now;
-  within = omega arith;
-}
+pub returns-in-Some-clause-told : goal.returns-in-Some-clause-told
+returns-in-Some-clause-told c =
+    let s = judged (schema_tree c.args.schema.now) in
+    on_ok_weaker c.check_others.result
+    (λ h. subst (λ (l : List FieldSelection). AddsGroup c.args.pass s (fields_of l) c.args.breaches.now c.check_others.new.breaches) (sym c.in-Some.ensures.cases.0) h) c.check_others.ensures.told
 
-pub loop-other-preserved : goal.loop-other-preserved
-loop-other-preserved c =
-    let within : c.loop-other.other-index < length c.in-Some.others.now = c.loop-other-test.true in
-    record {
-      told = compared_more c.args.pass (judged (schema_tree c.args.schema.now)) c.args.group.now c.in-Some.first.now c.in-Some.others.now c.in-Some.ensures.cases
-          c.loop-other.other-index c.other-item.result within c.other-item.is c.in_ok-breach.breach c.in_ok-breach.ensures.told
-          c.args.breaches.now c.loop-other.breaches c.tell_breach.new.breaches c.in_ok-tell_breach.ensures.told c.loop-other.invariant.told;
-      counted = count_more c.args.pass c.loop-other.other-index c.args.comparisons.now c.loop-other.comparisons c.conflict.new.comparisons
-          c.loop-other.invariant.counted c.conflict.ensures.counted;
-      within = omega arith;
-    }
+pub returns-in-Some-clause-counted : goal.returns-in-Some-clause-counted
+returns-in-Some-clause-counted c =
+    count_group c.args.pass c.in-Some.first.now c.in-Some.others.now c.args.group.now c.args.comparisons.now c.check_others.new.comparisons c.in-Some.ensures.cases.0 c.check_others.ensures.counted
 
-pub returns-in_err-breach-clause-more : goal.returns-in_err-breach-clause-more
-returns-in_err-breach-clause-more c =
-    (count_next c.args.pass c.in-Some.first.now c.in-Some.others.now c.args.group.now c.loop-other.other-index c.args.comparisons.now c.loop-other.comparisons c.conflict.new.comparisons
-    c.in-Some.ensures.cases.0 c.loop-other-test.true c.loop-other.invariant.counted c.conflict.ensures.counted).0
-
-pub returns-in_err-breach-clause-counted : goal.returns-in_err-breach-clause-counted
-returns-in_err-breach-clause-counted c =
-    (count_next c.args.pass c.in-Some.first.now c.in-Some.others.now c.args.group.now c.loop-other.other-index c.args.comparisons.now c.loop-other.comparisons c.conflict.new.comparisons
-    c.in-Some.ensures.cases.0 c.loop-other-test.true c.loop-other.invariant.counted c.conflict.ensures.counted).1
-
-pub returns-in_err-tell_breach-clause-more : goal.returns-in_err-tell_breach-clause-more
-returns-in_err-tell_breach-clause-more c =
-    (count_next c.args.pass c.in-Some.first.now c.in-Some.others.now c.args.group.now c.loop-other.other-index c.args.comparisons.now c.loop-other.comparisons c.conflict.new.comparisons
-    c.in-Some.ensures.cases.0 c.loop-other-test.true c.loop-other.invariant.counted c.conflict.ensures.counted).0
-
-pub returns-in_err-tell_breach-clause-counted : goal.returns-in_err-tell_breach-clause-counted
-returns-in_err-tell_breach-clause-counted c =
-    (count_next c.args.pass c.in-Some.first.now c.in-Some.others.now c.args.group.now c.loop-other.other-index c.args.comparisons.now c.loop-other.comparisons c.conflict.new.comparisons
-    c.in-Some.ensures.cases.0 c.loop-other-test.true c.loop-other.invariant.counted c.conflict.ensures.counted).1
-
-pub returns-clause-told : goal.returns-clause-told
-returns-clause-told c =
-    let ended : length c.in-Some.others.now ≤ c.loop-other.other-index = c.loop-other-test.false in
-    all_compared c.args.pass (judged (schema_tree c.args.schema.now)) c.args.group.now c.in-Some.first.now c.in-Some.others.now c.in-Some.ensures.cases
-    c.loop-other.other-index ended c.args.breaches.now c.loop-other.breaches c.loop-other.invariant.told
-
-pub returns-clause-more : goal.returns-clause-more
-returns-clause-more c =
-    (count_within c.args.pass c.in-Some.first.now c.in-Some.others.now c.args.group.now c.loop-other.other-index c.args.comparisons.now c.loop-other.comparisons
-    c.in-Some.ensures.cases.0 c.loop-other.invariant.within c.loop-other.invariant.counted).0
-
-pub returns-clause-counted : goal.returns-clause-counted
-returns-clause-counted c =
-    (count_within c.args.pass c.in-Some.first.now c.in-Some.others.now c.args.group.now c.loop-other.other-index c.args.comparisons.now c.loop-other.comparisons
-    c.in-Some.ensures.cases.0 c.loop-other.invariant.within c.loop-other.invariant.counted).1
-
-pub returns-clause-exact : goal.returns-clause-exact
-returns-clause-exact c =
-    count_all c.args.pass c.in-Some.first.now c.in-Some.others.now c.args.group.now c.loop-other.other-index c.args.comparisons.now c.loop-other.comparisons
-    c.in-Some.ensures.cases.0 c.loop-other.invariant.within c.loop-other-test.false c.loop-other.invariant.counted
+pub returns-in-Some-clause-exact : goal.returns-in-Some-clause-exact
+returns-in-Some-clause-exact c =
+    on_ok_weaker c.check_others.result
+    (λ h. exact_group c.args.pass c.in-Some.first.now c.in-Some.others.now c.args.group.now c.args.comparisons.now c.check_others.new.comparisons c.in-Some.ensures.cases.0 h) c.check_others.ensures.exact

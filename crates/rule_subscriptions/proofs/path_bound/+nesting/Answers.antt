@@ -1,5 +1,4 @@
 use Rattle.std.proofs.Common.{◌<◌, ◌≤◌, ◌≡◌, length, get_or, sym, subst, ◌∙◌}
-use Rattle.document_typed_selections.specs.declared.selection.Selection.{Selection}
 use Rattle.rule_subscriptions.proofs.Sets.{deeper_here, deeper_none}
 use Rattle.rule_subscriptions.proofs.path_bound.+nesting.Goals as goal
 

@@ -1,4 +1,4 @@
-use Rattle.std.proofs.Common.{◌≡◌, ◌∷◌, ◌++◌, [], false, true, refl, ap, sym, subst}
+use Rattle.std.proofs.Common.{◌≡◌, ◌∷◌, ◌++◌, false, true, refl, sym, subst}
 use Rattle.graphql_names.specs.Node.{content}
 use Rattle.document_typed_operations.specs.TypedDocument.{typed_document_tree}
 use Rattle.document_typed_operations.specs.declared.operation.Operation.{Operation}

@@ -1,4 +1,4 @@
-use Rattle.std.proofs.Common.{◌≡◌, ◌++◌, false, List, map}
+use Rattle.std.proofs.Common.{◌≡◌, ◌++◌, false, List}
 use Rattle.graphql_names.specs.Node.{content}
 use Rattle.graphql_names.specs.Placed.{Place}
 use Rattle.document_typed_operations.specs.TypedDocument.{typed_document_tree}

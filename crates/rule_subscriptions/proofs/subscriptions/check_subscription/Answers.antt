@@ -1,4 +1,4 @@
-use Rattle.std.proofs.Common.{◌≡◌, ◌++◌, [], map, sym, ap, subst, ◌∙◌, append_assoc, append-nil, true≢false, rules}
+use Rattle.std.proofs.Common.{◌≡◌, ◌++◌, [], map, sym, ap, ◌∙◌, append_assoc, append-nil, true≢false, rules}
 use Rattle.std.specs.List.{flat_map}
 use Rattle.std.proofs.lemmas.Result.{on_ok_weaker}
 use Rattle.tree_directives.specs.declared.operation_type.OperationType.TheVariants as operation
@@ -7,7 +7,6 @@ use Rattle.document_typed_operations.specs.declared.operation.Operation.{Operati
 use Rattle.document_typing.specs.DocumentView.{document_meant, operation_meant}
 use Rattle.rule_subscriptions.specs.Broken.{brokens_of}
 use Rattle.rule_subscriptions.specs.Listed.{root_names, multiple_fields, at_root}
-use Rattle.rule_subscriptions.specs.Rooted.{AreRoots}
 use Rattle.rule_always.specs.Lent.{lent_all}
 use Rattle.rule_subscriptions.proofs.Subscribed.{tells_roots, tells_nothing}
 use Rattle.rule_subscriptions.proofs.subscriptions.check_subscription.Goals as goal

@@ -1,6 +1,6 @@
 use Rattle.std.proofs.Common.{map, refl, sym, ap, ◌∙◌}
 use Rattle.std.proofs.lemmas.Result.{IfOk-weaker}
-use Rattle.schema_types.specs.in_definitions.DefinitionTree.{definition_tree}
+use Rattle.tree_definitions.specs.DefinitionTree.{definition_tree}
 use Rattle.schema_types.specs.Origins.{schema_origins, extensions_in}
 use Rattle.schema_writing.specs.SchemaParts.{schema_and_types}
 use Rattle.schema_writing.proofs.Written.{nothing_written, all_written}

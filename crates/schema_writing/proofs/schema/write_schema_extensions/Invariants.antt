@@ -1,6 +1,6 @@
 use Rattle.std.proofs.Common.{◌≡◌, ◌++◌, map, take, Some}
 use Rattle.tree_directives.specs.DirectiveTree.{directive_tree}
-use Rattle.schema_types.specs.in_definitions.DefinitionTree.{definition_tree}
+use Rattle.tree_definitions.specs.DefinitionTree.{definition_tree}
 use Rattle.schema_components.specs.Given.{extension_tree}
 use Rattle.schema_types.specs.TypeView.{schema_roots}
 use Rattle.schema_writing.specs.Filed.{filed_under}

@@ -1,7 +1,7 @@
 use Rattle.std.proofs.Common.{map, ap, ◌∙◌}
 use Rattle.std.proofs.lemmas.Result.{IfOk-weaker}
 use Rattle.tree_directives.specs.DirectiveTree.{directive_tree}
-use Rattle.schema_types.specs.in_definitions.DefinitionTree.{definition_tree}
+use Rattle.tree_definitions.specs.DefinitionTree.{definition_tree}
 use Rattle.schema_types.specs.Out.{given_by}
 use Rattle.schema_types.specs.TypeView.{schema_roots}
 use Rattle.schema_writing.specs.Filed.{filed_under, given_contents}

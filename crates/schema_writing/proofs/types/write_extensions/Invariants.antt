@@ -1,5 +1,5 @@
 use Rattle.std.proofs.Common.{◌≡◌, ◌++◌, map, take, Some}
-use Rattle.schema_types.specs.in_definitions.DefinitionTree.{definition_tree}
+use Rattle.tree_definitions.specs.DefinitionTree.{definition_tree}
 use Rattle.schema_components.specs.Given.{extension_tree, place_of}
 use Rattle.schema_writing.specs.Contents.{type_contents, extended_from}
 use Rattle.schema_writing.specs.ContentsView.{filed_parts}

@@ -1,6 +1,6 @@
 use Rattle.std.proofs.Common.{map, refl, ◌∙◌}
 use Rattle.std.proofs.lemmas.Result.{IfOk-weaker}
-use Rattle.schema_types.specs.in_definitions.DefinitionTree.{definition_tree}
+use Rattle.tree_definitions.specs.DefinitionTree.{definition_tree}
 use Rattle.schema_writing.specs.Contents.{type_contents}
 use Rattle.schema_writing.specs.ContentsView.{filed_parts}
 use Rattle.schema_writing.proofs.Written.{type_written}

@@ -1,6 +1,6 @@
 use Rattle.std.proofs.Common.{◌≡◌, ◌++◌, map, take}
 use Rattle.std.specs.List.{flat_map}
-use Rattle.schema_types.specs.in_definitions.DefinitionTree.{definition_tree}
+use Rattle.tree_definitions.specs.DefinitionTree.{definition_tree}
 use Rattle.schema_writing.specs.Contents.{type_contents, written_contents}
 use Rattle.schema_writing.proofs.types.write_types.Given as goal
 

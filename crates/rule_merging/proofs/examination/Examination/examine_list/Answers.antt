@@ -1,22 +1,23 @@
-use Rattle.std.proofs.Common.{◌≡◌, ◌<◌, ◌≤◌, ◌+◌, List, [], ◌++◌, ◌∷◌, map, take, length, sym, ap, subst, ◌∙◌, append-nil, arith}
+use Rattle.std.proofs.Common.{◌<◌, ◌≤◌, List, [], map, take, length, sym, ap, subst, ◌∙◌, append-nil, arith}
 use Rattle.std.specs.List.{sum}
-use Rattle.std.proofs.lemmas.List.{take_all, map-append}
+use Rattle.std.proofs.lemmas.List.{take_all}
 use Rattle.graphql_names.specs.Placed.{Place}
 use Rattle.rule_document_definitions.specs.Selected.{StandingField}
 use Rattle.rule_field_groups.specs.in_ground.Broken.{brokens_of}
 use Rattle.rule_field_groups.specs.in_ground.Fields.{fields_of}
 use Rattle.rule_field_groups.specs.Compared.{compared}
-use Rattle.rule_field_groups.specs.Grouped.{lists_of}
-use Rattle.rule_merging.specs.Examined.{sets_in, GroupsExamined, ExaminesGroup, schema_of, document_of}
-use Rattle.rule_merging.proofs.Examining.{items_in, front_more, no_groups, GroupsTold, groups_step}
-use Rattle.rule_merging.proofs.Counting.{left_of}
+use Rattle.rule_field_groups.specs.KeyGroups.{parts_of, parts_in, compared_in}
+use Rattle.rule_field_groups.specs.Under.{sets_in}
+use Rattle.rule_merging.specs.Examined.{GroupsExamined, schema_of, document_of}
+use Rattle.rule_merging.proofs.Examining.{parts_more, no_groups, GroupsTold, groups_step}
+use Rattle.rule_field_groups.proofs.Counts.{left_of}
 use Rattle.rule_merging.proofs.examination.Examination.examine_list.Goals as goal
 
 pub loop-group-init : goal.loop-group-init
 loop-group-init c =
     let e = c.args.self.now in
-    let all : sum (map (compared e.pass) (map items_in c.deref-group-items.result.now)) ≤ compared e.pass c.args.list.now =
-    subst (λ l. sum (map (compared e.pass) (map items_in l)) ≤ compared e.pass c.args.list.now) (sym c.deref-group-items.ensures.value) c.in_ok-groups.ensures.counted in
+    let all : sum (map (compared_in e.pass) c.deref-group-items.result.now) ≤ compared e.pass c.args.list.now =
+    subst (λ l. sum (map (compared_in e.pass) l) ≤ compared e.pass c.args.list.now) (sym c.deref-group-items.ensures.value) c.in_ok-groups.ensures.counted in
     record {
       examined = ([], ([], (sym (append-nil (brokens_of c.args.breaches.now)), (sym (append-nil (sets_in c.args.next.now)), no_groups e.pass (schema_of e) (document_of e)))));
       more = omega arith;
@@ -32,18 +33,18 @@ loop-group-preserved c =
     let h : i < length xs = omega arith in
     let inv = c.loop-group.invariant in
     let here = c.in_ok-examine_group.ensures in
-    let groups : List (List (StandingField Place)) = map fields_of (map items_in (take i xs)) in
-    let front : map fields_of (map items_in (take (i + 1) xs)) ≡ groups ++ fields_of x.items ∷ [] =
-    ap (map fields_of) (front_more items_in xs i x h c.group-item.is) ∙ map-append fields_of (map items_in (take i xs)) (x.items ∷ []) in
+    let groups : List (List (StandingField Place)) = map fields_of (parts_in (take i xs)) in
     record {
       examined = subst
-          (GroupsTold e.pass (schema_of e) (document_of e) (brokens_of c.args.breaches.now) (brokens_of c.examine_group.new.breaches) (sets_in c.args.next.now) (sets_in c.examine_group.new.next)) (sym front)
+          (GroupsTold e.pass (schema_of e) (document_of e) (brokens_of c.args.breaches.now) (brokens_of c.examine_group.new.breaches) (sets_in c.args.next.now) (sets_in c.examine_group.new.next)) (sym (parts_more xs i x h c.group-item.is))
           (groups_step e.pass (schema_of e) (document_of e) (brokens_of c.args.breaches.now) (brokens_of c.loop-group.breaches) (brokens_of c.examine_group.new.breaches)
-          (sets_in c.args.next.now) (sets_in c.loop-group.next) (sets_in c.examine_group.new.next) groups (fields_of x.items) inv.examined
-          (subst (λ l. ExaminesGroup e (fields_of l) c.loop-group.breaches c.examine_group.new.breaches (sets_in c.loop-group.next) (sets_in c.examine_group.new.next)) c.deref.ensures.value here.examined));
+          (sets_in c.args.next.now) (sets_in c.loop-group.next) (sets_in c.examine_group.new.next) groups (map fields_of (parts_of x)) inv.examined here.examined);
       more = omega (arith, inv.more, here.more);
-      counted = omega (arith, inv.counted, here.counted, left_of (compared e.pass) items_in xs i x h c.group-item.is, ap (compared e.pass) c.deref.ensures.value);
+      counted = omega (arith, inv.counted, here.counted, left_of (compared_in e.pass) xs i x h c.group-item.is);
     }
+
+pub returns-in_err-examine_group-clause-more : goal.returns-in_err-examine_group-clause-more
+returns-in_err-examine_group-clause-more c = omega (arith, c.loop-group.invariant.more, c.in_err-examine_group.ensures.more)
 
 pub returns-in_err-examine_group-clause-counted : goal.returns-in_err-examine_group-clause-counted
 returns-in_err-examine_group-clause-counted c =
@@ -52,16 +53,13 @@ returns-in_err-examine_group-clause-counted c =
     let i = c.loop-group.group-index in
     let x = c.group-item.result in
     let h : i < length xs = omega arith in
-    omega (arith, c.loop-group.invariant.counted, c.in_err-examine_group.ensures.counted, left_of (compared e.pass) items_in xs i x h c.group-item.is, ap (compared e.pass) c.deref.ensures.value)
-
-pub returns-in_err-examine_group-clause-more : goal.returns-in_err-examine_group-clause-more
-returns-in_err-examine_group-clause-more c = omega (arith, c.loop-group.invariant.more, c.in_err-examine_group.ensures.more)
+    omega (arith, c.loop-group.invariant.counted, c.in_err-examine_group.ensures.counted, left_of (compared_in e.pass) xs i x h c.group-item.is)
 
 pub returns-clause-examined : goal.returns-clause-examined
 returns-clause-examined c =
     let e = c.args.self.now in
     let t = c.loop-group.invariant.examined in
-    let all = ap (λ l. map fields_of (map items_in l)) (take_all c.loop-group.group-index c.deref-group-items.result.now c.loop-group-test.false ∙ c.deref-group-items.ensures.value) in (
+    let all = ap (λ l. map fields_of (parts_in l)) (take_all c.loop-group.group-index c.deref-group-items.result.now c.loop-group-test.false ∙ c.deref-group-items.ensures.value) in (
       t.0,
       (
         t.1.0,
@@ -70,7 +68,7 @@ returns-clause-examined c =
           (
             t.1.1.1.0,
             record {
-              groups = map fields_of (lists_of c.in_ok-groups.groups);
+              groups = map fields_of (parts_in c.in_ok-groups.groups.items);
               are = c.in_ok-groups.ensures.groups;
               examined = subst (λ gs. GroupsExamined e.pass (schema_of e) (document_of e) gs t.0 t.1.0) all t.1.1.1.1;
             },

@@ -5,13 +5,15 @@ use Rattle.rule_document_definitions.specs.DocumentFaults.{Broken}
 use Rattle.rule_field_groups.specs.in_ground.Broken.{brokens_of}
 use Rattle.rule_field_groups.specs.in_ground.Fields.{fields_of}
 use Rattle.rule_field_groups.specs.Compared.{compared}
-use Rattle.rule_merging.specs.Examined.{Sets, sets_in, GroupsExamined, schema_of, document_of}
+use Rattle.rule_field_groups.specs.KeyGroups.{parts_in, compared_in}
+use Rattle.rule_field_groups.specs.Under.{Sets, sets_in}
+use Rattle.rule_merging.specs.Examined.{GroupsExamined, schema_of, document_of}
 use Rattle.rule_merging.proofs.examination.Examination.examine_list.Given as goal
 
 abbrev pub invariant-loop-group : goal.invariant-loop-group
 invariant-loop-group l = record {
   examined : (added : List (Broken Place)) × ((below : List Sets) × ((brokens_of l.breaches ≡ brokens_of l.fn.breaches ++ added) × ((sets_in l.next ≡ sets_in l.fn.next ++ below)
-      × GroupsExamined l.self.pass (schema_of l.self) (document_of l.self) (map fields_of (map (λ v. v.items) (take l.group-index l.group-items))) added below)));
+      × GroupsExamined l.self.pass (schema_of l.self) (document_of l.self) (map fields_of (parts_in (take l.group-index l.group-items))) added below)));
   more : l.fn.comparisons ≤ l.comparisons;
-  counted : l.comparisons + sum (map (compared l.self.pass) (map (λ v. v.items) (drop l.group-index l.group-items))) ≤ l.fn.comparisons + compared l.self.pass l.list;
+  counted : l.comparisons + sum (map (compared_in l.self.pass) (drop l.group-index l.group-items)) ≤ l.fn.comparisons + compared l.self.pass l.list;
 }

@@ -5,7 +5,7 @@ use Rattle.rule_field_groups.specs.Below.{contents_of, meant_sets, IsMergedIn}
 use Rattle.rule_merging.specs.Counted.{AreLast, AreListed}
 use Rattle.rule_merging.specs.Remembered.{Kept, remembered, kept_of}
 use Rattle.rule_merging.specs.Examined.{sets_in, schema_of, document_of}
-use Rattle.rule_merging.proofs.Examining.{fields_told, twos_told}
+use Rattle.rule_merging.proofs.Examining.{SetsTold, fields_told}
 use Rattle.rule_merging.proofs.Counting.{grows_not, grows_same, grows_on, grows_with, fields_listed}
 use Rattle.rule_merging.proofs.examination.Examination.examine_paid.Goals as goal
 
@@ -23,8 +23,8 @@ pub returns-then-not-branch-clause-examined : goal.returns-then-not-branch-claus
 returns-then-not-branch-clause-examined c =
     let e = c.args.self.now in
     on_ok_weaker c.examine_twos.result
-    (λ h. twos_told e.pass (schema_of e) (document_of e) (meant_sets c.args.sets.now) (kept_of c.args.examined.now) (kept_of c.pays.new.self) (kept_of c.examine_twos.new.examined)
-    (brokens_of c.args.breaches.now) (brokens_of c.examine_twos.new.breaches) (sets_in c.args.next.now) (sets_in c.examine_twos.new.next) c.in_ok-pays.ensures h.0 h.1.0 h.1.1)
+    (λ h. subst (λ (k : Kept). SetsTold e.pass (schema_of e) (document_of e) (brokens_of c.args.breaches.now) (brokens_of c.examine_twos.new.breaches) k (kept_of c.examine_twos.new.examined)
+    (sets_in c.args.next.now) (sets_in c.examine_twos.new.next) (meant_sets c.args.sets.now ∷ [])) c.in_ok-pays.ensures h)
     c.examine_twos.ensures.examined
 
 pub returns-then-not-branch-clause-counted : goal.returns-then-not-branch-clause-counted

@@ -1,6 +1,6 @@
 use Rattle.std.proofs.lemmas.Result.{IfOk-weaker}
 use Rattle.rule_number_lists.specs.ListMemory.{items_of, numbers_kept}
-use Rattle.rule_merging.specs.Remembered.{remembered}
+use Rattle.rule_merging.specs.Remembered.{kept_of}
 use Rattle.rule_merging.proofs.Remembering.{expands}
 use Rattle.rule_merging.proofs.remembered.Remembered.expand.Goals as goal
 
@@ -9,5 +9,5 @@ returns-clause-expands c =
     let old = c.args.self.now.expanded in
     let new = c.remember.new.self in
     IfOk-weaker c.remember.result _ _
-    (λ is_new h. expands (remembered c.args.self.now) (items_of old) (items_of new) (numbers_kept old) (numbers_kept new) c.args.sets.now h.0 is_new c.remember.ensures.grown old.within h.1.0 h.1.1)
+    (λ is_new h. expands (kept_of c.args.self.now) (items_of old) (items_of new) (numbers_kept old) (numbers_kept new) c.args.sets.now h.0 is_new c.remember.ensures.grown old.within h.1.0 h.1.1)
     c.remember.ensures.remembers

@@ -1,7 +1,7 @@
 use Rattle.std.proofs.Common.{List, ℕ, Contains, subst}
 use Rattle.std.proofs.lemmas.Result.{IfOk-weaker}
 use Rattle.rule_number_lists.specs.ListMemory.{items_of, numbers_kept}
-use Rattle.rule_merging.specs.Remembered.{remembered}
+use Rattle.rule_merging.specs.Remembered.{kept_of}
 use Rattle.rule_merging.proofs.Remembering.{has_looked, sets_still}
 use Rattle.rule_merging.proofs.remembered.Remembered.has_expanded.Goals as goal
 
@@ -20,4 +20,4 @@ pub returns-clause-same : goal.returns-clause-same
 returns-clause-same c =
     let old = c.args.self.now.expanded in
     let new = c.contains.new.self in
-    λ i. record { lists = remembered c.args.self.now; expanded = sets_still (items_of old) (items_of new) (numbers_kept old) (numbers_kept new) c.contains.ensures.grown old.within c.contains.ensures.lists i }
+    λ i. record (kept_of c.args.self.now) { expanded = sets_still (items_of old) (items_of new) (numbers_kept old) (numbers_kept new) c.contains.ensures.grown old.within c.contains.ensures.lists i }

@@ -1,6 +1,6 @@
 use Rattle.std.proofs.lemmas.Result.{IfOk-weaker, on_err_weaker}
 use Rattle.rule_number_lists.specs.ListMemory.{items_of, numbers_kept}
-use Rattle.rule_merging.specs.Remembered.{looked_at}
+use Rattle.rule_merging.specs.Remembered.{kept_of}
 use Rattle.rule_merging.proofs.Remembering.{remembers, lists_still}
 use Rattle.rule_merging.proofs.remembered.Remembered.remember.Goals as goal
 
@@ -9,7 +9,7 @@ returns-clause-remembers c =
     let old = c.args.self.now.lists in
     let new = c.remember.new.self in
     IfOk-weaker c.remember.result _ _
-    (λ is_new h. remembers (looked_at c.args.self.now) (items_of old) (items_of new) (numbers_kept old) (numbers_kept new) c.args.list.now h.0 is_new
+    (λ is_new h. remembers (kept_of c.args.self.now) (items_of old) (items_of new) (numbers_kept old) (numbers_kept new) c.args.list.now h.0 is_new
     c.remember.ensures.unique c.remember.ensures.grown old.within h.1.0 h.1.1)
     c.remember.ensures.remembers
 
@@ -18,5 +18,5 @@ returns-clause-refused c =
     let old = c.args.self.now.lists in
     let new = c.remember.new.self in
     on_err_weaker c.remember.result
-    (λ is i. record { lists = lists_still (items_of old) (items_of new) (numbers_kept old) (numbers_kept new) c.remember.ensures.grown old.within is i; expanded = looked_at c.args.self.now })
+    (λ is i. record (kept_of c.args.self.now) { lists = lists_still (items_of old) (items_of new) (numbers_kept old) (numbers_kept new) c.remember.ensures.grown old.within is i })
     c.remember.ensures.refused

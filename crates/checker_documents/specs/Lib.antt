@@ -1,5 +1,0 @@
-pub mod CheckerValue
-pub mod CheckedView
-pub mod DocumentRefusals
-pub mod CheckerAnswers
-pub mod Checking

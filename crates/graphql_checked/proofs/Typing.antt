@@ -1,0 +1,113 @@
+-- What typing and judging a document find, as lists of faults.
+use Rattle.std.proofs.Common.{◌≡◌, ◌≢◌, List, [], ◌∷◌, ◌++◌, map, Contains, refl, ap, subst, ◌∙◌, sym, inl, inr}
+use Rattle.std.proofs.lemmas.List.Elements.{Contains-append_left, Contains-append_right, Contains-append_cases}
+use Rattle.std.specs.Prelude.{◌↔◌}
+use Rattle.graphql_names.specs.Placed.{Place}
+use Rattle.schema_types.specs.SchemaTree.{SchemaTree}
+use Rattle.schema_types.specs.Plain.{plain}
+use Rattle.document_meaning.specs.MeantTree.{MeantDocument}
+use Rattle.document_meaning.specs.Unplaced.{unplaced_document}
+use Rattle.document_typing.specs.Meanings.{meanings}
+use Rattle.document_typing.specs.KeptDocument.{kept_document}
+use Rattle.document_typing.specs.TypedByPlace.{IsTypedDocument}
+use Rattle.document_typing.specs.TypingFaults as typing
+use Rattle.document_typing.specs.TypingFaults.{TypingFails}
+use Rattle.document_typing.specs.OutDoc.{written_document, out_doc}
+use Rattle.document_typing.specs.BuilderView.{DocumentBuilder}
+use Rattle.rule_definitions.proofs.Lists.{Contains-first}
+use Rattle.rule_document_definitions.specs.Told.{PlacedDocumentFault, IsValidDocument}
+use Rattle.rule_document_definitions.specs.Verdict.{WithinBounds}
+use Rattle.rule_document_definitions.proofs.Unplaced.{contains_map, contains_unmap}
+use Rattle.rule_lasting.specs.LastingRules.{LastingFails, LastingOrCycleFails}
+use Rattle.graphql_validation.specs.TellsDocument.{DocumentTold}
+use Rattle.graphql_validation.specs.TellsLasting.{TellsLasting}
+use Rattle.graphql_validation.proofs.StandingFaults.{lasting_told}
+use Rattle.graphql_faults.specs.DetailsTree.{of_typing, of_document}
+use Rattle.verdict_definitions.specs.Texts.{Tree}
+use Rattle.verdict_definitions.specs.Says.{AnyFault, TypingFailsOver}
+use Rattle.graphql_checked.specs.Checking.{TypesDocument, RefusesTyping, RefusesRules}
+
+-- ---- lists
+
+nil_of_map : {A B : Type 0} (f : A → B) (xs : List A) → map f xs ≡ [] → xs ≡ []
+nil_of_map f [] e = refl
+nil_of_map f (x ∷ xs) e = absurd cc
+
+-- ---- typing
+
+module _ (schema : SchemaTree Place) (tree : Tree) (found : List (typing.TypingFault Place)) (faults : List AnyFault) where
+  -- what is told of them is all that breaks rules of typing
+  right_told : faults ≡ map of_typing found → ((f : typing.TypingFault Place) → Contains found f ↔ TypingFailsOver schema tree f)
+      → (fault : AnyFault) → Contains faults fault → (f : typing.TypingFault Place) × ((fault ≡ of_typing f) × TypingFailsOver schema tree f)
+  right_told are exact fault c =
+      let p = contains_unmap of_typing found fault (subst (λ l. Contains l fault) are c) in
+      (p.0, (sym p.1.1, (exact p.0).0 p.1.0))
+
+  full_told : faults ≡ map of_typing found → ((f : typing.TypingFault Place) → Contains found f ↔ TypingFailsOver schema tree f)
+      → (f : typing.TypingFault Place) → TypingFailsOver schema tree f → Contains faults (of_typing f)
+  full_told are exact f fails = subst (λ l. Contains l (of_typing f)) (sym are) (contains_map of_typing found f ((exact f).1 fails))
+
+-- what a builder of a document over the schema gives
+pub types_document : (schema : SchemaTree Place) (tree : Tree) (builder : DocumentBuilder) (document : MeantDocument Place) (found : List (typing.TypingFault Place)) (faults : List AnyFault)
+    → builder.meanings ≡ meanings (plain schema) → builder.definitions ≡ tree → document ≡ kept_document builder.meanings builder.definitions
+    → IsTypedDocument builder.meanings document → (found ≡ [] → written_document document ≡ out_doc builder.definitions)
+    → ((f : typing.TypingFault Place) → Contains found f ↔ TypingFails builder.meanings builder.definitions f) → faults ≡ map of_typing found
+    → TypesDocument schema tree document faults
+types_document schema tree builder document found faults over of is typed whole exact are =
+    let exact' : (f : typing.TypingFault Place) → Contains found f ↔ TypingFailsOver schema tree f =
+    subst (λ ds. (f : typing.TypingFault Place) → Contains found f ↔ TypingFails (meanings (plain schema)) ds f) of
+    (subst (λ m. (f : typing.TypingFault Place) → Contains found f ↔ TypingFails m builder.definitions f) over exact) in
+    record {
+      is = is ∙ (λ i. kept_document (over i) (of i));
+      typed = subst (λ m. IsTypedDocument m document) over typed;
+      whole = λ none. whole (nil_of_map of_typing found (sym are ∙ none)) ∙ ap out_doc of;
+      right = right_told schema tree found faults are exact';
+      full = full_told schema tree found faults are exact';
+    }
+
+-- where something is told of typing, some rule of it is broken
+some_broken : (schema : SchemaTree Place) (tree : Tree) (faults : List AnyFault) → faults ≢ []
+    → ((fault : AnyFault) → Contains faults fault → (f : typing.TypingFault Place) × ((fault ≡ of_typing f) × TypingFailsOver schema tree f))
+    → (f : typing.TypingFault Place) × TypingFailsOver schema tree f
+some_broken schema tree [] some right = absurd (some refl)
+some_broken schema tree (fault ∷ faults) some right = let p = right fault (Contains-first fault faults fault refl) in (p.0, p.1.1)
+
+still_some : (faults more : List AnyFault) → faults ≢ [] → faults ++ more ≢ []
+still_some [] more some none = some refl
+still_some (fault ∷ faults) more some none = let e : [] ≡ fault ∷ (faults ++ more) = sym none in absurd cc
+
+-- some rule of typing is broken, and behind that stands what breaks rules that stay broken
+pub refuses_typing : (schema : SchemaTree Place) (tree : Tree) (document : MeantDocument Place) (found faults : List AnyFault) → TypesDocument schema tree document found → found ≢ []
+    → (added : List PlacedDocumentFault) → faults ≡ found ++ map of_document added → TellsLasting schema document added → RefusesTyping schema tree faults
+refuses_typing schema tree document found faults types some added is tells = subst (RefusesTyping schema tree) (sym is) (record {
+  broken = some_broken schema tree found some types.right;
+  some = still_some found (map of_document added) some;
+  right = λ fault c. elim (Contains-append_cases found (map of_document added) fault c) [
+    | inl h ↦ inl (types.right fault h)
+    | inr h ↦ let p = contains_unmap of_document added fault h in
+        inr (p.0, (sym p.1.1, subst (λ d. LastingOrCycleFails schema d p.0) types.is (tells.right p.0 p.1.0)))
+  ];
+  full = λ f fails. Contains-append_left found (map of_document added) (of_typing f) (types.full f fails);
+  lasting = λ f fails. Contains-append_right found (map of_document added) (of_document f)
+      (contains_map of_document added f (tells.full f (subst (λ d. LastingFails schema d f) (sym types.is) fails)));
+})
+
+-- ---- judging
+
+-- some rule on documents or on merging is broken, or a bound is passed
+pub refuses_rules : (schema : SchemaTree Place) (document : MeantDocument Place) (old faults : List AnyFault) → old ≡ [] → DocumentTold schema document old faults
+    → (IsValidDocument schema document → WithinBounds (unplaced_document document) → faults ≡ old) → faults ≢ [] → RefusesRules schema document faults
+refuses_rules schema document old faults none (added, (is, tells)) accepts some = record {
+  some = some;
+  full = λ f fails.
+      let e : faults ≡ map of_document added = is ∙ ap (λ l. l ++ map of_document added) none in
+      subst (λ l. Contains l (of_document f)) (sym e) (contains_map of_document added f (tells.full f fails));
+  right = λ fault c.
+      let e : faults ≡ map of_document added = is ∙ ap (λ l. l ++ map of_document added) none in
+      let p = contains_unmap of_document added fault (subst (λ l. Contains l fault) e c) in
+      (p.0, (sym p.1.1, tells.right p.0 p.1.0));
+  lasting = λ f fails.
+      let e : faults ≡ map of_document added = is ∙ ap (λ l. l ++ map of_document added) none in
+      subst (λ l. Contains l (of_document f)) (sym e) (contains_map of_document added f (lasting_told schema document added tells f fails));
+  bounds = λ valid within. some (accepts valid within ∙ none);
+}

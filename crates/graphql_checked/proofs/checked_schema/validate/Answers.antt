@@ -1,0 +1,26 @@
+use Rattle.std.proofs.Common.{sym, subst, refl, ◌∙◌}
+use Rattle.graphql_schema.specs.SchemaOf.{schema_tree}
+use Rattle.document_typing.specs.DocumentView.{meant_document}
+use Rattle.document_typed_operations.specs.TypedDocument.{typed_document_tree}
+use Rattle.rule_document_definitions.specs.Told.{IsValidDocument}
+use Rattle.graphql_faults.specs.DetailsView.{diagnostics_of}
+use Rattle.graphql_validation.specs.TellsDocument.{IsTypedUnder}
+use Rattle.graphql_checked.specs.CheckedView.{CheckedSchemaParts}
+use Rattle.graphql_checked.specs.Checking.{RefusesRules}
+use Rattle.graphql_checked.proofs.Typing.{refuses_rules}
+use Rattle.graphql_checked.proofs.checked_schema.validate.Goals as goal
+
+pub returns-then-not-is_empty-clause-refused : goal.returns-then-not-is_empty-clause-refused
+returns-then-not-is_empty-clause-refused c =
+    let document = meant_document (typed_document_tree c.args.document.now) in
+    let faults = diagnostics_of c.validate_executable_document.new.list in
+    subst (λ (v : CheckedSchemaParts). IsTypedUnder (schema_tree v.schema) document → RefusesRules (schema_tree v.schema) document faults) c.schema.view_is
+    (λ typed. refuses_rules (schema_tree c.schema.inside.schema) document (diagnostics_of c.new-faults.result) faults c.new-faults.ensures
+    (c.in_ok-validate_executable_document.ensures.told typed) (c.in_ok-validate_executable_document.ensures.accepts typed)
+    (λ e. let h = c.if-not-is_empty.ensures.1 e in absurd cc))
+
+pub returns-clause-valid : goal.returns-clause-valid
+returns-clause-valid c =
+    let document = meant_document (typed_document_tree c.args.document.now) in
+    subst (λ (v : CheckedSchemaParts). IsTypedUnder (schema_tree v.schema) document → IsValidDocument (schema_tree v.schema) document) c.schema.view_is
+    (λ typed. c.in_ok-validate_executable_document.ensures.silent typed (c.if-not-is_empty.ensures.0 refl ∙ sym c.new-faults.ensures))

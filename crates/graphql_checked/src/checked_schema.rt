@@ -1,0 +1,180 @@
+//! Schemas of which every rule holds.
+
+ghost use Rattle.std.specs.Prelude.{◌≡◌, ◌∷◌, [], Some, OnOk, IfOk, IfErr, string_bytes};
+ghost use Rattle.tree_definitions.specs.DefinitionTree.{document_tree};
+ghost use Rattle.tree_definitions.specs.Sources.{sources_of};
+ghost use Rattle.schema_building.specs.SourcesView.{sources_view, with_sources};
+ghost use Rattle.graphql_faults.specs.DetailsView.{diagnostics_of};
+ghost use Rattle.graphql_schema.specs.SchemaOf.{schema_tree};
+ghost use Rattle.checker_layouts.specs.Layouts.{prefix_of};
+ghost use Rattle.document_typing.specs.DocumentView.{meant_document};
+ghost use Rattle.document_typing.specs.DefinedByPlace.{IsDefinedDocument};
+ghost use Rattle.document_typed_operations.specs.TypedDocument.{typed_document_tree};
+ghost use Rattle.verdict_definitions.specs.Judge.{IsDocumentCertain};
+ghost use Rattle.verdict_definitions.specs.Out.{layout_text};
+ghost use Rattle.checker_texts.specs.TextSources.{text_sources};
+ghost use Rattle.graphql_checked.specs.CheckedView.{schema_value, document_value};
+ghost use Rattle.checker_schemas.specs.CheckedSchemaValue.{IsOfAcceptedTexts};
+ghost use Rattle.graphql_checked.specs.CheckerValue.{IsCheckedDocumentOf};
+ghost use Rattle.rule_document_definitions.specs.Told.{IsValidDocument};
+ghost use Rattle.graphql_validation.specs.TellsDocument.{IsTypedUnder};
+ghost use Rattle.graphql_checked.specs.DocumentRefusals.{RefusalOfDocument, RefusalWithLasting};
+ghost use Rattle.graphql_checked.specs.Checking.{IsReadDocument, IsUnreadDocument, TypesDocument, RefusalOfTyping, RefusalOfRules};
+ghost use Rattle.checker_texts.specs.declared.refusal.Refusal.TheVariants.{Memory};
+
+use crate::build_errors::document_errors;
+use crate::checked_document::CheckedDocument;
+use checker_layouts::{Layout, written};
+use checker_texts::{Refusal, Unread, only, read};
+use document_typed_operations::ExecutableDocument;
+use document_typing::{BuilderRefusal, ExecutableDocumentBuilder};
+use graphql_faults::{Details, DiagnosticList};
+use graphql_names::FileId;
+use graphql_schema::Schema;
+use graphql_validation::{tell_lasting_faults, validate_executable_document};
+use std::alloc::{AllocError, Global};
+use std::marker::Model;
+use tree_definitions::Document;
+
+/// A schema of texts that are accepted: they are read, every rule holds of them, and no bound of brackets or numbers is passed.
+#[derive(Drop)]
+pub struct CheckedSchema {
+    pub(crate) alloc: Global,
+    pub(crate) nesting: usize,
+    /// The number of a document that comes after the texts; `u64::MAX`, which no text gets, where none is left for it.
+    pub(crate) number: u64,
+    /// The schema as it is written: as it was built, before built-in scalars to which nothing refers were dropped. It shares
+    /// its nodes with the schema.
+    pub(crate) written: Document,
+    /// The schema over which documents are judged.
+    pub(crate) schema: Schema,
+}
+
+impl Model for CheckedSchema {
+    ghost use Rattle.std.specs.Coded.{codes};
+    ghost use Rattle.graphql_schema.specs.contracts.schema.Schema as of_schema;
+    ghost use Rattle.tree_definitions.specs.contracts.document.Document as of_document;
+    ghost use Rattle.graphql_checked.specs.CheckedView.{CheckedSchemaParts, schema_value};
+    ghost use Rattle.checker_schemas.specs.CheckedSchemaValue.{IsOfAcceptedTexts};
+
+    ghost Value = { CheckedSchemaParts };
+
+    ghost coded = { Prim.hlevel (codes, of_schema.the_row.coded, of_document.the_row.coded) };
+
+    ghost view = { λ s. record { nesting = s.nesting; number = s.number; schema = s.schema; written = s.written } };
+
+    ghost invariant = { λ s. IsOfAcceptedTexts (schema_value (record { nesting = s.nesting; number = s.number; schema = s.schema; written = s.written })) };
+}
+
+impl CheckedSchema {
+    /// The schema over which documents are judged: without each built-in scalar to which no field, argument or input field
+    /// refers. Every rule of section 3 holds of it. Its sources are the schema texts, each under its number, in order.
+    pub fn schema(&self) -> &Schema
+        ensures schema { schema_tree result.now ≡ (schema_value self.now).schema }
+        ensures sources { sources_view result.now.sources ≡ (schema_value self.now).sources }
+        ensures accepted { IsOfAcceptedTexts (schema_value self.now) }
+    {
+        &self.schema
+    }
+
+    /// The document, if it is accepted over the schema: it is read, every rule holds of it, and no bound is
+    /// passed. Its number is the one after those of the schema texts. The schema stays as it is.
+    ///
+    /// Otherwise it tells what is wrong: a fault, alone, where the text is not read; else each rule of typing that is broken,
+    /// and of what typing keeps what breaks the rules on documents that stay broken whatever is added; where none of typing is
+    /// broken, the rules on documents that are; and where none is, the fields that do not merge. It never answers
+    /// [`Refusal::Failed`].
+    pub fn check(&self, text: &str) -> Result<CheckedDocument<'_>, Refusal>
+        ensures schema { IfOk result (λ d. d.schema ≡ self.now) }
+        ensures text { IfOk result (λ d. d.text ≡ text.now) }
+        ensures accepted { IfOk result (λ d. IsCheckedDocumentOf (schema_value self.now) text.now (document_value d).document) }
+        ensures refused { IfErr result (RefusalOfDocument (schema_value self.now) text.now) }
+        ensures lasting { IfErr result (RefusalWithLasting (schema_value self.now) text.now) }
+        ensures complete { IfErr result (λ refusal.
+            IsDocumentCertain (schema_value self.now).schema self.now.nesting self.now.number text.now → refusal ≡ Memory) }
+    {
+        let tree = read_document(self, text)?;
+        let document = typed(self, &tree)?;
+        validate(self, &document)?;
+        Ok(CheckedDocument {
+            schema: self,
+            text: String::from_str(self.alloc, text)?,
+            document,
+        })
+    }
+
+    /// The text of the schema as it was built, under the layout: its definition unless it is implicit, the definitions of
+    /// directives, and each type with its extensions, without what is built in.
+    pub fn written(&self, layout: Layout<'_>) -> Result<String, AllocError>
+        ensures { IfOk result (λ text. string_bytes text ≡ layout_text (prefix_of layout.entry) (schema_value self.now).written) }
+    {
+        written(self.alloc, &self.written, layout)
+    }
+}
+
+/// Reads a document with its number, if one is left for it.
+fn read_document(schema: &CheckedSchema, text: &str) -> Result<Document, Refusal>
+    ensures read { IfOk result (λ d. IsReadDocument (schema_value schema.now) text.now (document_tree d)) }
+    ensures sources { IfOk result (λ d. sources_of d ≡ text_sources schema.now.number (text.now ∷ [])) }
+    ensures unread { IfErr result (IsUnreadDocument (schema_value schema.now) text.now) }
+{
+    if schema.number == u64::MAX {
+        return Err(only(schema.alloc, None, Details::Spent));
+    }
+    match read(schema.alloc, text, FileId(schema.number), schema.nesting) {
+        Ok(document) => Ok(document),
+        Err(Unread::Fault { place, details }) => Err(only(schema.alloc, Some(place), details)),
+        Err(Unread::Memory) => Err(Refusal::Memory),
+    }
+}
+
+/// What is kept of the definitions over the schema, and each way in which a rule of typing is broken.
+fn build(
+    schema: &CheckedSchema,
+    tree: &Document,
+) -> Result<(ExecutableDocument, DiagnosticList), AllocError>
+    ensures types { IfOk result (λ r. TypesDocument (schema_value schema.now).schema (document_tree tree.now) (meant_document (typed_document_tree r.0)) (diagnostics_of r.1)) }
+    ensures sources { IfOk result (λ r. sources_view r.0.sources ≡ with_sources [] (sources_of tree.now)) }
+    ensures defined { IfOk result (λ r. IsDefinedDocument (Some (schema_value schema.now).schema) (typed_document_tree r.0)) }
+{
+    let mut builder = ExecutableDocumentBuilder::new(schema.alloc, Some(&schema.schema));
+    match builder.add_ast_document(tree) {
+        Ok(()) => {}
+        Err(BuilderRefusal::Memory) => return Err(AllocError),
+        Err(BuilderRefusal::Failed) => unreachable!(),
+    }
+    match builder.build() {
+        Ok((document, errors)) => Ok((document, document_errors(schema.alloc, errors)?)),
+        Err(BuilderRefusal::Memory) => Err(AllocError),
+        Err(BuilderRefusal::Failed) => unreachable!(),
+    }
+}
+
+/// What is kept of the definitions over the schema, where no rule of typing is broken. Where one is, what breaks rules that
+/// stay broken whatever is added to what is kept is told, too.
+fn typed(schema: &CheckedSchema, tree: &Document) -> Result<ExecutableDocument, Refusal>
+    ensures typed { IfOk result (λ d. TypesDocument (schema_value schema.now).schema (document_tree tree.now) (meant_document (typed_document_tree d)) []) }
+    ensures sources { IfOk result (λ d. sources_view d.sources ≡ with_sources [] (sources_of tree.now)) }
+    ensures defined { IfOk result (λ d. IsDefinedDocument (Some (schema_value schema.now).schema) (typed_document_tree d)) }
+    ensures refused { IfErr result (RefusalOfTyping (schema_value schema.now).schema (document_tree tree.now)) }
+{
+    let (document, mut faults) = build(schema, tree)?;
+    if !faults.is_empty() {
+        tell_lasting_faults(schema.alloc, &mut faults, &schema.schema, &document)?;
+        return Err(Refusal::Faults(faults));
+    }
+    Ok(document)
+}
+
+/// Whether every rule on documents and on merging holds of a document that is typed.
+fn validate(schema: &CheckedSchema, document: &ExecutableDocument) -> Result<(), Refusal>
+    ensures valid { IsTypedUnder (schema_value schema.now).schema (meant_document (typed_document_tree document.now)) → OnOk result (IsValidDocument (schema_value schema.now).schema (meant_document (typed_document_tree document.now))) }
+    ensures refused { IsTypedUnder (schema_value schema.now).schema (meant_document (typed_document_tree document.now)) → IfErr result (RefusalOfRules (schema_value schema.now).schema (meant_document (typed_document_tree document.now))) }
+{
+    let mut faults = DiagnosticList::new(schema.alloc);
+    validate_executable_document(schema.alloc, &mut faults, &schema.schema, document)?;
+    if !faults.is_empty() {
+        return Err(Refusal::Faults(faults));
+    }
+    Ok(())
+}

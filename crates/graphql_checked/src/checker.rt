@@ -1,0 +1,117 @@
+//! The checker of schema texts.
+
+ghost use Rattle.std.specs.Prelude.{◌≡◌, ◌++◌, ◌∷◌, [], true, false, OnOk, IfOk, IfErr};
+ghost use Rattle.verdict_definitions.specs.Judge.{AreSchemasCertain};
+ghost use Rattle.graphql_checked.specs.CheckedView.{schema_value};
+ghost use Rattle.checker_schemas.specs.CheckedSchemaValue.{IsCheckedSchemaOf};
+ghost use Rattle.graphql_checked.specs.CheckerAnswers.{IsCheckerAddRefusal, IsFinishRefusal};
+ghost use Rattle.checker_texts.specs.declared.refusal.Refusal.TheVariants.{Memory};
+
+use crate::checked_schema::CheckedSchema;
+use checker_schemas::schema_of_texts;
+use checker_texts::{Refusal, SchemaTexts};
+use graphql_names::Files;
+use schema_components::Extensions;
+use std::alloc::Global;
+use std::marker::Model;
+
+/// How far texts may go.
+#[derive(Clone, Copy, Debug, PartialEq, Eq)]
+pub struct Limits {
+    /// How many brackets may be open at once.
+    pub nesting: usize,
+}
+
+/// Takes schema texts one by one, and gives the schema of them all where every rule holds of it.
+///
+/// Texts are numbered in the order in which they are added, from 1 if not said otherwise.
+#[derive(Drop)]
+pub struct Checker {
+    texts: SchemaTexts,
+    failed: bool,
+}
+
+impl Model for Checker {
+    ghost use Rattle.std.specs.Prelude.{◌≡◌, false};
+    ghost use Rattle.graphql_checked.specs.CheckerValue.{CheckerValue};
+    ghost use Rattle.checker_texts.specs.TextsView.{terms_of, texts_of, IsReadingOf};
+
+    ghost Value = { CheckerValue };
+
+    ghost view = { λ c. record { terms = terms_of c.texts; texts = texts_of c.texts; failed = c.failed } };
+
+    ghost invariant = { λ c. c.failed ≡ false → IsReadingOf (texts_of c.texts) c.texts };
+}
+
+impl Checker {
+    /// A checker of no texts, which numbers them from 1. It takes no memory.
+    pub fn new(alloc: Global, limits: Limits) -> Checker
+        ensures { result ≡ record { terms = record { nesting = limits.nesting; first_text = 1; first_extension = 1 }; texts = []; failed = false } }
+    {
+        Checker::with_numbers(alloc, limits, Files::new(), Extensions::new())
+    }
+
+    /// A checker of no texts, which takes the numbers of texts and of extensions from these. It takes no memory.
+    pub fn with_numbers(
+        alloc: Global,
+        limits: Limits,
+        files: Files,
+        extensions: Extensions,
+    ) -> Checker
+        ensures { result ≡ record { terms = record { nesting = limits.nesting; first_text = files; first_extension = extensions }; texts = []; failed = false } }
+    {
+        Checker {
+            texts: SchemaTexts::new(alloc, limits.nesting, files, extensions),
+            failed: false,
+        }
+    }
+
+    /// Adds a schema text after the others.
+    ///
+    /// Where memory runs out it answers [`Refusal::Memory`], and from then on [`Refusal::Failed`]. It gives
+    /// no other refusal: what is wrong with the text is told by [`Checker::finish`].
+    pub fn add_schema(&mut self, text: &str) -> Result<(), Refusal>
+        ensures running { OnOk result (self.old.failed ≡ false) }
+        ensures added { OnOk result (self.new ≡ record self.old { texts = self.old.texts ++ text.now ∷ [] }) }
+        ensures refused { IfErr result (IsCheckerAddRefusal self.old self.new) }
+    {
+        if self.failed {
+            return Err(Refusal::Failed);
+        }
+        match self.texts.add(text) {
+            Ok(()) => Ok(()),
+            Err(_) => {
+                self.failed = true;
+                Err(Refusal::Memory)
+            }
+        }
+    }
+
+    /// The schema of the texts, if they are accepted: they are read, every rule holds of them, and no bound
+    /// is passed.
+    ///
+    /// Otherwise it tells what is wrong: a fault for each text that is not read, alone; else each folding rule that is broken;
+    /// where none is, each rule on schemas that is.
+    pub fn finish(self) -> Result<CheckedSchema, Refusal>
+        ensures schema { IfOk result (λ s. IsCheckedSchemaOf self.terms self.texts (schema_value s)) }
+        ensures running { OnOk result (self.failed ≡ false) }
+        ensures refused { IfErr result (IsFinishRefusal self) }
+        ensures complete { IfErr result (λ refusal.
+            self.failed ≡ false → AreSchemasCertain self.terms self.texts → refusal ≡ Memory) }
+    {
+        if self.failed {
+            return Err(Refusal::Failed);
+        }
+        let alloc = self.texts.alloc;
+        match schema_of_texts(self.texts) {
+            Ok(judged) => Ok(CheckedSchema {
+                alloc,
+                nesting: judged.nesting,
+                number: judged.number,
+                written: judged.written,
+                schema: judged.schema,
+            }),
+            Err(refusal) => Err(refusal),
+        }
+    }
+}

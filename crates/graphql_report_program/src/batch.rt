@@ -1,0 +1,54 @@
+//! Documents as lines of JSON.
+
+use crate::report_of;
+use graphql_checked::{CheckedSchema, Layout};
+use report_calls::{
+    Request, Stop, Tally, Telling, answer_accepted, answer_refused, answer_unread, read_request,
+};
+use std::io::{BufRead, BufReader};
+
+/// Answers each line of standard input by a line on standard output, in order.
+pub(crate) fn check_batch(
+    rt: &HostRuntime,
+    telling: &Telling<'_>,
+    schema: &CheckedSchema,
+    tally: &mut Tally,
+) -> Result<(), Stop> {
+    let Ok(reader) = BufReader::new(rt.alloc(), rt.stdin()) else {
+        return Err(Stop::Memory);
+    };
+    for line in reader.lines(rt.alloc()) {
+        match read_request(rt, line)? {
+            Some(request) => answer(rt, telling, schema, &request, tally)?,
+            None => answer_unread(rt, tally)?,
+        }
+    }
+    Ok(())
+}
+
+/// Answers a line that asks for a document.
+fn answer(
+    rt: &HostRuntime,
+    telling: &Telling<'_>,
+    schema: &CheckedSchema,
+    request: &Request,
+    tally: &mut Tally,
+) -> Result<(), Stop> {
+    let text = request.document.as_str();
+    match schema.check(text) {
+        Ok(checked) => {
+            let written = checked.written(Layout::OneLine)?;
+            answer_accepted(rt, &request.id, &written, tally)
+        }
+        Err(refusal) => {
+            let report = report_of(rt.alloc(), telling, schema, "document", text, &refusal)?;
+            answer_refused(
+                rt,
+                &request.id,
+                report.entries(),
+                telling.settings.max_faults,
+                tally,
+            )
+        }
+    }
+}

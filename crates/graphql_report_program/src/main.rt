@@ -1,0 +1,134 @@
+//! Checks documents over a schema, and tells each fault at its line and column.
+//!
+//! `graphql-report [--format text|short|json|github] [--nesting N] [--max-faults N] --schema FILE [--schema FILE].. [DOCUMENT..]`
+//! checks the schema once, and then each document by itself; `-` is standard input. With `--batch` documents come from standard
+//! input, a JSON object a line.
+//!
+//! Begin with `check`: `schema_of`, `check_document` and `answer` are the calls of the library. What it takes, prints and counts is
+//! in `report_calls`.
+#![tactic(auto)]
+
+mod batch;
+
+use crate::batch::check_batch;
+use graphql_checked::{CheckedSchema, Checker, DiagnosticList, Limits, Refusal};
+use graphql_report::Report;
+use report_calls::{
+    Settings, Stop, Tally, Telling, lines_of, read_document, read_files, read_settings, sources_of,
+    tell_end,
+};
+use std::alloc::Global;
+use std::process::ExitCode;
+
+/// The schema of the texts, if they are read and every rule on schemas holds.
+fn schema_of(alloc: Global, texts: &[String], nesting: usize) -> Result<CheckedSchema, Refusal> {
+    let mut checker = Checker::new(alloc, Limits { nesting });
+    for text in texts {
+        checker.add_schema(text)?;
+    }
+    checker.finish()
+}
+
+/// The faults of the refusal.
+fn faults_of(refusal: &Refusal) -> Result<&DiagnosticList, Stop> {
+    match refusal {
+        Refusal::Faults(faults) => Ok(faults),
+        Refusal::Memory | Refusal::Failed => Err(Stop::Memory),
+    }
+}
+
+/// The report of a refused document.
+fn report_of(
+    alloc: Global,
+    telling: &Telling<'_>,
+    schema: &CheckedSchema,
+    path: &str,
+    text: &str,
+    refusal: &Refusal,
+) -> Result<Report, Stop> {
+    let faults = faults_of(refusal)?;
+    let schemas = telling.schemas;
+    let report = Report::of_document(alloc, faults, schemas, schema.schema(), path, text)?;
+    Ok(report)
+}
+
+/// Tells why the schema is refused.
+fn tell_schema(
+    rt: &HostRuntime,
+    telling: &Telling<'_>,
+    refusal: &Refusal,
+    tally: &mut Tally,
+) -> Result<(), Stop> {
+    let faults = faults_of(refusal)?;
+    let report = Report::new(rt.alloc(), faults, telling.schemas, None, "schema")?;
+    telling.tell_schema(rt, report.entries(), tally)
+}
+
+/// Checks the document in a file, and tells its faults.
+fn check_document(
+    rt: &HostRuntime,
+    telling: &Telling<'_>,
+    schema: &CheckedSchema,
+    path: &str,
+    tally: &mut Tally,
+) -> Result<(), Stop> {
+    let Some(text) = read_document(rt, path, tally)? else {
+        return Ok(());
+    };
+    match schema.check(&text) {
+        Ok(_) => {
+            tally.add_accepted();
+            Ok(())
+        }
+        Err(refusal) => {
+            let report = report_of(rt.alloc(), telling, schema, path, &text, &refusal)?;
+            telling.tell_document(rt, report.entries(), tally)
+        }
+    }
+}
+
+/// Checks the documents that are asked for, each by itself.
+fn check_documents(
+    rt: &HostRuntime,
+    telling: &Telling<'_>,
+    schema: &CheckedSchema,
+    tally: &mut Tally,
+) -> Result<(), Stop> {
+    for path in &telling.settings.documents {
+        check_document(rt, telling, schema, path, tally)?;
+    }
+    if telling.settings.batch {
+        check_batch(rt, telling, schema, tally)?;
+    }
+    Ok(())
+}
+
+/// Checks the schema, and then what is asked for.
+fn check(rt: &HostRuntime, settings: &Settings, tally: &mut Tally) -> Result<(), Stop> {
+    let texts = read_files(rt, &settings.schemas)?;
+    let lines = lines_of(rt.alloc(), &texts)?;
+    let sources = sources_of(rt.alloc(), &settings.schemas, &lines)?;
+    let telling = Telling {
+        settings,
+        schemas: &sources,
+    };
+    match schema_of(rt.alloc(), &texts, settings.nesting) {
+        Ok(schema) => check_documents(rt, &telling, &schema, tally),
+        Err(refusal) => tell_schema(rt, &telling, &refusal, tally),
+    }
+}
+
+/// Checks what the settings say, tells last how much was found, and gives the status.
+fn status(rt: &HostRuntime, settings: &Settings) -> u8 {
+    let mut tally = Tally::new(settings.documents.is_empty() && !settings.batch);
+    let done = check(rt, settings, &mut tally);
+    tell_end(rt, tally, done)
+}
+
+fn main(rt: HostRuntime) -> ExitCode {
+    let status = match read_settings(&rt) {
+        Ok(settings) => status(&rt, &settings),
+        Err(status) => status,
+    };
+    ExitCode::from(status)
+}

@@ -1,9 +1,0 @@
-use Rattle.document_typing.specs.DocumentView.{document_meant}
-use Rattle.rule_document_ground.specs.Broken.{brokens_of}
-use Rattle.graphql_validation.proofs.Subscribed.{tells_breaches}
-use Rattle.graphql_validation.proofs.under_schema.breaches_under.Goals as goal
-
-pub returns : goal.returns
-returns c = λ own.
-    tells_breaches (document_meant c.args.document.now) (brokens_of c.in_ok-breaches.breaches) (brokens_of c.check_subscriptions.new.breaches) c.in_ok-breaches.ensures
-    (c.in_ok-check_subscriptions.ensures own)

@@ -1,0 +1,68 @@
+//! What a line of a batch asks for.
+
+ghost use Rattle.std.specs.Prelude.{◌≡◌, IfOk, is_some, option_map, string_bytes};
+ghost use Rattle.report_calls.specs.Asked.{asked_by, asked_of, id_text};
+ghost use Rattle.serde_json.specs.View.{view};
+ghost use Rattle.report_calls.specs.declared.asked.Request.{Request};
+
+use serde_json::Value;
+use std::alloc::{AllocError, Global};
+
+/// A document that a line asks for.
+#[derive(Drop)]
+pub struct Request {
+    /// What the answer is known by, as JSON.
+    pub id: String,
+    /// The document's text.
+    pub document: String,
+}
+
+/// What the line asks for: it is a JSON object with an `id`, which is a text or a whole number, and a text `document`. None
+/// where it is no such object.
+pub fn request_of(alloc: Global, line: &str) -> Result<Option<Request>, AllocError>
+    ensures { IfOk result (λ request. option_map (λ (r : Request). (string_bytes r.id, string_bytes r.document)) request ≡ asked_by line.now) }
+{
+    let value = match Value::from_str(alloc, line) {
+        Ok(value) => value,
+        Err(error) if error.is_memory() => return Err(AllocError),
+        Err(_) => return Ok(None),
+    };
+    request_in(alloc, &value)
+}
+
+/// What the value asks for.
+fn request_in(alloc: Global, value: &Value) -> Result<Option<Request>, AllocError>
+    ensures { IfOk result (λ request. option_map (λ (r : Request). (string_bytes r.id, string_bytes r.document)) request ≡ asked_of (view value.now)) }
+{
+    let Some(id) = value.get("id") else {
+        return Ok(None);
+    };
+    let Some(document) = value.get("document").and_then(Value::as_str) else {
+        return Ok(None);
+    };
+    match id_text(alloc, id)? {
+        None => Ok(None),
+        Some(id) => Ok(Some(Request {
+            id,
+            document: String::from_str(alloc, document)?,
+        })),
+    }
+}
+
+/// The text or whole number, as JSON.
+fn id_text(alloc: Global, id: &Value) -> Result<Option<String>, AllocError>
+    ensures { IfOk result (λ text. option_map string_bytes text ≡ id_text (view id.now)) }
+{
+    if !is_id(id) {
+        return Ok(None);
+    }
+    let text = id.to_string(alloc)?;
+    Ok(Some(text))
+}
+
+/// Whether the value is a text or a whole number.
+fn is_id(value: &Value) -> bool
+    ensures { result ≡ is_some (id_text (view value.now)) }
+{
+    value.is_string() || (value.is_number() && !value.is_f64())
+}

@@ -1,0 +1,64 @@
+//! How the program begins, and how it ends.
+
+use crate::files::{DEVICE, MEMORY, Stop};
+use crate::settings::Settings;
+use crate::tally::Tally;
+use clap::Error;
+use clap::error::ErrorKind;
+use std::alloc::AllocError;
+use std::io;
+
+/// The status where the words are wrong.
+const WRONG_WORDS: u8 = 2;
+
+/// What the program's words ask for; where they ask for nothing that it does, that is told, and the status is given.
+pub fn read_settings(rt: &HostRuntime) -> Result<Settings, u8> {
+    let words = words(rt)?;
+    match Settings::from_words(rt.alloc(), &words) {
+        Ok(settings) => Ok(settings),
+        Err(error) => Err(told_of_words(rt, &error)),
+    }
+}
+
+/// The words, the program's name first, or the status where one is not UTF-8.
+fn words(rt: &HostRuntime) -> Result<Vec<String>, u8> {
+    let read = match std::env::args(rt) {
+        Ok(args) => args.collect(rt.alloc()),
+        Err(error) if error.kind() == io::ErrorKind::OutOfMemory => Err(AllocError),
+        Err(_) => {
+            let _ = eprintln!(rt; "error: a word is not UTF-8");
+            return Err(WRONG_WORDS);
+        }
+    };
+    read.map_err(|_| MEMORY)
+}
+
+/// Tells why there are no settings, and gives the status. The help goes to standard output, as it was asked for.
+fn told_of_words(rt: &HostRuntime, error: &Error) -> u8 {
+    if error.kind() == ErrorKind::OutOfMemory {
+        return Stop::Memory.tell(rt);
+    }
+    let printed = error.print(rt);
+    if error.use_stderr() {
+        return WRONG_WORDS;
+    }
+    match printed {
+        Ok(()) => 0,
+        Err(_) => DEVICE,
+    }
+}
+
+/// Tells how much was found, or why the program stopped before its end, and gives the status.
+pub fn tell_end(rt: &HostRuntime, tally: Tally, done: Result<(), Stop>) -> u8 {
+    match done.and_then(|()| tell_tally(rt, tally)) {
+        Ok(()) => tally.status(),
+        Err(stop) => stop.tell(rt),
+    }
+}
+
+/// Tells how much was found.
+fn tell_tally(rt: &HostRuntime, tally: Tally) -> Result<(), Stop> {
+    let words = tally.words(rt.alloc())?;
+    let _ = eprintln!(rt; "{words}");
+    Ok(())
+}

@@ -1,0 +1,153 @@
+//! How much was found.
+
+ghost use Rattle.std.specs.Prelude.{◌≡◌, ◌++◌, ◌<◌, true, IfOk, OnOk, string_bytes};
+ghost use Rattle.report_calls.specs.Counts.{added, counted_words, scope_words, unread_words, words_of};
+
+use report_forms::push_number;
+use std::alloc::{AllocError, Global};
+
+/// The status where all is accepted.
+const ACCEPTED: u8 = 0;
+/// The status where a document or the schema is refused.
+const REFUSED: u8 = 1;
+/// The status where a document cannot be read.
+const UNREAD: u8 = 3;
+
+/// How much was found.
+#[derive(Clone, Copy)]
+pub struct Tally {
+    /// How many documents were asked for.
+    pub documents: usize,
+    /// How many of them are refused.
+    pub refused: usize,
+    /// How many of them could not be read.
+    pub unread: usize,
+    /// How many faults they have, or the schema has.
+    pub faults: usize,
+    /// Whether the schema is refused, or is all that was asked for.
+    pub is_of_schema: bool,
+}
+
+impl Tally {
+    /// Nothing is found yet.
+    pub fn new(is_of_schema: bool) -> Tally
+        ensures { result ≡ record { documents = 0; refused = 0; unread = 0; faults = 0; is_of_schema = is_of_schema } }
+    {
+        Tally {
+            documents: 0,
+            refused: 0,
+            unread: 0,
+            faults: 0,
+            is_of_schema,
+        }
+    }
+
+    /// Adds a document that is accepted.
+    pub fn add_accepted(&mut self)
+        ensures { self.new ≡ record self.old { documents = added self.old.documents 1 } }
+    {
+        self.documents = self.documents.saturating_add(1);
+    }
+
+    /// Adds a document that has so many faults.
+    pub fn add_refused(&mut self, faults: usize)
+        ensures documents { (self.new.documents ≡ added self.old.documents 1) × (self.new.refused ≡ added self.old.refused 1) }
+        ensures faults { self.new.faults ≡ added self.old.faults faults }
+        ensures unchanged { (self.new.unread ≡ self.old.unread) × (self.new.is_of_schema ≡ self.old.is_of_schema) }
+    {
+        self.documents = self.documents.saturating_add(1);
+        self.refused = self.refused.saturating_add(1);
+        self.faults = self.faults.saturating_add(faults);
+    }
+
+    /// Adds a document that cannot be read.
+    pub fn add_unread(&mut self)
+        ensures { self.new ≡ record self.old { documents = added self.old.documents 1; unread = added self.old.unread 1 } }
+    {
+        self.documents = self.documents.saturating_add(1);
+        self.unread = self.unread.saturating_add(1);
+    }
+
+    /// Adds the faults of the schema, after which no document is judged.
+    pub fn add_schema(&mut self, faults: usize)
+        ensures { self.new ≡ record self.old { faults = added self.old.faults faults; is_of_schema = true } }
+    {
+        self.is_of_schema = true;
+        self.faults = self.faults.saturating_add(faults);
+    }
+
+    /// The status of what was found: 3 where a document could not be read, else 1 where there is a fault, else 0.
+    pub fn status(self) -> u8
+        ensures unread { 0 < self.unread → result ≡ 3 }
+        ensures refused { self.unread ≡ 0 → 0 < self.faults → result ≡ 1 }
+        ensures accepted { self.unread ≡ 0 → self.faults ≡ 0 → result ≡ 0 }
+    {
+        if self.unread > 0 {
+            UNREAD
+        } else if self.faults > 0 {
+            REFUSED
+        } else {
+            ACCEPTED
+        }
+    }
+
+    /// How much was found, in words: `3 faults in 2 of 40 documents`.
+    pub fn words(self, alloc: Global) -> Result<String, AllocError>
+        ensures { IfOk result (λ words. string_bytes words ≡ words_of self) }
+    {
+        let mut words = String::new(alloc);
+        self.push_words(alloc, &mut words)?;
+        Ok(words)
+    }
+
+    /// Adds how much was found.
+    fn push_words(self, alloc: Global, out: &mut String) -> Result<(), AllocError>
+        ensures { OnOk result (string_bytes out.new ≡ string_bytes out.old ++ words_of self) }
+    {
+        push_counted(alloc, out, "", self.faults, "fault")?;
+        self.push_scope(alloc, out)?;
+        push_unread(alloc, out, self.unread)
+    }
+
+    /// Adds what the faults are in.
+    fn push_scope(self, alloc: Global, out: &mut String) -> Result<(), AllocError>
+        ensures { OnOk result (string_bytes out.new ≡ string_bytes out.old ++ scope_words self) }
+    {
+        if self.is_of_schema {
+            return out.push_str(" in the schema");
+        }
+        push_number(alloc, out, " in ", self.refused)?;
+        push_counted(alloc, out, " of ", self.documents, "document")
+    }
+}
+
+/// Adds how many were not read, if any were not.
+fn push_unread(alloc: Global, out: &mut String, unread: usize) -> Result<(), AllocError>
+    ensures { OnOk result (string_bytes out.new ≡ string_bytes out.old ++ unread_words unread) }
+{
+    if unread > 0 {
+        push_number(alloc, out, ", ", unread)?;
+        out.push_str(" not read")
+    } else {
+        Ok(())
+    }
+}
+
+/// Adds the number with its word, which ends in `s` but after 1, after a head.
+fn push_counted(
+    alloc: Global,
+    out: &mut String,
+    head: &str,
+    number: usize,
+    word: &str,
+) -> Result<(), AllocError>
+    ensures { OnOk result (string_bytes out.new ≡ string_bytes out.old ++ head.now ++ counted_words number word.now) }
+{
+    push_number(alloc, out, head, number)?;
+    out.push_str(" ")?;
+    out.push_str(word)?;
+    if number == 1 {
+        return Ok(());
+    }
+    out.push_str("s")
+}

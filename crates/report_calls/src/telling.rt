@@ -1,0 +1,122 @@
+//! Telling faults in the form that is asked for.
+
+use crate::files::{Stop, put};
+use crate::folding::{Printed, folded};
+use crate::settings::{Format, Settings};
+use crate::tally::Tally;
+use report_forms::{Entry, Lines, Source};
+use std::alloc::{AllocError, Global};
+
+/// What is asked for, and the texts of the schema.
+#[derive(Clone, Copy)]
+pub struct Telling<'a> {
+    pub settings: &'a Settings,
+    pub schemas: &'a [Source<'a>],
+}
+
+impl Telling<'_> {
+    /// Tells the faults of a document.
+    pub fn tell_document(
+        &self,
+        rt: &HostRuntime,
+        entries: &[Entry],
+        tally: &mut Tally,
+    ) -> Result<(), Stop> {
+        tally.add_refused(entries.len());
+        self.print(rt, entries)
+    }
+
+    /// Tells the faults of the schema.
+    pub fn tell_schema(
+        &self,
+        rt: &HostRuntime,
+        entries: &[Entry],
+        tally: &mut Tally,
+    ) -> Result<(), Stop> {
+        tally.add_schema(entries.len());
+        self.print(rt, entries)
+    }
+
+    /// Prints the faults, as far as they are asked for. Lines of JSON are for programs, which fold what they like: there each fault
+    /// has its line.
+    fn print(&self, rt: &HostRuntime, entries: &[Entry]) -> Result<(), Stop> {
+        let most = self.settings.max_faults;
+        if matches!(self.settings.format, Format::Json) {
+            return print_all(rt, &entries[..entries.len().min(most)]);
+        }
+        let printed = folded(rt.alloc(), entries)?;
+        let (told, rest) = printed.split_at(printed.len().min(most));
+        for one in told {
+            self.print_one(rt, entries, *one)?;
+        }
+        print_more(rt, faults_in(rest))
+    }
+
+    /// Prints a fault in its form, and how many it stands for.
+    fn print_one(&self, rt: &HostRuntime, entries: &[Entry], one: Printed) -> Result<(), Stop> {
+        if let Some(entry) = entries.get(one.index) {
+            let text = formed(rt.alloc(), self.settings.format, entry)?;
+            put(rt, &text)?;
+        }
+        print_more(rt, one.more)
+    }
+}
+
+/// Prints each fault as a line of JSON.
+fn print_all(rt: &HostRuntime, entries: &[Entry]) -> Result<(), Stop> {
+    for entry in entries {
+        let text = entry.json(rt.alloc())?;
+        put(rt, &text)?;
+    }
+    Ok(())
+}
+
+/// Says how many faults are left out, if any are.
+fn print_more(rt: &HostRuntime, more: usize) -> Result<(), Stop> {
+    if more == 0 {
+        return Ok(());
+    }
+    let text = format!(in rt.alloc(); "and {more} more\n")?;
+    put(rt, &text)
+}
+
+/// How many faults these are, with those that each stands for.
+fn faults_in(printed: &[Printed]) -> usize {
+    let mut faults = 0usize;
+    for one in printed {
+        faults = faults.saturating_add(1).saturating_add(one.more);
+    }
+    faults
+}
+
+/// The fault in the form.
+fn formed(alloc: Global, format: Format, entry: &Entry) -> Result<String, AllocError> {
+    match format {
+        Format::Text => entry.text(alloc),
+        Format::Short => entry.short(alloc),
+        Format::Json => entry.json(alloc),
+        Format::Github => entry.github(alloc),
+    }
+}
+
+/// The lines of each text.
+pub fn lines_of(alloc: Global, texts: &[String]) -> Result<Vec<Lines<'_>>, AllocError> {
+    let mut lines = Vec::new(alloc);
+    for text in texts {
+        lines.push(Lines::new(alloc, text)?)?;
+    }
+    Ok(lines)
+}
+
+/// The texts under their paths.
+pub fn sources_of<'a>(
+    alloc: Global,
+    paths: &'a [String],
+    lines: &'a [Lines<'a>],
+) -> Result<Vec<Source<'a>>, AllocError> {
+    let mut sources = Vec::new(alloc);
+    for (path, lines) in paths.iter().zip(lines) {
+        sources.push(Source { path, lines })?;
+    }
+    Ok(sources)
+}

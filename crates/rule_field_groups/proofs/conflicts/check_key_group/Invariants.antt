@@ -1,0 +1,17 @@
+use Rattle.std.proofs.Common.{◌≤◌, ◌+◌, map, take, drop}
+use Rattle.std.specs.List.{sum}
+use Rattle.graphql_schema.specs.SchemaOf.{schema_tree}
+use Rattle.rule_definitions.specs.Judged.{judged}
+use Rattle.rule_document_ground.specs.Fields.{fields_of}
+use Rattle.rule_field_groups.specs.Compared.{compared}
+use Rattle.rule_field_groups.specs.KeyGroups.{compared_in}
+use Rattle.rule_field_groups.specs.Passes.{AddsEach}
+use Rattle.rule_field_groups.proofs.Telling.{with_first}
+use Rattle.rule_field_groups.proofs.conflicts.check_key_group.Given as goal
+
+abbrev pub invariant-loop-own : goal.invariant-loop-own
+invariant-loop-own l = record {
+  told : AddsEach l.pass (judged (schema_tree l.schema)) (with_first l.pass (judged (schema_tree l.schema)) (fields_of l.group.shared.items) (map (λ o. fields_of o.fields.items) (take l.own-index l.own-items))) l.fn.breaches l.breaches;
+  more : l.fn.comparisons ≤ l.comparisons;
+  counted : l.comparisons + sum (map (λ o. compared l.pass o.fields.items) (drop l.own-index l.own-items)) ≤ l.fn.comparisons + compared_in l.pass l.group;
+}

@@ -1,0 +1,4 @@
+pub mod Reaching
+pub mod Plain
+pub mod Selected
+pub mod PairedFacts

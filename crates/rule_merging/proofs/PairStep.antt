@@ -1,0 +1,375 @@
+-- A pair of sets is looked at: their own fields are compared, and what each spreads is looked at with the other.
+use Rattle.std.proofs.Common.{◌≡◌, ◌⊎◌, ◌∙◌, ℕ, ◌+◌, ◌<◌, ◌≤◌, None, List, [], ◌∷◌, ◌++◌, drop, length, get_or, Contains, refl, sym, ap, subst, append_assoc, append-nil, arith, inl, inr}
+use Rattle.std.proofs.lemmas.List.{map-append, drop-append-le, drop_all}
+use Rattle.std.proofs.lemmas.List.Elements.{Contains-append_left, Contains-append_right, Contains-append_cases}
+use Rattle.graphql_names.specs.Placed.{Place}
+use Rattle.schema_components.proofs.Places.{Contains-rest}
+use Rattle.rule_definitions.proofs.Lists.{not_in_nil, only, Contains-cons, Contains-first}
+use Rattle.document_meaning.specs.MeantTree.{MeantSet, MeantOperation, MeantDocument}
+use Rattle.document_meaning.specs.Unplaced.{unplaced_set, unplaced_document}
+use Rattle.rule_definitions.specs.Judged.{Judged}
+use Rattle.rule_document_definitions.specs.DocumentFaults.{Broken}
+use Rattle.rule_document_definitions.specs.Selected.{InOperation, StandingField}
+use Rattle.rule_document_definitions.specs.Reached.{first as starts_here, next as leads_on}
+use Rattle.rule_document_definitions.specs.Contents.{unplaced_content}
+use Rattle.rule_document_definitions.proofs.Unplaced.{contains_map, contains_unmap}
+use Rattle.rule_field_groups.specs.in_ground.Fields.{field_of, fields_of, content_of}
+use Rattle.rule_field_groups.specs.in_ground.declared.field_selection.FieldSelection.{FieldSelection}
+use Rattle.rule_field_groups.specs.declared.pass.Pass.{Pass}
+use Rattle.rule_field_groups.specs.declared.pass.Pass.TheVariants.{Shapes, Selections}
+use Rattle.rule_field_groups.specs.Passes.{Together, Agree}
+use Rattle.rule_field_groups.specs.Below.{plain_sets}
+use Rattle.rule_field_groups.proofs.Counts.{drop_first}
+use Rattle.rule_number_lists.specs.NumberLists.{HaveSame}
+use Rattle.rule_number_lists.proofs.Standing.{same_trans, same_sym}
+use Rattle.rule_merging_laws.specs.Contents.{PlainField, PlainSet, PlainBelow, PlainStarts, IsSelected}
+use Rattle.rule_merging_laws.specs.Settled.{StandIn, IsUnderWay}
+use Rattle.rule_field_sets.specs.Own.{own_fields, spread_sets, IsSpreadFrom}
+use Rattle.rule_field_sets.specs.Laws.{HasField}
+use Rattle.rule_field_sets.proofs.Reaching.{through_spreads}
+use Rattle.rule_field_sets.proofs.Plain.{own_plain, spread_plain}
+use Rattle.rule_field_sets.proofs.PairedFacts.{pairs_stand}
+use Rattle.rule_merging.specs.Remembered.{Kept}
+use Rattle.rule_merging.specs.Examined.{Sets, all_plain, with_each, StandTogether, PlainOwn, PlainSelected, PlainSpreads, AreLookedAt, IsLeft, PairsAreDone, AreUnderWay, TellsIn, ComeFrom, SelectsAsMuch, SetsExamined, PairExamined, PairsExamined, AreTwosOf}
+use Rattle.rule_merging.specs.Counted.{IsLast, AreListed}
+use Rattle.rule_merging.specs.Pairs.{Looks, LooksAtTwos, each_with}
+use Rattle.rule_merging.specs.Twos.{are_of, both_of, FieldsPaired}
+use Rattle.rule_merging.proofs.Examining.{left_empty, right_empty, together_up, together_more, moved_lists, left_wider, dropped, all_of_one, looked_more, HasMore, DoneIn, SetsStand, done_more, swapped, same_plain}
+
+-- lists of two with the same members
+pub two_same : {X : Type 0} (a b c e : X) → HaveSame (a ∷ b ∷ []) (c ∷ e ∷ []) → ((a ≡ c) × (b ≡ e)) ⊎ ((a ≡ e) × (b ≡ c))
+two_same {X} a b c e same = by (members a b c e (λ x. (same x).0)) (members c e a b (λ x. (same x).1))
+  where
+    member : (x y z : X) → Contains (x ∷ y ∷ []) z → (z ≡ x) ⊎ (z ≡ y)
+    member x y z h = elim (Contains-cons x (y ∷ []) z h) [ inl i ↦ inl (sym i) | inr r ↦ inr (only y z r) ]
+
+    members : (x y z w : X) → ((v : X) → Contains (x ∷ y ∷ []) v → Contains (z ∷ w ∷ []) v) → ((x ≡ z) ⊎ (x ≡ w)) × ((y ≡ z) ⊎ (y ≡ w))
+    members x y z w h = (member z w x (h x (Contains-first x (y ∷ []) x refl)), member z w y (h y (Contains-rest x (y ∷ []) y (Contains-first y [] y refl))))
+
+    by : ((a ≡ c) ⊎ (a ≡ e)) × ((b ≡ c) ⊎ (b ≡ e)) → ((c ≡ a) ⊎ (c ≡ b)) × ((e ≡ a) ⊎ (e ≡ b)) → ((a ≡ c) × (b ≡ e)) ⊎ ((a ≡ e) × (b ≡ c))
+    by (inl p, inr q) h = inl (p, q)
+    by (inr p, inl q) h = inr (p, q)
+    by (inl p, inl q) (h, inl i) = inl (p, q ∙ sym p ∙ sym i)
+    by (inl p, inl q) (h, inr i) = inl (p, sym i)
+    by (inr p, inr q) (inl i, h) = inr (p, q ∙ sym p ∙ sym i)
+    by (inr p, inr q) (inr i, h) = inr (p, sym i)
+
+-- ---- the passes
+
+pub together_turned : {P : Type 0} (pass : Pass) (s : Judged) (f g : StandingField P) → Together pass s f g → Together pass s g f
+together_turned Shapes s f g t = sym t
+together_turned Selections s f g (t, inl e) = (sym t, inl (sym e))
+together_turned Selections s f g (t, inr (inl e)) = (sym t, inr (inr e))
+together_turned Selections s f g (t, inr (inr e)) = (sym t, inr (inl e))
+
+module _ (pass : Pass) (s : Judged) (d : MeantDocument Place) where
+  -- ---- fields of the two sets
+
+  -- an own field is selected
+  own_selected : (a : MeantSet Place) (f : StandingField Place) → Contains (own_fields a) f → HasField d (InOperation None) a f
+  own_selected a f c = (through_spreads d (InOperation None) a f).1 (a, (starts_here refl, c))
+
+  -- what a set that is spread has, the set has
+  spread_before : (a v t : MeantSet Place) → Contains (spread_sets d.fragments a) v → IsSpreadFrom d.fragments v t → IsSpreadFrom d.fragments a t
+  spread_before a v t c (starts_here e) = leads_on (starts_here refl) (subst (Contains (spread_sets d.fragments a)) (sym e) c)
+  spread_before a v t c (leads_on {x} r step) = leads_on (spread_before a v x c r) step
+
+  spread_selected : (a v : MeantSet Place) (x : StandingField Place) → Contains (spread_sets d.fragments a) v → HasField d (InOperation None) v x → HasField d (InOperation None) a x
+  spread_selected a v x c h =
+      let own = (through_spreads d (InOperation None) v x).0 h in
+      (through_spreads d (InOperation None) a x).1 (own.0, (spread_before a v own.0 c own.1.0, own.1.1))
+
+  module _ (a b : MeantSet Place) (ones others : List FieldSelection) (is_own : fields_of ones ≡ own_fields a) (is_own_too : fields_of others ≡ own_fields b) where
+    abbrev two : Sets
+    two = a ∷ b ∷ []
+
+    from_one : (p : FieldSelection) → Contains ones p → IsSelected d two (field_of p)
+    from_one p c = (a, (Contains-first a (b ∷ []) a refl, own_selected a (field_of p) (subst (λ l. Contains l (field_of p)) is_own (contains_map field_of ones p c))))
+
+    from_other : (q : FieldSelection) → Contains others q → IsSelected d two (field_of q)
+    from_other q c = (b, (Contains-rest a (b ∷ []) b (Contains-first b [] b refl), own_selected b (field_of q) (subst (λ l. Contains l (field_of q)) is_own_too (contains_map field_of others q c))))
+
+    -- two fields that go together, of the one set and of the other
+    both_selected : (p q : FieldSelection) → are_of ones others p q → (f : StandingField Place) → Contains (both_of p q) f → IsSelected d two f
+    both_selected p q (c, e) f k = elim (Contains-cons (field_of p) (field_of q ∷ []) f k) [
+      | inl i ↦ subst (IsSelected d two) i (from_one p c)
+      | inr r ↦ subst (IsSelected d two) (sym (only (field_of q) f r)) (from_other q e)
+    ]
+
+    -- own fields of the two are last fields of chains, if what the two select is
+    pub pair_listed : (os : List (MeantOperation Place)) → AreListed d os (two ∷ []) → (p q : FieldSelection) → are_of ones others p q → IsLast d os (content_of p) × IsLast d os (content_of q)
+    pair_listed os listed p q (c, e) = (listed two (Contains-first two [] two refl) (field_of p) (from_one p c), listed two (Contains-first two [] two refl) (field_of q) (from_other q e))
+
+    -- an own field without places is that of a selection
+    own_of : (c : MeantSet Place) (list : List FieldSelection) → fields_of list ≡ own_fields c → (x : PlainField) → PlainOwn (unplaced_set c) x → (p : FieldSelection) × (Contains list p × (content_of p ≡ x))
+    own_of c list is x h =
+        let f = contains_unmap unplaced_content (own_fields c) x (subst (λ l. Contains l x) (own_plain c) h) in
+        let p = contains_unmap field_of list f.0 (subst (λ l. Contains l f.0) (sym is) f.1.0) in
+        (p.0, (p.1.0, ap unplaced_content p.1.1 ∙ f.1.1))
+
+    spread_of : (c : MeantSet Place) (v : PlainSet) → PlainSpreads d (unplaced_set c) v → (w : MeantSet Place) × (Contains (spread_sets d.fragments c) w × (unplaced_set w ≡ v))
+    spread_of c v h = contains_unmap unplaced_set (spread_sets d.fragments c) v (subst (λ l. Contains l v) (spread_plain d.fragments c) h)
+
+    of_two : (p q v : MeantSet Place) → Contains (spread_sets d.fragments p) v → (x : StandingField Place) → IsSelected d (v ∷ q ∷ []) x → IsSelected d (p ∷ q ∷ []) x
+    of_two p q v spread x (w, (k, sel)) = elim (Contains-cons v (q ∷ []) w k) [
+      | inl e ↦ (p, (Contains-first p (q ∷ []) p refl, spread_selected p v x spread (subst (λ u. HasField d (InOperation None) u x) (sym e) sel)))
+      | inr r ↦ (w, (Contains-rest p (q ∷ []) w r, sel))
+    ]
+
+    module _ (old mid new : Kept) (added : List (Broken Place)) (next : List Sets) (paired : FieldsPaired pass s d (are_of ones others) old mid added next)
+        (looks : Looks (each_with (spread_sets d.fragments a) b ++ with_each a (spread_sets d.fragments b)) mid new) where
+      stand_own : added ≡ [] → (x y : PlainField) → PlainOwn (unplaced_set a) x → PlainOwn (unplaced_set b) y → Together pass s x y → StandIn new.lists x y
+      stand_own none x y p q t =
+          let m = own_of a ones is_own x p in
+          let n = own_of b others is_own_too y q in
+          let go : Together pass s (content_of m.0) (content_of n.0) = subst (λ v. Together pass s v (content_of n.0)) (sym m.1.1) (subst (Together pass s x) (sym n.1.1) t) in
+          let stand = paired.stand none m.0 n.0 ((m.1.0, n.1.0), together_up pass s (field_of m.0) (field_of n.0) go) in
+          subst (λ (ls : List (List PlainField)). StandIn ls x y) (sym looks.lists) (subst (λ v. StandIn mid.lists v y) m.1.1 (subst (StandIn mid.lists (content_of m.0)) n.1.1 stand))
+
+      looked_one : (v : PlainSet) → PlainSpreads d (unplaced_set a) v → AreLookedAt new.looked v (unplaced_set b)
+      looked_one v h =
+          let w = spread_of a v h in
+          let pair = w.0 ∷ b ∷ [] in
+          subst (λ u. AreLookedAt new.looked u (unplaced_set b)) w.1.1
+          (looks.has pair (Contains-append_left (each_with (spread_sets d.fragments a) b) (with_each a (spread_sets d.fragments b)) pair (contains_map (λ (u : MeantSet Place). u ∷ b ∷ []) (spread_sets d.fragments a) w.0 w.1.0)))
+
+      looked_other : (v : PlainSet) → PlainSpreads d (unplaced_set b) v → AreLookedAt new.looked (unplaced_set a) v
+      looked_other v h =
+          let w = spread_of b v h in
+          let pair = a ∷ w.0 ∷ [] in
+          subst (AreLookedAt new.looked (unplaced_set a)) w.1.1
+          (looks.has pair (Contains-append_right (each_with (spread_sets d.fragments a) b) (with_each a (spread_sets d.fragments b)) pair (contains_map (λ (u : MeantSet Place). a ∷ u ∷ []) (spread_sets d.fragments b) w.0 w.1.0)))
+
+      turned : (u v : PlainSet) → AreLookedAt new.looked u v → AreLookedAt new.looked v u
+      turned u v (known, (there, same)) = (known, (there, same_trans known (u ∷ v ∷ []) (v ∷ u ∷ []) same (swapped u v)))
+
+      done : added ≡ [] → DoneIn pass s d new (unplaced_set a) (unplaced_set b)
+      done none = record { own = stand_own none; one = looked_one; other = looked_other }
+
+      done_turned : added ≡ [] → DoneIn pass s d new (unplaced_set b) (unplaced_set a)
+      done_turned none = record {
+        own = λ x y p q t. let h = stand_own none y x q p (together_turned pass s x y t) in (h.0, (h.1.0, (h.1.1.1, h.1.1.0)));
+        one = λ v h. turned (unplaced_set a) v (looked_other v h);
+        other = λ v h. turned v (unplaced_set b) (looked_one v h);
+      }
+
+      lists_more : HasMore old.lists new.lists
+      lists_more l c = subst (λ (ls : List (List PlainField)). Contains ls l) (sym looks.lists) (paired.more l c)
+
+      looked_same : mid.looked ≡ old.looked
+      looked_same = ap (λ (k : Kept). k.looked) paired.same
+
+      looked_on : HasMore old.looked new.looked
+      looked_on k c = looks.keeps k (subst (λ (ls : List (List PlainSet)). Contains ls k) (sym looked_same) c)
+
+      -- the pair that was left is done
+      pair_on : added ≡ [] → (twos : List (List PlainSet)) → (u v : PlainSet) → AreLookedAt (plain_sets two ∷ twos) u v → AreLookedAt (twos ++ all_plain looks.pairs) u v ⊎ DoneIn pass s d new u v
+      pair_on none twos u v (known, (there, same)) = elim (Contains-cons (plain_sets two) twos known there) [
+        | inl e ↦ inr (elim (two_same (unplaced_set a) (unplaced_set b) u v (subst (λ (l : List PlainSet). HaveSame l (u ∷ v ∷ [])) (sym e) same)) [
+          | inl (p, q) ↦ subst (λ x. DoneIn pass s d new x v) p (subst (DoneIn pass s d new (unplaced_set a)) q (done none))
+          | inr (p, q) ↦ subst (λ x. DoneIn pass s d new x v) q (subst (DoneIn pass s d new (unplaced_set b)) p (done_turned none))
+        ])
+        | inr r ↦ inl (known, (Contains-append_left twos (all_plain looks.pairs) known r, same))
+      ]
+
+      -- each pair that was looked at is done, or it is left
+      pairs_on : added ≡ [] → (twos : List (List PlainSet)) → PairsAreDone d pass s (plain_sets two ∷ twos) old → PairsAreDone d pass s (twos ++ all_plain looks.pairs) new
+      pairs_on none twos ok u v (known, (there, same)) = elim (looks.fresh known there) [
+        | inl was ↦ elim (ok u v (known, (subst (λ (ls : List (List PlainSet)). Contains ls known) looked_same was, same))) [
+          | inl left ↦ pair_on none twos u v left
+          | inr is ↦ inr (done_more pass s d old new lists_more looked_on u v is)
+        ]
+        | inr (t, (c, alike)) ↦ inl (plain_sets t, (Contains-append_right twos (all_plain looks.pairs) (plain_sets t) (contains_map plain_sets looks.pairs t c), same_trans (plain_sets t) known (u ∷ v ∷ []) (same_sym known (plain_sets t) alike) same))
+      ]
+
+      within_part : (part : Sets) → Contains (each_with (spread_sets d.fragments a) b ++ with_each a (spread_sets d.fragments b)) part → (x : StandingField Place) → IsSelected d part x → IsSelected d two x
+      within_part part c x h = elim (Contains-append_cases (each_with (spread_sets d.fragments a) b) (with_each a (spread_sets d.fragments b)) part c) [
+        | inl i ↦ let v = contains_unmap (λ (u : MeantSet Place). u ∷ b ∷ []) (spread_sets d.fragments a) part i in of_two a b v.0 v.1.0 x (subst (λ (l : Sets). IsSelected d l x) (sym v.1.1) h)
+        | inr i ↦ let v = contains_unmap (λ (u : MeantSet Place). a ∷ u ∷ []) (spread_sets d.fragments b) part i in
+            let turn = subst (λ (l : Sets). IsSelected d l x) (sym v.1.1) h in
+            let k = of_two b a v.0 v.1.0 x (turn.0, ((swapped a v.0 turn.0).0 turn.1.0, turn.1.1)) in
+            (k.0, ((swapped b a k.0).0 k.1.0, k.1.1))
+      ]
+
+      pub pair_examined : PairExamined pass s d two old new added next
+      pair_examined = record {
+        right = λ fault c.
+            let t = paired.right fault c in
+            let f = t.1.1.1.0 in
+            let g = t.1.1.1.1.0 in
+            (two, (Contains-first two [] two refl, (f, (g, (both_selected t.0 t.1.0 t.1.1.0 f t.1.1.1.1.1.0, (both_selected t.0 t.1.0 t.1.1.0 g t.1.1.1.1.1.1.0, t.1.1.1.1.1.1.1))))));
+        under = λ sets c.
+            let u = paired.under sets c in
+            (two, (Contains-first two [] two refl, (u.1.1.1.0, ((λ f g i j. let w = u.1.1.1.1.0 f g i j in (both_selected u.0 u.1.0 u.1.1.0 f w.0, w.1)), u.1.1.1.1.1))));
+        more = lists_more;
+        looks = looked_on;
+        pairs = looks.pairs;
+        is_pairs = looks.is_pairs ∙ ap (λ l. l ++ looks.pairs) (ap (λ (k : Kept). k.pairs) paired.same);
+        within = λ part c x h. within_part part (looks.within part c) x h;
+        settled = λ e o twos left under. record {
+          fields = moved_lists pass s d o (IsLeft d left) (IsLeft d (left ++ all_plain next)) old.lists new.lists lists_more
+              (λ f g h. inr (left_wider pass s d left (left ++ all_plain next) (λ l c. Contains-append_left left (all_plain next) l c) f g h))
+              (λ f g h. elim (paired.fresh e h.0 (subst (λ (ls : List (List PlainField)). Contains ls h.0) looks.lists h.1.0)) [
+                | inl was ↦ inl (h.0, (was, h.1.1))
+                | inr now ↦ inr (λ t.
+                    let r = now f g h.1.1.0 h.1.1.1 t in
+                    (r.0, λ x y p q. left_wider pass s d (all_plain next) (left ++ all_plain next) (λ l c. Contains-append_right left (all_plain next) l c) x y (r.1 x y p q)))
+              ])
+              under.fields;
+          sets = λ vs c x y p q. together_more pass s d old.lists new.lists lists_more x y (under.sets vs (subst (λ (k : List (List PlainSet)). Contains k vs) (looks.expanded ∙ ap (λ (k : Kept). k.expanded) paired.same) c) x y p q);
+          pairs = pairs_on e twos under.pairs;
+        };
+      }
+
+  -- ---- several pairs
+
+  tells_wider : (sets part : Sets) (lists : List Sets) → Contains lists sets → SelectsAsMuch d sets part → (fault : Broken Place) → TellsIn pass s d (part ∷ []) fault → TellsIn pass s d lists fault
+  tells_wider sets part lists there wide fault t =
+      let at = only part t.0 t.1.0 in
+      (sets, (there, (t.1.1.0, (t.1.1.1.0, (wide t.1.1.0 (subst (λ (l : Sets). IsSelected d l t.1.1.0) at t.1.1.1.1.0), (wide t.1.1.1.0 (subst (λ (l : Sets). IsSelected d l t.1.1.1.0) at t.1.1.1.1.1.0), t.1.1.1.1.1.1))))))
+
+  come_wider : (sets part : Sets) (lists : List Sets) → Contains lists sets → SelectsAsMuch d sets part → (next : Sets) → ComeFrom pass s d (part ∷ []) next → ComeFrom pass s d lists next
+  come_wider sets part lists there wide next u =
+      let at = only part u.0 u.1.0 in
+      (sets, (there, (u.1.1.0, ((λ f g a b. let w = u.1.1.1.0 f g a b in (wide f (subst (λ (l : Sets). IsSelected d l f) at w.0), w.1)), u.1.1.1.1))))
+
+  -- of one list of them
+  one_tells : (lists : List Sets) (fault : Broken Place) (t : TellsIn pass s d lists fault) → TellsIn pass s d (t.0 ∷ []) fault
+  one_tells lists fault t = (t.0, (Contains-first t.0 [] t.0 refl, t.1.1))
+
+  one_comes : (lists : List Sets) (next : Sets) (u : ComeFrom pass s d lists next) → ComeFrom pass s d (u.0 ∷ []) next
+  one_comes lists next u = (u.0, (Contains-first u.0 [] u.0 refl, u.1.1))
+
+  -- whichever order pairs are left in
+  under_as : (o : MeantOperation Place) (twos twos' left : List (List PlainSet)) (kept : Kept) → HasMore twos twos' → AreUnderWay d pass s o twos left kept → AreUnderWay d pass s o twos' left kept
+  under_as o twos twos' left kept on under = record {
+    fields = under.fields;
+    sets = under.sets;
+    pairs = λ a b h. elim (under.pairs a b h) [ inl is ↦ inl (looked_more pass s d twos twos' on a b is) | inr is ↦ inr is ];
+  }
+
+  pub no_pairs : (old : Kept) → PairsExamined pass s d 0 old old [] []
+  no_pairs old = record {
+    right = λ fault c. not_in_nil fault c;
+    under = λ sets c. not_in_nil sets c;
+    more = λ l c. c;
+    looks = λ l c. c;
+    within = λ part c. (part, (c, λ x h. h));
+    settled = λ e o left under. subst (λ l. AreUnderWay d pass s o (all_plain old.pairs) l old) (sym (append-nil left)) under;
+  }
+
+  -- one more of them
+  module _ (n : ℕ) (old mid new : Kept) (added more : List (Broken Place)) (next below : List Sets) (two : Sets) (within : n < length mid.pairs) (is : two ≡ get_or mid.pairs n two)
+      (so_far : PairsExamined pass s d n old mid added next) (one : PairExamined pass s d two mid new more below) where
+    there : Contains mid.pairs two
+    there = (n, within, sym is)
+
+    from : (part : Sets) → SelectsAsMuch d two part → (sets : Sets) × (Contains old.pairs sets × SelectsAsMuch d sets part)
+    from part wide = let f = so_far.within two there in (f.0, (f.1.0, λ x h. f.1.1 x (wide x h)))
+
+    pub one_more : PairsExamined pass s d (n + 1) old new (added ++ more) (next ++ below)
+    one_more = record {
+      right = λ fault c. elim (Contains-append_cases added more fault c) [
+        | inl a ↦ so_far.right fault a
+        | inr b ↦ let f = from two (λ x h. h) in tells_wider f.0 two old.pairs f.1.0 f.1.1 fault (one.right fault b)
+      ];
+      under = λ sets c. elim (Contains-append_cases next below sets c) [
+        | inl a ↦ so_far.under sets a
+        | inr b ↦ let f = from two (λ x h. h) in come_wider f.0 two old.pairs f.1.0 f.1.1 sets (one.under sets b)
+      ];
+      more = λ l c. one.more l (so_far.more l c);
+      looks = λ l c. one.looks l (so_far.looks l c);
+      within = λ part c. elim (Contains-append_cases mid.pairs one.pairs part (subst (λ (l : List Sets). Contains l part) one.is_pairs c)) [
+        | inl a ↦ so_far.within part a
+        | inr b ↦ from part (one.within part b)
+      ];
+      settled = λ e o left under.
+          let half = so_far.settled (left_empty added more e) o left under in
+          let rest = all_plain (drop (n + 1) mid.pairs) in
+          let last = one.settled (right_empty added more e) o rest (left ++ all_plain next) (subst (λ (l : List Sets). AreUnderWay d pass s o (all_plain l) (left ++ all_plain next) mid) (drop_first mid.pairs n two within is) half) in
+          subst (λ l. AreUnderWay d pass s o (all_plain (drop (n + 1) new.pairs)) l new) (append_assoc left (all_plain next) (all_plain below) ∙ ap (λ l. left ++ l) (sym (map-append plain_sets next below)))
+          (subst (λ t. AreUnderWay d pass s o t ((left ++ all_plain next) ++ all_plain below) new) (sym left_over) last);
+    }
+      where
+        left_over : all_plain (drop (n + 1) new.pairs) ≡ all_plain (drop (n + 1) mid.pairs) ++ all_plain one.pairs
+        left_over = ap all_plain (ap (drop (n + 1)) one.is_pairs ∙ drop-append-le (n + 1) mid.pairs one.pairs (omega (arith, within))) ∙ map-append plain_sets (drop (n + 1) mid.pairs) one.pairs
+
+  -- the same of breaches and lists as they stand before and after
+  pub pairs_step : (n : ℕ) (old mid new : Kept) (told half last : List (Broken Place)) (next between later : List Sets) (two : Sets) → n < length mid.pairs → two ≡ get_or mid.pairs n two
+      → ((added : List (Broken Place)) × ((below : List Sets) × ((half ≡ told ++ added) × ((between ≡ next ++ below) × PairsExamined pass s d n old mid added below))))
+      → ((added : List (Broken Place)) × ((below : List Sets) × ((last ≡ half ++ added) × ((later ≡ between ++ below) × PairExamined pass s d two mid new added below))))
+      → (added : List (Broken Place)) × ((below : List Sets) × ((last ≡ told ++ added) × ((later ≡ next ++ below) × PairsExamined pass s d (n + 1) old new added below)))
+  pairs_step n old mid new told half last next between later two within is (a, (k, (e, (lies, so_far)))) (b, (m, (f, (lies_too, one)))) = (
+    a ++ b,
+    (
+      k ++ m,
+      (
+        f ∙ ap (λ l. l ++ b) e ∙ append_assoc told a b,
+        (lies_too ∙ ap (λ l. l ++ m) lies ∙ append_assoc next k m, one_more n old mid new a b k m two within is so_far one),
+      ),
+    ),
+  )
+
+  -- ---- sets by their pairs
+
+  -- where pairs are done, fields that go together stand, of which two sets that were looked at select the one each
+  looked_stand : (kept : Kept) → PairsAreDone d pass s [] kept → (a b : PlainSet) → AreLookedAt kept.looked a b
+      → (x y : PlainField) → HasField (unplaced_document d) (InOperation None) a x → HasField (unplaced_document d) (InOperation None) b y → StandTogether pass s kept.lists x y
+  looked_stand kept done a b looked x y p q t =
+      let stands = pairs_stand PlainOwn (PlainSpreads d) (Together pass s) (StandIn kept.lists) (AreLookedAt kept.looked) (AreLookedAt []) done a b x y looked
+      ((through_spreads (unplaced_document d) (InOperation None) a x).0 p) ((through_spreads (unplaced_document d) (InOperation None) b y).0 q) t in
+      elim stands [ inl stand ↦ stand | inr (u, (v, (none, both))) ↦ not_in_nil none.0 none.1.0 ]
+
+  module _ (sets : Sets) (twos : List Sets) (are : AreTwosOf sets twos) (old mid new : Kept) (looks : Looks twos (record old { pairs = [] }) mid)
+      (n : ℕ) (added : List (Broken Place)) (next : List Sets) (all : added ≡ [] → length new.pairs ≤ n) (pairs : PairsExamined pass s d n mid new added next) where
+    -- each pair is of these sets
+    of_sets : (two : Sets) → Contains mid.pairs two → SelectsAsMuch d sets two
+    of_sets two c x h = (h.0, (are.within two (looks.within two (subst (λ (l : List Sets). Contains l two) looks.is_pairs c)) h.0 h.1.0, h.1.1))
+
+    -- any two of the sets were looked at together
+    looked_two : (v w : MeantSet Place) → Contains sets v → Contains sets w → AreLookedAt new.looked (unplaced_set v) (unplaced_set w)
+    looked_two v w a b =
+        let two = are.covers v w a b in
+        let known = looks.has two.0 two.1.0 in
+        (known.0, (pairs.looks known.0 known.1.0, same_trans known.0 (plain_sets two.0) (plain_sets (v ∷ w ∷ [])) known.1.1 (same_plain two.0 (v ∷ w ∷ []) two.1.1)))
+
+    sets_stand : PairsAreDone d pass s [] new → SetsStand pass s d sets new.lists
+    sets_stand done x y (p, (a, i)) (q, (b, j)) =
+        let v = contains_unmap unplaced_set sets p a in
+        let w = contains_unmap unplaced_set sets q b in
+        looked_stand new done p q (subst (λ (k : PlainSet). AreLookedAt new.looked k q) v.1.1 (subst (AreLookedAt new.looked (unplaced_set v.0)) w.1.1 (looked_two v.0 w.0 v.1.0 w.1.0))) x y i j
+
+    -- with the pairs that are left
+    with_pairs : (o : MeantOperation Place) (left : List (List PlainSet)) → AreUnderWay d pass s o [] left old → AreUnderWay d pass s o (all_plain mid.pairs) left mid
+    with_pairs o left under = record {
+      fields = subst (λ (ls : List (List PlainField)). IsUnderWay (PlainBelow d) (Together pass s) (Agree pass s) (PlainStarts d o) (IsLeft d left) (StandTogether pass s ls)) (sym looks.lists) under.fields;
+      sets = λ vs c. subst (λ (ls : List (List PlainField)). (x y : PlainField) → PlainSelected d vs x → PlainSelected d vs y → StandTogether pass s ls x y) (sym looks.lists)
+          (under.sets vs (subst (λ (k : List (List PlainSet)). Contains k vs) looks.expanded c));
+      pairs = λ a b h. elim (looks.fresh h.0 h.1.0) [
+        | inl was ↦ elim (under.pairs a b (h.0, (was, h.1.1))) [
+          | inl none ↦ not_in_nil none.0 none.1.0
+          | inr is ↦ inr (done_more pass s d old mid (λ l c. subst (λ (ls : List (List PlainField)). Contains ls l) (sym looks.lists) c) looks.keeps a b is)
+        ]
+        | inr (t, (c, alike)) ↦ inl (plain_sets t, (contains_map plain_sets mid.pairs t (subst (λ (l : List Sets). Contains l t) (sym looks.is_pairs) c), same_trans (plain_sets t) h.0 (a ∷ b ∷ []) (same_sym h.0 (plain_sets t) alike) h.1.1))
+      ];
+    }
+
+    pub sets_by_pairs : SetsExamined pass s d (sets ∷ []) old new added next
+    sets_by_pairs = record {
+      right = λ fault c. let t = pairs.right fault c in tells_wider sets t.0 (sets ∷ []) (Contains-first sets [] sets refl) (of_sets t.0 t.1.0) fault (one_tells mid.pairs fault t);
+      under = λ vs c. let u = pairs.under vs c in come_wider sets u.0 (sets ∷ []) (Contains-first sets [] sets refl) (of_sets u.0 u.1.0) vs (one_comes mid.pairs vs u);
+      more = λ l c. pairs.more l (subst (λ (ls : List (List PlainField)). Contains ls l) (sym looks.lists) c);
+      settled = λ e o left under.
+          let half = pairs.settled e o (plain_sets sets ∷ left) (with_pairs o (plain_sets sets ∷ left) under) in
+          let whole : AreUnderWay d pass s o [] (plain_sets sets ∷ (left ++ all_plain next)) new =
+          subst (λ (l : List Sets). AreUnderWay d pass s o (all_plain l) (plain_sets sets ∷ (left ++ all_plain next)) new) (drop_all n new.pairs (all e)) half in
+          let stand = sets_stand whole.pairs in
+          (dropped pass s d sets new stand o (left ++ all_plain next) whole, all_of_one pass s d sets new.lists stand);
+    }
+
+  -- the same of breaches and lists as they stand before and after
+  pub twos_told : (sets : Sets) (old mid new : Kept) (told later : List (Broken Place)) (next last : List Sets) → LooksAtTwos sets old mid
+      → (n : ℕ) × ((later ≡ told → length new.pairs ≤ n) × ((added : List (Broken Place)) × ((below : List Sets) × ((later ≡ told ++ added) × ((last ≡ next ++ below) × PairsExamined pass s d n mid new added below)))))
+      → (added : List (Broken Place)) × ((below : List Sets) × ((later ≡ told ++ added) × ((last ≡ next ++ below) × SetsExamined pass s d (sets ∷ []) old new added below)))
+  twos_told sets old mid new told later next last (twos, (are, looks)) (n, (all, (a, (k, (is, (lies, h)))))) =
+      (a, (k, (is, (lies, sets_by_pairs sets twos are old mid new looks n a k (λ e. all (is ∙ ap (λ l. told ++ l) e ∙ append-nil told)) h))))

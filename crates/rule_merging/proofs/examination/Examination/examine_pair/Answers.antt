@@ -1,0 +1,99 @@
+use Rattle.std.proofs.Common.{◌∙◌, ap, subst}
+use Rattle.std.proofs.lemmas.Result.{on_ok_weaker}
+use Rattle.rule_field_groups.specs.in_ground.Fields.{fields_of}
+use Rattle.rule_field_groups.specs.Below.{meant_at}
+use Rattle.rule_field_sets.specs.Own.{spread_sets}
+use Rattle.rule_field_sets.specs.Laws.{meant_spread}
+use Rattle.rule_merging.specs.Remembered.{remembered, kept_of}
+use Rattle.rule_merging.specs.Examined.{with_each, schema_of, document_of}
+use Rattle.rule_merging.specs.Pairs.{Looks, each_with}
+use Rattle.rule_merging.proofs.Looking.{looks_both}
+use Rattle.rule_merging.proofs.PairStep.{pair_examined, pair_listed}
+use Rattle.rule_merging.proofs.Counting.{grows_not, grows_same, grows_on, grows_given}
+use Rattle.rule_merging.proofs.examination.Examination.examine_pair.Goals as goal
+
+pub returns-in_err-ones-clause-counted : goal.returns-in_err-ones-clause-counted
+returns-in_err-ones-clause-counted c = grows_not (document_of c.args.self.now) _ c.args.self.now.pass (remembered c.args.examined.now) c.args.comparisons.now
+
+pub returns-in_err-others-clause-counted : goal.returns-in_err-others-clause-counted
+returns-in_err-others-clause-counted c = grows_not (document_of c.args.self.now) _ c.args.self.now.pass (remembered c.args.examined.now) c.args.comparisons.now
+
+pub returns-in_err-examine_each-clause-counted : goal.returns-in_err-examine_each-clause-counted
+returns-in_err-examine_each-clause-counted c =
+    let e = c.args.self.now in
+    let d = document_of e in
+    grows_given d _ _ (λ os. pair_listed e.pass (schema_of e) d (meant_at c.args.pair.one) (meant_at c.args.pair.other) c.deref.result.now c.deref-2.result.now
+    (ap fields_of c.deref.ensures.value ∙ c.in_ok-ones.ensures) (ap fields_of c.deref-2.ensures.value ∙ c.in_ok-others.ensures) os)
+    e.pass (remembered c.args.examined.now) (remembered c.examine_each.new.examined) c.args.comparisons.now c.examine_each.new.comparisons c.in_err-examine_each.ensures.counted
+
+pub returns-in_err-spreads-clause-counted : goal.returns-in_err-spreads-clause-counted
+returns-in_err-spreads-clause-counted c =
+    let e = c.args.self.now in
+    let d = document_of e in
+    grows_given d _ _ (λ os. pair_listed e.pass (schema_of e) d (meant_at c.args.pair.one) (meant_at c.args.pair.other) c.deref.result.now c.deref-2.result.now
+    (ap fields_of c.deref.ensures.value ∙ c.in_ok-ones.ensures) (ap fields_of c.deref-2.ensures.value ∙ c.in_ok-others.ensures) os)
+    e.pass (remembered c.args.examined.now) (remembered c.examine_each.new.examined) c.args.comparisons.now c.examine_each.new.comparisons c.in_ok-examine_each.ensures.counted
+
+pub returns-in_err-look_at_each-clause-counted : goal.returns-in_err-look_at_each-clause-counted
+returns-in_err-look_at_each-clause-counted c =
+    let e = c.args.self.now in
+    let d = document_of e in
+    grows_on d _ e.pass (remembered c.args.examined.now) (remembered c.examine_each.new.examined) (remembered c.look_at_each.new.self) c.args.comparisons.now c.examine_each.new.comparisons c.examine_each.new.comparisons
+    (grows_given d _ _ (λ os. pair_listed e.pass (schema_of e) d (meant_at c.args.pair.one) (meant_at c.args.pair.other) c.deref.result.now c.deref-2.result.now
+    (ap fields_of c.deref.ensures.value ∙ c.in_ok-ones.ensures) (ap fields_of c.deref-2.ensures.value ∙ c.in_ok-others.ensures) os)
+    e.pass (remembered c.args.examined.now) (remembered c.examine_each.new.examined) c.args.comparisons.now c.examine_each.new.comparisons c.in_ok-examine_each.ensures.counted)
+    (grows_same d _ e.pass (remembered c.examine_each.new.examined) (remembered c.look_at_each.new.self) c.examine_each.new.comparisons c.in_err-look_at_each.ensures.lists)
+
+pub returns-in_err-spreads-2-clause-counted : goal.returns-in_err-spreads-2-clause-counted
+returns-in_err-spreads-2-clause-counted c =
+    let e = c.args.self.now in
+    let d = document_of e in
+    grows_on d _ e.pass (remembered c.args.examined.now) (remembered c.examine_each.new.examined) (remembered c.look_at_each.new.self) c.args.comparisons.now c.examine_each.new.comparisons c.examine_each.new.comparisons
+    (grows_given d _ _ (λ os. pair_listed e.pass (schema_of e) d (meant_at c.args.pair.one) (meant_at c.args.pair.other) c.deref.result.now c.deref-2.result.now
+    (ap fields_of c.deref.ensures.value ∙ c.in_ok-ones.ensures) (ap fields_of c.deref-2.ensures.value ∙ c.in_ok-others.ensures) os)
+    e.pass (remembered c.args.examined.now) (remembered c.examine_each.new.examined) c.args.comparisons.now c.examine_each.new.comparisons c.in_ok-examine_each.ensures.counted)
+    (grows_same d _ e.pass (remembered c.examine_each.new.examined) (remembered c.look_at_each.new.self) c.examine_each.new.comparisons c.in_ok-look_at_each.ensures.lists)
+
+pub returns-clause-examined : goal.returns-clause-examined
+returns-clause-examined c =
+    let e = c.args.self.now in
+    let s = schema_of e in
+    let d = document_of e in
+    let a = meant_at c.args.pair.one in
+    let b = meant_at c.args.pair.other in
+    let ones = c.deref.result.now in
+    let others = c.deref-2.result.now in
+    let old = kept_of c.args.examined.now in
+    let mid = kept_of c.examine_each.new.examined in
+    let half = kept_of c.look_at_each.new.self in
+    let new = kept_of c.look_before_each.new.self in
+    let paired = c.in_ok-examine_each.ensures.examined in
+    let vs = spread_sets d.fragments a in
+    let ws = spread_sets d.fragments b in
+    let one : Looks (each_with vs b) mid half = subst (λ l. Looks (each_with l b) mid half) (ap meant_spread c.deref-3.ensures.value ∙ c.in_ok-spreads.ensures) c.in_ok-look_at_each.ensures.looks in
+    on_ok_weaker c.look_before_each.result
+    (λ h. let other : Looks (with_each a ws) half new = subst (λ l. Looks (with_each a l) half new) (ap meant_spread c.deref-4.ensures.value ∙ c.in_ok-spreads-2.ensures) h in (
+      paired.0,
+      (
+        paired.1.0,
+        (
+          paired.1.1.0,
+          (
+            paired.1.1.1.0,
+            pair_examined e.pass s d a b ones others (ap fields_of c.deref.ensures.value ∙ c.in_ok-ones.ensures) (ap fields_of c.deref-2.ensures.value ∙ c.in_ok-others.ensures) old mid new paired.0 paired.1.0 paired.1.1.1.1
+                (looks_both (each_with vs b) (with_each a ws) mid half new one other),
+          ),
+        ),
+      ),
+    ))
+    c.look_before_each.ensures.looks
+
+pub returns-clause-counted : goal.returns-clause-counted
+returns-clause-counted c =
+    let e = c.args.self.now in
+    let d = document_of e in
+    grows_on d _ e.pass (remembered c.args.examined.now) (remembered c.examine_each.new.examined) (remembered c.look_before_each.new.self) c.args.comparisons.now c.examine_each.new.comparisons c.examine_each.new.comparisons
+    (grows_given d _ _ (λ os. pair_listed e.pass (schema_of e) d (meant_at c.args.pair.one) (meant_at c.args.pair.other) c.deref.result.now c.deref-2.result.now
+    (ap fields_of c.deref.ensures.value ∙ c.in_ok-ones.ensures) (ap fields_of c.deref-2.ensures.value ∙ c.in_ok-others.ensures) os)
+    e.pass (remembered c.args.examined.now) (remembered c.examine_each.new.examined) c.args.comparisons.now c.examine_each.new.comparisons c.in_ok-examine_each.ensures.counted)
+    (grows_same d _ e.pass (remembered c.examine_each.new.examined) (remembered c.look_before_each.new.self) c.examine_each.new.comparisons (c.look_before_each.ensures.lists ∙ c.in_ok-look_at_each.ensures.lists))

@@ -1,0 +1,96 @@
+use Rattle.std.proofs.Common.{◌≡◌, ◌∙◌, ◌<◌, ◌≤◌, ◌+◌, ℕ, List, ◌∷◌, ◌++◌, [], Contains, length, map, get_or, refl, sym, ap, subst, append-nil, arith}
+use Rattle.std.proofs.lemmas.List.{length-map, length-append, get_or-map}
+use Rattle.graphql_names.specs.Placed.{Place}
+use Rattle.document_meaning.specs.MeantTree.{MeantOperation, MeantDocument}
+use Rattle.rule_definitions.proofs.Lists.{only}
+use Rattle.rule_field_groups.specs.in_ground.Broken.{brokens_of}
+use Rattle.rule_field_groups.specs.Under.{sets_in}
+use Rattle.rule_merging.specs.Counted.{AreListed}
+use Rattle.rule_merging.specs.Remembered.{remembered, kept_of, two_of}
+use Rattle.rule_merging.specs.Examined.{Sets, SelectsAsMuch, schema_of, document_of}
+use Rattle.rule_merging.proofs.Pairing.{brokens_long}
+use Rattle.rule_merging.proofs.PairStep.{no_pairs, pairs_step}
+use Rattle.rule_merging.proofs.Counting.{grows_not, grows_with, listed_wider}
+use Rattle.rule_merging.specs.declared.remembered.Pair.{Pair}
+use Rattle.rule_merging.proofs.examination.Examination.examine_pairs.Goals as goal
+
+-- the pair at a place, as a list
+two_at : (here : List Pair) (n : ℕ) (pair : Pair) → n < length here → pair ≡ get_or here n pair → (n < length (map two_of here)) × (two_of pair ≡ get_or (map two_of here) n (two_of pair))
+two_at here n pair within is = (omega (arith, within, length-map here two_of), ap two_of is ∙ sym (get_or-map two_of here n pair (two_of pair) within))
+
+index_of : (xs : List Sets) (n : ℕ) (x : Sets) → n < length xs → x ≡ get_or xs n x → Contains xs x
+index_of xs n x within is = (n, within, sym is)
+
+-- it is given of the pair, since it is of those that were left
+pair_given : (d : MeantDocument Place) (os : List (MeantOperation Place)) (was here : List Sets) (two : Sets) → ((part : Sets) → Contains here part → (sets : Sets) × (Contains was sets × SelectsAsMuch d sets part)) → Contains here two
+    → AreListed d os was → AreListed d os (two ∷ [])
+pair_given d os was here two within there given = listed_wider d os was (two ∷ []) given (λ part k. within part (subst (Contains here) (sym (only two part k)) there))
+
+longer : (old new more : List Sets) → new ≡ old ++ more → (here here' : List Pair) → old ≡ map two_of here → new ≡ map two_of here' → (n : ℕ) → n < length here → n + 1 ≤ length here'
+longer old new more is here here' e f n within = omega (arith, within, length-map here two_of, length-map here' two_of, ap length is, length-append old more, ap length e, ap length f)
+
+pub loop-done-init : goal.loop-done-init
+loop-done-init c =
+    let e = c.args.self.now in
+    record {
+      examined = ([], ([], (sym (append-nil (brokens_of c.args.breaches.now)), (sym (append-nil (sets_in c.args.next.now)), no_pairs e.pass (schema_of e) (document_of e) (kept_of c.args.examined.now)))));
+      counted = grows_not (document_of e) _ e.pass (remembered c.args.examined.now) c.args.comparisons.now;
+      within = omega arith;
+    }
+
+-- the pair that is looked at
+pub returns-in_err-examine_pair-clause-counted : goal.returns-in_err-examine_pair-clause-counted
+returns-in_err-examine_pair-clause-counted c =
+    let e = c.args.self.now in
+    let d = document_of e in
+    let inv = c.loop-done.invariant in
+    let old = kept_of c.args.examined.now in
+    let here = c.loop-done.examined.pairs.items in
+    let pair = c.index-pair.result.now in
+    let within : c.loop-done.done < length here = omega (arith, c.len.ensures, c.loop-done-test.true) in
+    let two = two_at here c.loop-done.done pair within c.index-pair.ensures in
+    grows_with d _ _ e.pass (remembered c.args.examined.now) (remembered c.loop-done.examined) (remembered c.examine_pair.new.examined) c.args.comparisons.now c.loop-done.comparisons c.examine_pair.new.comparisons
+    inv.counted (λ os given. pair_given d os old.pairs (map two_of here) (two_of pair) inv.examined.1.1.1.1.within (index_of (map two_of here) c.loop-done.done (two_of pair) two.0 two.1) given) c.in_err-examine_pair.ensures.counted
+
+pub loop-done-preserved : goal.loop-done-preserved
+loop-done-preserved c =
+    let e = c.args.self.now in
+    let d = document_of e in
+    let inv = c.loop-done.invariant in
+    let old = kept_of c.args.examined.now in
+    let here = c.loop-done.examined.pairs.items in
+    let pair = c.index-pair.result.now in
+    let within : c.loop-done.done < length here = omega (arith, c.len.ensures, c.loop-done-test.true) in
+    let two = two_at here c.loop-done.done pair within c.index-pair.ensures in
+    let step = pairs_step e.pass (schema_of e) d c.loop-done.done old (kept_of c.loop-done.examined) (kept_of c.examine_pair.new.examined)
+    (brokens_of c.args.breaches.now) (brokens_of c.loop-done.breaches) (brokens_of c.examine_pair.new.breaches) (sets_in c.args.next.now) (sets_in c.loop-done.next) (sets_in c.examine_pair.new.next) (two_of pair) two.0 two.1 inv.examined c.in_ok-examine_pair.ensures.examined in
+    record {
+      examined = step;
+      counted = grows_with d _ _ e.pass (remembered c.args.examined.now) (remembered c.loop-done.examined) (remembered c.examine_pair.new.examined) c.args.comparisons.now c.loop-done.comparisons c.examine_pair.new.comparisons
+          inv.counted (λ os given. pair_given d os old.pairs (map two_of here) (two_of pair) inv.examined.1.1.1.1.within (index_of (map two_of here) c.loop-done.done (two_of pair) two.0 two.1) given) c.in_ok-examine_pair.ensures.counted;
+      within = longer (map two_of here) (map two_of c.examine_pair.new.examined.pairs.items) c.in_ok-examine_pair.ensures.examined.1.1.1.1.pairs c.in_ok-examine_pair.ensures.examined.1.1.1.1.is_pairs here c.examine_pair.new.examined.pairs.items refl refl c.loop-done.done within;
+    }
+
+pub returns-clause-examined : goal.returns-clause-examined
+returns-clause-examined c =
+    let here = c.loop-done.examined.pairs.items in
+    (c.loop-done.done, ((λ e. omega (arith, c.len.ensures, c.loop-done-test.false, length-map here two_of)), c.loop-done.invariant.examined))
+
+pub returns-clause-counted : goal.returns-clause-counted
+returns-clause-counted c = c.loop-done.invariant.counted
+
+pub returns-then-is_told-clause-examined : goal.returns-then-is_told-clause-examined
+returns-then-is_told-clause-examined c = (
+  c.loop-done.done,
+  (
+    (λ e. absurd (omega (
+      arith,
+      ap length e,
+      brokens_long c.args.breaches.now c.loop-done.breaches (omega (arith, c.len-told.ensures, c.is_told.ensures c.if-is_told.true, ap length c.deref.ensures.value)),
+    ))),
+    c.loop-done.invariant.examined,
+  ),
+)
+
+pub returns-then-is_told-clause-counted : goal.returns-then-is_told-clause-counted
+returns-then-is_told-clause-counted c = c.loop-done.invariant.counted

@@ -1,0 +1,15 @@
+use Rattle.std.proofs.Common.{◌≤◌, ◌-◌, ◌^◌, length}
+use Rattle.rule_field_groups.specs.Under.{sets_in}
+use Rattle.rule_merging.specs.Remembered.{kept_of}
+use Rattle.rule_merging.specs.Examined.{ExaminesFirst, GrowsHere}
+use Rattle.rule_merging.proofs.examination.Examination.examine_pairs.Given as goal
+
+abbrev pub invariant-loop-done : goal.invariant-loop-done
+invariant-loop-done l = record {
+  examined : ExaminesFirst l.self l.done (kept_of l.fn.examined) (kept_of l.examined) l.fn.breaches l.breaches (sets_in l.fn.next) (sets_in l.next);
+  counted : GrowsHere l.self l.fn.examined l.examined l.fn.comparisons l.comparisons;
+  within : l.done ≤ length l.examined.pairs.items;
+}
+
+abbrev pub decreases-loop-done : goal.decreases-loop-done
+decreases-loop-done l = 2 ^ 64 - l.done

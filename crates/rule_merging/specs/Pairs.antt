@@ -1,0 +1,32 @@
+-- Private: leads to `FieldsMerge`. Pairs of sets that are looked at.
+use Rattle.std.specs.Prelude.{◌≡◌, ◌++◌, ◌∷◌, ◌⊎◌, List, [], map, Contains}
+use Rattle.graphql_names.specs.Placed.{Place}
+use Rattle.document_meaning.specs.MeantTree.{MeantSet}
+use Rattle.rule_number_lists.specs.NumberLists.{HaveSame}
+use Rattle.rule_merging_laws.specs.Contents.{PlainSet}
+use Rattle.rule_field_groups.specs.Below.{plain_sets}
+use Rattle.rule_merging.specs.Remembered.{Kept, HasLooked}
+use Rattle.rule_merging.specs.Examined.{Sets, AreTwosOf}
+
+-- one of these pairs has the same members
+abbrev pub HasSame : List Sets → List PlainSet → Type 0
+HasSame pairs known = (two : Sets) × (Contains pairs two × HaveSame known (plain_sets two))
+
+-- such pairs are looked at; each that was not looked at before is put last
+pub record Looks (wanted : List Sets) (old new : Kept) : Type 0 where
+  pub lists : new.lists ≡ old.lists
+  pub expanded : new.expanded ≡ old.expanded
+  pub pairs : List Sets
+  pub is_pairs : new.pairs ≡ old.pairs ++ pairs
+  pub within : (two : Sets) → Contains pairs two → Contains wanted two
+  pub keeps : (known : List PlainSet) → Contains old.looked known → Contains new.looked known
+  pub fresh : (known : List PlainSet) → Contains new.looked known → Contains old.looked known ⊎ HasSame pairs known
+  pub has : (two : Sets) → Contains wanted two → HasLooked new.looked (plain_sets two)
+
+-- pairs are looked at, and no others stand there, of which any two of these sets are one
+abbrev pub LooksAtTwos : Sets → Kept → Kept → Type 0
+LooksAtTwos sets old new = (twos : List Sets) × (AreTwosOf sets twos × Looks twos (record old { pairs = [] }) new)
+
+-- each of these sets with the other
+abbrev pub each_with : Sets → MeantSet Place → List Sets
+each_with sets v = map (λ w. w ∷ v ∷ []) sets

@@ -1,0 +1,176 @@
+//! The examination of two sets that are looked at together.
+ghost use Rattle.std.specs.Prelude.{◌≡◌, ◌<◌, ◌∷◌, [], length, IsTrue, OnOk, IfOk};
+ghost use Rattle.std.specs.Str.{bytes_eq};
+ghost use Rattle.rule_field_groups.specs.Grouped.{key_of};
+ghost use Rattle.rule_field_groups.specs.Below.{meant_sets};
+ghost use Rattle.rule_field_groups.specs.Under.{sets_in};
+ghost use Rattle.rule_merging.specs.Remembered.{kept_of, two_of};
+ghost use Rattle.rule_merging.specs.Twos.{are_two, are_of, IsListOf, PairsFields, GrowsByTwo};
+ghost use Rattle.rule_merging.specs.Examined.{ExaminesPair, ExaminesPairs, ExaminesSets, GrowsOver, GrowsHere};
+
+use crate::examination::Examination;
+use crate::remembered::{Pair, Remembered};
+use rule_field_groups::{Breach, FieldSelection, SelectedSet};
+use rule_field_sets::{own_fields_of, spread_sets_of};
+use std::alloc::{AllocError, Global};
+
+/// Whether two fields are answered under one key.
+fn have_one_key(one: FieldSelection<'_>, other: FieldSelection<'_>) -> bool
+    ensures { result ≡ bytes_eq (key_of one.entry) (key_of other.entry) }
+{
+    one.response_key().as_str() == other.response_key().as_str()
+}
+
+/// Two fields, or one of them where both say the same.
+fn list_of_two<'doc>(
+    alloc: Global,
+    one: FieldSelection<'doc>,
+    other: FieldSelection<'doc>,
+) -> Result<Vec<FieldSelection<'doc>>, AllocError>
+    ensures { IfOk result (λ list. IsListOf one.entry other.entry list.items) }
+{
+    let mut list = Vec::new(alloc);
+    list.push(one)?;
+    if one != other {
+        list.push(other)?;
+    }
+    Ok(list)
+}
+
+/// Whether more is told than so many breaches.
+fn is_told(breaches: &[Breach], told: usize) -> bool
+    ensures { IsTrue result → told < length breaches.now }
+{
+    breaches.len() > told
+}
+
+impl<'doc> Examination<'doc> {
+    /// Compares two fields of one key, if they were not compared before, and adds the lists of sets below them.
+    fn examine_two_fields(
+        &self,
+        one: FieldSelection<'doc>,
+        other: FieldSelection<'doc>,
+        examined: &mut Remembered<'doc>,
+        next: &mut Vec<Vec<SelectedSet<'doc>>>,
+        breaches: &mut Vec<Breach>,
+        comparisons: &mut u128,
+    ) -> Result<(), AllocError>
+        ensures examined { OnOk result (PairsFields self.now (are_two one.entry other.entry) (kept_of examined.old) (kept_of examined.new) breaches.old breaches.new (sets_in next.old) (sets_in next.new)) }
+        ensures counted { GrowsByTwo self.now (are_two one.entry other.entry) examined.old examined.new comparisons.old comparisons.new }
+    {
+        if !have_one_key(one, other) {
+            return Ok(());
+        }
+        let list = list_of_two(*next.allocator(), one, other)?;
+        if !examined.remember(&list)? {
+            return Ok(());
+        }
+        self.examine_list(&list, next, breaches, comparisons)
+    }
+
+    /// Compares a field with each of the others.
+    fn examine_with_each(
+        &self,
+        one: FieldSelection<'doc>,
+        others: &[FieldSelection<'doc>],
+        examined: &mut Remembered<'doc>,
+        next: &mut Vec<Vec<SelectedSet<'doc>>>,
+        breaches: &mut Vec<Breach>,
+        comparisons: &mut u128,
+    ) -> Result<(), AllocError>
+        ensures examined { OnOk result (PairsFields self.now (are_of (one.entry ∷ []) others.now) (kept_of examined.old) (kept_of examined.new) breaches.old breaches.new (sets_in next.old) (sets_in next.new)) }
+        ensures counted { GrowsByTwo self.now (are_of (one.entry ∷ []) others.now) examined.old examined.new comparisons.old comparisons.new }
+    {
+        for other in others {
+            self.examine_two_fields(one, *other, examined, next, breaches, comparisons)?;
+        }
+        Ok(())
+    }
+
+    /// Compares each field of the one list with each of the other, up to the first that is told of: all that do not merge could be
+    /// as many as fields times fields.
+    fn examine_each(
+        &self,
+        ones: &[FieldSelection<'doc>],
+        others: &[FieldSelection<'doc>],
+        examined: &mut Remembered<'doc>,
+        next: &mut Vec<Vec<SelectedSet<'doc>>>,
+        breaches: &mut Vec<Breach>,
+        comparisons: &mut u128,
+    ) -> Result<(), AllocError>
+        ensures examined { OnOk result (PairsFields self.now (are_of ones.now others.now) (kept_of examined.old) (kept_of examined.new) breaches.old breaches.new (sets_in next.old) (sets_in next.new)) }
+        ensures counted { GrowsByTwo self.now (are_of ones.now others.now) examined.old examined.new comparisons.old comparisons.new }
+    {
+        let told = breaches.len();
+        for one in ones {
+            if is_told(breaches, told) {
+                return Ok(());
+            }
+            self.examine_with_each(*one, others, examined, next, breaches, comparisons)?;
+        }
+        Ok(())
+    }
+
+    /// Compares the own fields of two sets, and looks at what each of the two spreads with the other.
+    fn examine_pair(
+        &self,
+        pair: Pair<'doc>,
+        examined: &mut Remembered<'doc>,
+        next: &mut Vec<Vec<SelectedSet<'doc>>>,
+        breaches: &mut Vec<Breach>,
+        comparisons: &mut u128,
+    ) -> Result<(), AllocError>
+        ensures examined { OnOk result (ExaminesPair self.now (two_of pair.entry) (kept_of examined.old) (kept_of examined.new) breaches.old breaches.new (sets_in next.old) (sets_in next.new)) }
+        ensures counted { GrowsOver self.now (two_of pair.entry ∷ []) examined.old examined.new comparisons.old comparisons.new }
+    {
+        let alloc = *breaches.allocator();
+        let Pair { one, other } = pair;
+        let ones = own_fields_of(alloc, one.set)?;
+        let others = own_fields_of(alloc, other.set)?;
+        self.examine_each(&ones, &others, examined, next, breaches, comparisons)?;
+        let spreads = spread_sets_of(alloc, one.set, &self.document.fragments)?;
+        examined.look_at_each(&spreads, other)?;
+        let spreads = spread_sets_of(alloc, other.set, &self.document.fragments)?;
+        examined.look_before_each(one, &spreads)
+    }
+
+    /// Examines the pairs, and those that come to them, up to the first that is told of.
+    fn examine_pairs(
+        &self,
+        examined: &mut Remembered<'doc>,
+        next: &mut Vec<Vec<SelectedSet<'doc>>>,
+        breaches: &mut Vec<Breach>,
+        comparisons: &mut u128,
+    ) -> Result<(), AllocError>
+        ensures examined { OnOk result (ExaminesPairs self.now (kept_of examined.old) (kept_of examined.new) breaches.old breaches.new (sets_in next.old) (sets_in next.new)) }
+        ensures counted { GrowsHere self.now examined.old examined.new comparisons.old comparisons.new }
+    {
+        let told = breaches.len();
+        let mut done = 0;
+        while done < examined.pairs.len() {
+            if is_told(breaches, told) {
+                return Ok(());
+            }
+            let pair = examined.pairs[done];
+            self.examine_pair(pair, examined, next, breaches, comparisons)?;
+            done += 1;
+        }
+        Ok(())
+    }
+
+    /// Examines what each two of the sets select, and what each of them does.
+    pub(crate) fn examine_twos(
+        &self,
+        sets: &[SelectedSet<'doc>],
+        examined: &mut Remembered<'doc>,
+        next: &mut Vec<Vec<SelectedSet<'doc>>>,
+        breaches: &mut Vec<Breach>,
+        comparisons: &mut u128,
+    ) -> Result<(), AllocError>
+        ensures examined { OnOk result (ExaminesSets self.now (meant_sets sets.now ∷ []) (kept_of examined.old) (kept_of examined.new) breaches.old breaches.new (sets_in next.old) (sets_in next.new)) }
+        ensures counted { GrowsOver self.now (meant_sets sets.now ∷ []) examined.old examined.new comparisons.old comparisons.new }
+    {
+        examined.look_at_twos(sets)?;
+        self.examine_pairs(examined, next, breaches, comparisons)
+    }
+}

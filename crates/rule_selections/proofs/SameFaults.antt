@@ -1,0 +1,214 @@
+-- Where others stand in for the fragments of a document, the same faults are told of an operation.
+use Rattle.std.proofs.Common.{◌≡◌, ◌↔◌, ◌⊎◌, ◌∙◌, ℕ, List, refl, sym, ap, subst, inl, inr, Option, None, Some, true≢false, is_some}
+use Rattle.graphql_names.specs.Placed.{Place, Text}
+use Rattle.tree_directives.specs.declared.directive_location.DirectiveLocation.TheVariants as location
+use Rattle.schema_components.specs.Names.{Entries}
+use Rattle.schema_types.specs.SchemaTree.{SchemaTree}
+use Rattle.schema_types.specs.Plain.{plain}
+use Rattle.schema_types.specs.Addresses.{TypeAt, under}
+use Rattle.document_meaning.specs.MeantTree.{MeantOperation, MeantFragment, MeantDocument}
+use Rattle.document_typing.specs.Meanings.{meanings}
+use Rattle.rule_definitions.specs.Diagnostics.{UndefinedFragment, InvalidFragmentTarget, InvalidFragmentSpread}
+use Rattle.rule_definitions.specs.Words.{Present}
+use Rattle.rule_definitions.specs.Faults.{wrong}
+use Rattle.rule_definitions.specs.Judged.{judged}
+use Rattle.rule_definitions.specs.Names.{defined_name}
+use Rattle.rule_definitions.specs.Uses.{UsesBreak}
+use Rattle.rule_definitions.specs.Told.{PlacedFault}
+use Rattle.rule_document_definitions.specs.Fragments.{UndefinedFragmentAt, InvalidFragmentTargetAt, InvalidFragmentSpreadAt}
+use Rattle.rule_document_definitions.specs.PossibleTypes.{IsNotComposite, MayApply}
+use Rattle.rule_document_definitions.specs.Reached.{AtReached, AtReachedField, AtReachedFragment, ReachesFragment}
+use Rattle.rule_document_definitions.specs.Selected.{InOperation, Standing, StandingField, inline_condition, selection_place, selection_location, selection_directives, spread_name, own}
+use Rattle.rule_document_definitions.specs.Selections.{SelectionsBreak}
+use Rattle.rule_document_definitions.specs.Told.{places_in}
+use Rattle.rule_document_definitions.specs.UsedVariables.{StandsInDirectives, StandsInArguments, StandsInSelection, IsUsedIn}
+use Rattle.rule_document_definitions.specs.Variables.{VariablesBreak}
+use Rattle.rule_document_ground.specs.Reach.{Member}
+use Rattle.rule_selections.specs.Steps.{MissesSubselection, ArgumentsOfBreak}
+use Rattle.rule_selections.specs.Typed.{ReachesTyped}
+use Rattle.rule_selections.specs.Settled.{StandsInFor, StandIn}
+use Rattle.rule_selections.proofs.Elsewhere.{member, at, bare, placed}
+use Rattle.rule_selections.proofs.Instead.{Other, stood_for, IsLeftOut, spreads_none, without_condition, misses_none, takes_well, uses_well, uses_none, at_all, at_all_fields, at_all_fragments}
+
+module _ (s : SchemaTree Place) (d : MeantDocument Place) (instead : Entries (MeantFragment Place)) (in' : StandIn s d.fragments instead) where
+  abbrev pub Else : MeantDocument Place
+  Else = Other s d instead in'
+
+  module _ (o : MeantOperation Place) where
+    -- the same names of fragments are reached
+    pub same_names : (n : List ℕ) → ((f : MeantFragment Place) × (ReachesFragment Else o f × (f.name.it ≡ n))) ↔ ((f : MeantFragment Place) × (ReachesFragment d o f × (f.name.it ≡ n)))
+    same_names n = at_all_fragments s d instead in' o (λ f. f.name.it ≡ n) (λ g. refl)
+
+    -- nothing is said of spreads, and of conditions, among what is left out
+    never_spread : (Q : List ℕ → Type 0) (x : Standing Place) → IsLeftOut s d instead in' (own o) x → Present (spread_name x.it) Q → ⊥
+    never_spread Q x l (n, (is, q)) = true≢false (sym (ap is_some (sym (spreads_none s d instead in' o x l) ∙ is)))
+
+    never_condition : (Q : List ℕ → Type 0) (x : Standing Place) → IsLeftOut s d instead in' (own o) x → Present (inline_condition x.it) Q → ⊥
+    never_condition Q x l (n, (is, q)) = true≢false (sym (ap is_some (sym (without_condition s d instead in' o x l) ∙ is)))
+
+    -- UndefinedFragment
+    module _ (f : PlacedFault) where
+      abbrev Lacks : Member Place → List ℕ → Type 0
+      Lacks e n = (under n d.fragments ≡ None) × (f ≡ wrong (selection_place e.1) (UndefinedFragment n))
+
+      at_undefined : AtReached Else o (λ x. Present (spread_name x.it) (Lacks (member x))) ↔ AtReached d o (λ x. Present (spread_name x.it) (Lacks (member x)))
+      at_undefined = at_all s d instead in' o (λ e. Present (spread_name e.1) (Lacks e)) (λ x l h. never_spread (Lacks (member x)) x l h)
+
+      pub same_undefined : UndefinedFragmentAt Else f o ↔ UndefinedFragmentAt d f o
+      same_undefined = (there, here)
+        where
+          lacks : (n : List ℕ) (g : Option (MeantFragment Place)) → under n d.fragments ≡ g → under n instead ≡ None → under n d.fragments ≡ None
+          lacks n None e missing = e
+          lacks n (Some g) e missing = absurd (true≢false (sym (ap is_some (sym missing ∙ (in'.there n g e).1.0))))
+
+          there : UndefinedFragmentAt Else f o → UndefinedFragmentAt d f o
+          there (x, (r, (n, (is, (missing, told))))) = at_undefined.0 (x, (r, (n, (is, (lacks n (under n d.fragments) refl missing, told)))))
+
+          here : UndefinedFragmentAt d f o → UndefinedFragmentAt Else f o
+          here h = let k = at_undefined.1 h in (k.0, (k.1.0, (k.1.1.0, (k.1.1.1.0, (in'.absent k.1.1.0 k.1.1.1.1.0, k.1.1.1.1.1)))))
+
+    -- InvalidFragmentTarget
+    pub same_targets : (f : PlacedFault) → InvalidFragmentTargetAt (judged s) Else o f ↔ InvalidFragmentTargetAt (judged s) d o f
+    same_targets f =
+        let named = at_all_fragments s d instead in' o (λ g. IsNotComposite (judged s) g.type_condition.it × (f ≡ wrong g.place (InvalidFragmentTarget (Some g.name.it) g.type_condition.it))) (λ g. refl) in
+        let inlined = at_all s d instead in' o (λ e. Present (inline_condition e.1) (λ c. IsNotComposite (judged s) c × (f ≡ wrong (selection_place e.1) (InvalidFragmentTarget None c))))
+        (λ x l h. never_condition (λ c. IsNotComposite (judged s) c × (f ≡ wrong (selection_place x.it) (InvalidFragmentTarget None c))) x l h) in (
+          λ h. elim h [ inl u ↦ inl (named.0 u) | inr u ↦ inr (inlined.0 u) ],
+          λ h. elim h [ inl u ↦ inl (named.1 u) | inr u ↦ inr (inlined.1 u) ],
+        )
+
+    -- InvalidFragmentSpread
+    module _ (f : PlacedFault) where
+      -- a spread of a fragment on this condition, at this place, is told
+      abbrev Told : List ℕ → Member Place → Text Place × Place → Type 0
+      Told n e g = (MayApply (judged s) e.0 g.0.it → ⊥) × (f ≡ wrong (selection_place e.1) (InvalidFragmentSpread (Some n) e.0 g.0.it g.1 ((places_in s).at (TypeAt e.0))))
+
+      abbrev ToldNamed : Entries (MeantFragment Place) → Member Place → List ℕ → Type 0
+      ToldNamed fragments e n = Present (under n fragments) (λ g. Told n e (g.type_condition, g.place))
+
+      abbrev ToldInline : Member Place → List ℕ → Type 0
+      ToldInline e c = (MayApply (judged s) e.0 c → ⊥) × (f ≡ wrong (selection_place e.1) (InvalidFragmentSpread None e.0 c (selection_place e.1) ((places_in s).at (TypeAt e.0))))
+
+      abbrev Both : Entries (MeantFragment Place) → Member Place → Type 0
+      Both fragments e = Present (spread_name e.1) (ToldNamed fragments e) ⊎ Present (inline_condition e.1) (ToldInline e)
+
+      at_spreads : AtReached Else o (λ x. Both d.fragments (member x)) ↔ AtReached d o (λ x. Both d.fragments (member x))
+      at_spreads = at_all s d instead in' o (Both d.fragments) (λ x l h. elim h [ inl u ↦ never_spread (ToldNamed d.fragments (member x)) x l u | inr u ↦ never_condition (ToldInline (member x)) x l u ])
+
+      abbrev head : MeantFragment Place → Text Place × Place
+      head g = (g.type_condition, g.place)
+
+      heads : (h g : MeantFragment Place) → StandsInFor s h g → head h ≡ head g
+      heads h g i = ap head i.0
+
+      told : (e : Member Place) → Both instead e → Both d.fragments e
+      told e (inl (n, (is, (h, (named, broken))))) =
+          let g = stood_for s d instead in' n h named in
+          inl (n, (is, (g.0, (g.1.0, subst (Told n e) (heads h g.0 g.1.1) broken))))
+      told e (inr h) = inr h
+
+      back : (e : Member Place) → Both d.fragments e → Both instead e
+      back e (inl (n, (is, (g, (named, broken))))) =
+          let i = in'.there n g named in
+          inl (n, (is, (i.0, (i.1.0, subst (Told n e) (sym (heads i.0 g i.1.1)) broken))))
+      back e (inr h) = inr h
+
+      pub same_spreads : InvalidFragmentSpreadAt (judged s) Else o f (places_in s) ↔ InvalidFragmentSpreadAt (judged s) d o f (places_in s)
+      same_spreads = (
+        λ h. at_spreads.0 (h.0, (h.1.0, told (member h.0) h.1.1)),
+        λ h. let k = at_spreads.1 h in (k.0, (k.1.0, back (member k.0) k.1.1)),
+      )
+
+    module _ (typed : ReachesTyped (meanings (plain s)) d o) where
+      -- what variables are used
+      module _ (n : List ℕ) where
+        abbrev Given : StandingField Place → Type 0
+        Given f = StandsInArguments n f.head.arguments
+
+        -- wherever it stands
+        abbrev Stands : Member Place → Type 0
+        Stands e = StandsInSelection n (at (InOperation None) e)
+
+        into : (x : Standing Place) → StandsInSelection n x → Stands (member x)
+        into x (inl h) = inl h
+        into x (inr h) = inr (bare Given (λ f. refl) x.position x.parent x.it h)
+
+        out : (x : Standing Place) → Stands (member x) → StandsInSelection n x
+        out x (inl h) = inl h
+        out x (inr h) = inr (placed Given (λ f. refl) x.position x.parent x.it h)
+
+        at_selections : AtReached Else o (λ x. Stands (member x)) ↔ AtReached d o (λ x. Stands (member x))
+        at_selections = at_all s d instead in' o Stands (λ x l h. uses_none s d instead in' o typed n x l (out x h))
+
+        pub same_uses : IsUsedIn n Else o ↔ IsUsedIn n d o
+        same_uses =
+            let named = at_all_fragments s d instead in' o (λ f. StandsInDirectives n f.directives) (λ g. refl) in (
+              λ h. elim h [
+                | inl u ↦ inl u
+                | inr h ↦ elim h [
+                  | inl u ↦ let k = at_selections.0 (u.0, (u.1.0, into u.0 u.1.1)) in inr (inl (k.0, (k.1.0, out k.0 k.1.1)))
+                  | inr u ↦ inr (inr (named.0 u))
+                ]
+              ],
+              λ h. elim h [
+                | inl u ↦ inl u
+                | inr h ↦ elim h [
+                  | inl u ↦ let k = at_selections.1 (u.0, (u.1.0, into u.0 u.1.1)) in inr (inl (k.0, (k.1.0, out k.0 k.1.1)))
+                  | inr u ↦ inr (inr (named.1 u))
+                ]
+              ],
+            )
+
+      -- the rules on variables
+      pub same_variables : (f : PlacedFault) → VariablesBreak (places_in s) (judged s) Else o f ↔ VariablesBreak (places_in s) (judged s) d o f
+      same_variables f = (there, here)
+        where
+          there : VariablesBreak (places_in s) (judged s) Else o f → VariablesBreak (places_in s) (judged s) d o f
+          there (inl h) = inl h
+          there (inr (inl h)) = inr (inl h)
+          there (inr (inr (inl (i, (x, (at, (unused, h))))))) = inr (inr (inl (i, (x, (at, ((λ u. unused ((same_uses (defined_name x)).1 u)), h))))))
+          there (inr (inr (inr h))) = inr (inr (inr h))
+
+          here : VariablesBreak (places_in s) (judged s) d o f → VariablesBreak (places_in s) (judged s) Else o f
+          here (inl h) = inl h
+          here (inr (inl h)) = inr (inl h)
+          here (inr (inr (inl (i, (x, (at, (unused, h))))))) = inr (inr (inl (i, (x, (at, ((λ u. unused ((same_uses (defined_name x)).0 u)), h))))))
+          here (inr (inr (inr h))) = inr (inr (inr h))
+
+      -- the rules on selections
+      module _ (f : PlacedFault) where
+        -- the directives of a selection, of a fragment break a rule
+        abbrev Used : Member Place → Type 0
+        Used e = UsesBreak (places_in s).at (judged s) o.variables (selection_location e.1) (selection_directives e.1) f
+
+        abbrev UsedIn : MeantFragment Place → Type 0
+        UsedIn g = UsesBreak (places_in s).at (judged s) o.variables location.FragmentDefinition g.directives f
+
+        at_missing : AtReachedField Else o (λ t. MissesSubselection s t f) ↔ AtReachedField d o (λ t. MissesSubselection s t f)
+        at_missing = at_all_fields s d instead in' o (λ t. MissesSubselection s t f) (λ t. refl) (λ x l h. misses_none s d instead in' o typed x l f h)
+
+        at_arguments : AtReachedField Else o (λ t. ArgumentsOfBreak s o.variables t f) ↔ AtReachedField d o (λ t. ArgumentsOfBreak s o.variables t f)
+        at_arguments = at_all_fields s d instead in' o (λ t. ArgumentsOfBreak s o.variables t f) (λ t. refl) (λ x l h. takes_well s d instead in' o typed o.variables x l f h)
+
+        at_uses : AtReached Else o (λ x. Used (member x)) ↔ AtReached d o (λ x. Used (member x))
+        at_uses = at_all s d instead in' o Used (λ x l h. uses_well s d instead in' o typed o.variables x l f h)
+
+        at_fragments : AtReachedFragment Else o UsedIn ↔ AtReachedFragment d o UsedIn
+        at_fragments = at_all_fragments s d instead in' o UsedIn (λ g. refl)
+
+        pub same_selections : SelectionsBreak (places_in s) (judged s) Else o f ↔ SelectionsBreak (places_in s) (judged s) d o f
+        same_selections = (there, here)
+          where
+            there : SelectionsBreak (places_in s) (judged s) Else o f → SelectionsBreak (places_in s) (judged s) d o f
+            there (inl h) = inl (at_missing.0 h)
+            there (inr (inl h)) = inr (inl (at_arguments.0 h))
+            there (inr (inr (inl h))) = inr (inr (inl h))
+            there (inr (inr (inr (inl h)))) = inr (inr (inr (inl (at_uses.0 h))))
+            there (inr (inr (inr (inr h)))) = inr (inr (inr (inr (at_fragments.0 h))))
+
+            here : SelectionsBreak (places_in s) (judged s) d o f → SelectionsBreak (places_in s) (judged s) Else o f
+            here (inl h) = inl (at_missing.1 h)
+            here (inr (inl h)) = inr (inl (at_arguments.1 h))
+            here (inr (inr (inl h))) = inr (inr (inl h))
+            here (inr (inr (inr (inl h)))) = inr (inr (inr (inl (at_uses.1 h))))
+            here (inr (inr (inr (inr h)))) = inr (inr (inr (inr (at_fragments.1 h))))

@@ -1,0 +1,10 @@
+use Rattle.std.proofs.Common.{map, take}
+use Rattle.graphql_names.specs.Placed.{name_tree}
+use Rattle.graphql_schema.specs.SchemaOf.{schema_tree}
+use Rattle.document_typed_selections.specs.TypedTree.{typed_selection_tree, typed_set_tree}
+use Rattle.document_meaning.specs.MeantTree.{meant}
+use Rattle.rule_selections.proofs.Thinning.{IsLeft}
+use Rattle.rule_selections.proofs.settled.unsettled.Given as goal
+
+abbrev pub invariant-loop-selection : goal.invariant-loop-selection
+invariant-loop-selection l = IsLeft (schema_tree l.schema) (name_tree l.set.ty) (map (λ x. (l.set.ty.text, meant (typed_selection_tree x))) (take l.selection-index l.selection-items)) (typed_set_tree l.kept)

@@ -1,0 +1,100 @@
+//! What replaces the fragments of a document, so that what its operations share is judged once.
+ghost use Rattle.std.specs.Prelude.{IfOk, OnOk, unwrap_or};
+ghost use Rattle.graphql_schema.specs.SchemaOf.{schema_tree};
+ghost use Rattle.document_typed_selections.specs.TypedTree.{typed_selection_tree, typed_set_tree};
+ghost use Rattle.document_typing.specs.DocumentView.{document_meant};
+ghost use Rattle.rule_document_ground.specs.Reach.{meant_fragments};
+ghost use Rattle.rule_selections.specs.Settled.{fragment_meant, KeepsUnlessQuiet, LeavesOf, StandsInFor, StandIn};
+
+use crate::quiet::is_quiet;
+use document_typed_operations::{ExecutableDocument, Fragment, FragmentMap};
+use document_typed_selections::{Selection, SelectionSet};
+use graphql_names::{Name, Node};
+use rule_values::Schema;
+use std::alloc::{AllocError, Global};
+use tree_literals::NamedType;
+
+/// Puts a selection of a set on that type last, unless nothing is told of it.
+fn keep_unless_quiet(
+    alloc: Global,
+    schema: &Schema,
+    ty: &NamedType,
+    selection: &Selection,
+    kept: &mut SelectionSet,
+) -> Result<(), AllocError>
+    ensures { OnOk result (KeepsUnlessQuiet (schema_tree schema.now) ty.now.text (typed_selection_tree selection.now) (typed_set_tree kept.old) (typed_set_tree kept.new)) }
+{
+    if !is_quiet(alloc, schema, ty, selection)? {
+        kept.push(selection.clone()?)?;
+    }
+    Ok(())
+}
+
+/// The set without those of its selections of which nothing is told.
+fn unsettled(alloc: Global, schema: &Schema, set: &SelectionSet) -> Result<SelectionSet, AllocError>
+    ensures { IfOk result (λ r. LeavesOf (schema_tree schema.now) (typed_set_tree set.now) (typed_set_tree r)) }
+{
+    let mut kept = SelectionSet::new(alloc, set.ty.clone()?);
+    for selection in &set.selections {
+        keep_unless_quiet(alloc, schema, &set.ty, selection, &mut kept)?;
+    }
+    Ok(kept)
+}
+
+/// The fragment without those of its selections, where it stands.
+fn thinned(
+    alloc: Global,
+    schema: &Schema,
+    fragment: &Node<Fragment>,
+) -> Result<Node<Fragment>, AllocError>
+    ensures { IfOk result (λ r. StandsInFor (schema_tree schema.now) (fragment_meant r) (fragment_meant fragment.now)) }
+{
+    let own = fragment.content();
+    let name = own.name.clone()?;
+    let directives = own.directives.clone()?;
+    let selection_set = unsettled(alloc, schema, &own.selection_set)?;
+    let thin = Fragment {
+        name,
+        directives,
+        selection_set,
+    };
+    Ok(fragment.same_location(alloc, thin)?)
+}
+
+/// Puts the fragment of that name, without those of its selections, in its place.
+fn settle(
+    schema: &Schema,
+    fragments: &FragmentMap,
+    name: &Name,
+    instead: &mut FragmentMap,
+) -> Result<(), AllocError>
+    ensures { OnOk result (StandIn (schema_tree schema.now) (meant_fragments fragments.now) (meant_fragments instead.old) → StandIn (schema_tree schema.now) (meant_fragments fragments.now) (meant_fragments instead.new)) }
+{
+    let Some(fragment) = fragments.get(name) else {
+        return Ok(());
+    };
+    let alloc = *instead.allocator();
+    let name = name.clone()?;
+    instead.insert(name, thinned(alloc, schema, fragment)?)?;
+    Ok(())
+}
+
+/// What replaces the fragments of a document under a schema, if it has several operations, so that what they share is judged
+/// once: each fragment without those of its selections that break no rule whatever the variables, and enter no fragment on a
+/// type of its own. Fails where memory is refused.
+pub fn settled_fragments(
+    alloc: Global,
+    schema: &Schema,
+    document: &ExecutableDocument,
+) -> Result<Option<FragmentMap>, AllocError>
+    ensures { IfOk result (λ r. StandIn (schema_tree schema.now) (document_meant document.now).fragments (meant_fragments (unwrap_or r document.now.fragments))) }
+{
+    if document.operations.len() < 2 {
+        return Ok(None);
+    }
+    let mut instead = document.fragments.clone()?;
+    for (name, _) in &document.fragments {
+        settle(schema, &document.fragments, name, &mut instead)?;
+    }
+    Ok(Some(instead))
+}

@@ -1,0 +1,2 @@
+pub mod MemberEquality
+pub use Rattle.graphql_values.proofs as in_values

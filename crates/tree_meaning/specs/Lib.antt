@@ -1,0 +1,2 @@
+pub mod DefinitionTree
+pub mod Queries

@@ -1,0 +1,5 @@
+//! What definitions are, as plain trees, and what can be asked of them: no code.
+//!
+//! `specs/DefinitionTree.antt` has the trees, `specs/Queries.antt` what is asked; `tree_definitions` has the enum that they are
+//! seen of, and `schema_types` what schemas keep of them.
+#![tactic(auto)]
