@@ -15,7 +15,6 @@ use std::alloc::{AllocError, Global};
 const NESTING: usize = 500;
 
 /// What the program's words ask for.
-#[derive(Drop)]
 pub struct Settings {
     /// The document's path.
     pub document: String,
@@ -25,6 +24,12 @@ pub struct Settings {
     pub layout: Layout<'static>,
     /// How many brackets may be open at once.
     pub nesting: usize,
+}
+
+impl Drop for Settings {
+    fn drop(self) {
+        let Settings { document: _, schemas: _, layout: _, nesting: _ } = self;
+    }
 }
 
 impl Settings {

@@ -22,12 +22,9 @@ impl ExecutableDocument {
         ensures definitions { IfOk result (λ d. document_tree d ≡ ast_document (typed_document_tree self.now)) }
         ensures sources { IfOk result (λ d. d.sources.entries ≡ []) }
     {
-        let mut definitions = Vec::new(alloc);
-        write_definitions(alloc, self, &mut definitions)?;
-        Ok(Document {
-            definitions,
-            ..Document::new(alloc)
-        })
+        let mut document = Document::new(alloc);
+        write_definitions(alloc, self, &mut document.definitions)?;
+        Ok(document)
     }
 }
 

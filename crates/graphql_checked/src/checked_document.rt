@@ -18,11 +18,16 @@ use std::alloc::AllocError;
 use std::marker::Model;
 
 /// A document that is accepted over a schema: it is read, every rule holds of it, and no bound of brackets or numbers is passed.
-#[derive(Drop)]
 pub struct CheckedDocument<'s> {
     pub(crate) schema: &'s CheckedSchema,
     pub(crate) text: String,
     pub(crate) document: ExecutableDocument,
+}
+
+impl Drop for CheckedDocument<'_> {
+    fn drop(self) {
+        let CheckedDocument { schema: _, text: _, document: _ } = self;
+    }
 }
 
 impl<'s> Model for CheckedDocument<'s> {

@@ -37,7 +37,6 @@ use std::marker::Model;
 use tree_definitions::Document;
 
 /// A schema of texts that are accepted: they are read, every rule holds of them, and no bound of brackets or numbers is passed.
-#[derive(Drop)]
 pub struct CheckedSchema {
     pub(crate) alloc: Global,
     pub(crate) nesting: usize,
@@ -48,6 +47,18 @@ pub struct CheckedSchema {
     pub(crate) written: Document,
     /// The schema over which documents are judged.
     pub(crate) schema: Schema,
+}
+
+impl Drop for CheckedSchema {
+    fn drop(self) {
+        let CheckedSchema {
+            alloc: _,
+            nesting: _,
+            number: _,
+            written: _,
+            schema: _,
+        } = self;
+    }
 }
 
 impl Model for CheckedSchema {

@@ -14,9 +14,14 @@ use std::marker::Model;
 /// What is told of faults, in the order of texts and places, those without a place first.
 ///
 /// A contract sees it as its entries.
-#[derive(Drop)]
 pub struct Report {
     entries: Vec<Entry>,
+}
+
+impl Drop for Report {
+    fn drop(self) {
+        let Report { entries: _ } = self;
+    }
 }
 
 impl Model for Report {

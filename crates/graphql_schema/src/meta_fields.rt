@@ -14,11 +14,16 @@ use std::marker::Model;
 use tree_type_members::FieldDefinition;
 
 /// The definitions of `__typename`, `__schema` and `__type` (sections 4.1 and 4.2).
-#[derive(Drop)]
 pub(crate) struct MetaFields {
     typename: Component<FieldDefinition>,
     schema: Component<FieldDefinition>,
     type_by_name: Component<FieldDefinition>,
+}
+
+impl Drop for MetaFields {
+    fn drop(self) {
+        let MetaFields { typename: _, schema: _, type_by_name: _ } = self;
+    }
 }
 
 /// Contracts see nothing of them: they are the same in each schema.

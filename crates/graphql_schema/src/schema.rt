@@ -15,7 +15,6 @@ use tree_operations::OperationType;
 /// A schema (section 3): its schema definition, and its directive definitions and types under their names, in order;
 /// and the texts that it was read from, by the numbers of their files. It holds the definitions of the meta-fields too,
 /// which are the same in each schema. Equality ignores these, the texts, places, origins and the order of what has names.
-#[derive(Drop)]
 #[derive_where(PartialEq, Eq)]
 pub struct Schema {
     #[derive_where(skip)]
@@ -25,6 +24,18 @@ pub struct Schema {
     pub types: IndexMap<Name, ExtendedType>,
     #[derive_where(skip)]
     pub(crate) meta_fields: MetaFields,
+}
+
+impl Drop for Schema {
+    fn drop(self) {
+        let Schema {
+            sources: _,
+            schema_definition: _,
+            directive_definitions: _,
+            types: _,
+            meta_fields: _,
+        } = self;
+    }
 }
 
 impl Schema {

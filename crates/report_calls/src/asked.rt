@@ -9,12 +9,17 @@ use serde_json::Value;
 use std::alloc::{AllocError, Global};
 
 /// A document that a line asks for.
-#[derive(Drop)]
 pub struct Request {
     /// What the answer is known by, as JSON.
     pub id: String,
     /// The document's text.
     pub document: String,
+}
+
+impl Drop for Request {
+    fn drop(self) {
+        let Request { id: _, document: _ } = self;
+    }
 }
 
 /// What the line asks for: it is a JSON object with an `id`, which is a text or a whole number, and a text `document`. None

@@ -17,7 +17,6 @@ pub enum Format {
 }
 
 /// What the program's words ask for.
-#[derive(Drop)]
 pub struct Settings {
     /// How faults are told.
     pub format: Format,
@@ -31,6 +30,19 @@ pub struct Settings {
     pub documents: Vec<String>,
     /// Whether documents come as lines of standard input.
     pub batch: bool,
+}
+
+impl Drop for Settings {
+    fn drop(self) {
+        let Settings {
+            format: _,
+            nesting: _,
+            max_faults: _,
+            schemas: _,
+            documents: _,
+            batch: _,
+        } = self;
+    }
 }
 
 impl Settings {

@@ -16,7 +16,6 @@ pub struct Place {
 }
 
 /// The line in which a fault begins, or a part of it where it is long.
-#[derive(Drop)]
 pub struct Excerpt {
     /// What stands before the place.
     pub before: String,
@@ -26,8 +25,13 @@ pub struct Excerpt {
     pub after: String,
 }
 
+impl Drop for Excerpt {
+    fn drop(self) {
+        let Excerpt { before: _, marked: _, after: _ } = self;
+    }
+}
+
 /// Another place that belongs to a fault.
-#[derive(Drop)]
 pub struct Related {
     /// The text, as the caller names it.
     pub path: String,
@@ -37,16 +41,26 @@ pub struct Related {
     pub words: String,
 }
 
+impl Drop for Related {
+    fn drop(self) {
+        let Related { path: _, start: _, words: _ } = self;
+    }
+}
+
 /// A name or a text that belongs to a fault.
-#[derive(Drop)]
 pub struct Field {
     /// What it is, as `field_name`.
     pub name: &'static str,
     pub value: String,
 }
 
+impl Drop for Field {
+    fn drop(self) {
+        let Field { name: _, value: _ } = self;
+    }
+}
+
 /// What is told of a fault.
-#[derive(Drop)]
 pub struct Entry {
     /// The text, as the caller names it.
     pub path: String,
@@ -64,4 +78,19 @@ pub struct Entry {
     pub hint: Option<String>,
     /// The data of the fault.
     pub fields: Vec<Field>,
+}
+
+impl Drop for Entry {
+    fn drop(self) {
+        let Entry {
+            path: _,
+            place: _,
+            rule: _,
+            message: _,
+            excerpt: _,
+            related: _,
+            hint: _,
+            fields: _,
+        } = self;
+    }
 }

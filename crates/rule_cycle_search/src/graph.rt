@@ -4,7 +4,6 @@ ghost use Rattle.rule_cycle_search.specs.Graph.{listed};
 
 /// What nodes refer to, by number. Those of the first kind come first, then those of the other; the first ones are also
 /// judged, they are the roots.
-#[derive(Drop)]
 pub struct Graph {
     pub references: Vec<Vec<usize>>,
     /// How many nodes are of the first kind: nodes of a kind are counted by themselves.
@@ -12,6 +11,12 @@ pub struct Graph {
     pub roots: usize,
     /// The most nodes of a kind on a way.
     pub bound: u32,
+}
+
+impl Drop for Graph {
+    fn drop(self) {
+        let Graph { references: _, first_kind: _, roots: _, bound: _ } = self;
+    }
 }
 
 /// What is listed at a number, nothing where there is no list.

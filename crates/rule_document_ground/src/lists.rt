@@ -7,8 +7,13 @@ use tree_literals::NamedType;
 
 /// What a selection set reaches in a document (sections 2.8 and 5.5.2): each selection with the name of the type of the set
 /// in which it stands, and each fragment that is spread, in the order of the walk.
-#[derive(Drop)]
 pub struct Reach<'doc> {
     pub selections: Vec<(&'doc NamedType, &'doc Selection)>,
     pub fragments: Vec<&'doc Node<Fragment>>,
+}
+
+impl Drop for Reach<'_> {
+    fn drop(self) {
+        let Reach { selections: _, fragments: _ } = self;
+    }
 }

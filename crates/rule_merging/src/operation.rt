@@ -17,11 +17,16 @@ use rule_field_groups::{Breach, Pass, SelectedSet};
 use std::alloc::{AllocError, Global};
 
 /// What was examined in each pass, over all operations so far, and how often shapes were compared.
-#[derive(Drop)]
 pub struct Examined<'doc> {
     pub(crate) shapes: Remembered<'doc>,
     pub(crate) selections: Remembered<'doc>,
     pub(crate) comparisons: u128,
+}
+
+impl Drop for Examined<'_> {
+    fn drop(self) {
+        let Examined { shapes: _, selections: _, comparisons: _ } = self;
+    }
 }
 
 impl<'doc> Examined<'doc> {

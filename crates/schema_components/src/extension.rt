@@ -41,9 +41,14 @@ impl ExtensionId {
 /// Gives each number of an extension once, in order.
 ///
 /// A contract sees it as the number that it gives next.
-#[derive(Drop)]
 pub struct Extensions {
     number: u64,
+}
+
+impl Drop for Extensions {
+    fn drop(self) {
+        let Extensions { number: _ } = self;
+    }
 }
 
 impl Model for Extensions {

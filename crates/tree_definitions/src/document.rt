@@ -24,12 +24,17 @@ impl Drop for SourceFile {
 
 /// What was read from texts: its definitions in order (section 2.2), and the texts by the numbers of their
 /// files. Equality and hash read the definitions alone.
-#[derive(Drop)]
 #[derive_where(PartialEq, Eq, Hash)]
 pub struct Document {
     #[derive_where(skip)]
     pub sources: IndexMap<FileId, SourceFile>,
     pub definitions: Vec<Definition>,
+}
+
+impl Drop for Document {
+    fn drop(self) {
+        let Document { sources: _, definitions: _ } = self;
+    }
 }
 
 impl Document {
