@@ -1,5 +1,5 @@
-use Rattle.rule_merging_laws.proofs.Merges.{going_agrees, going_breaks}
-use Rattle.rule_merging_laws.proofs.laws.fields_of_lists_meet.Goals as goal
+use Rattle.rule_document_definitions.proofs.Merges.{going_agrees, going_breaks}
+use Rattle.rule_document_definitions.proofs.laws.fields_of_lists_meet.Goals as goal
 
 pub returns-clause-agree : goal.returns-clause-agree
 returns-clause-agree c = going_agrees

@@ -10,8 +10,8 @@ use Rattle.rule_document_definitions.specs.Merging.{Below, Starts}
 use Rattle.rule_document_definitions.specs.Contents.{content, ContentBelow, ContentStarts, unplaced_content}
 use Rattle.rule_document_definitions.proofs.Unplaced.{unplaced_field, field_of_map, field_of_unmap, contains_map, contains_unmap}
 use Rattle.rule_document_definitions.proofs.MergingUnplaced.{given_same}
-use Rattle.rule_merging_laws.specs.Contents.{PlainField, PlainBelow, PlainStarts, IsSelected}
-use Rattle.rule_merging_laws.proofs.Elsewhere.{below_content, content_below, starts_content, content_starts}
+use Rattle.rule_document_definitions.specs.PlainFields.{PlainField, PlainBelow, PlainStarts, IsSelected}
+use Rattle.rule_document_definitions.proofs.Elsewhere.{below_content, content_below, starts_content, content_starts}
 
 -- what is given is the same without places
 pub arguments_plain : {P : Type 0} (a b : Arguments P) → SameArguments a b → SameArguments (unplaced_arguments a) (unplaced_arguments b)

@@ -1,7 +1,7 @@
 -- Chains lead to what starts, and from a list to what lies below its groups.
 use Rattle.std.proofs.Common.{◌+◌, ℕ, List, [], ◌∷◌, ◌++◌, Contains, refl, ap, ◌∙◌, length-append}
 use Rattle.rule_document_definitions.specs.Chains.{Chain, GoTogether, Merge}
-use Rattle.rule_merging_laws.specs.Going.{LiesBelow, IsEndOf, IsGoing}
+use Rattle.rule_document_definitions.specs.Going.{LiesBelow, IsEndOf, IsGoing}
 
 module _ {F : Type 0} (Below : F → F → Type 0) where
   -- a chain goes on

@@ -9,9 +9,9 @@ use Rattle.rule_document_definitions.specs.Selected.{StandingField, response_key
 use Rattle.rule_document_definitions.specs.Merging.{FieldsMerge, SameKey, SameShape, MayShare, SameName, SameArgument, SameNameAndArguments, telling, telling_argument, MergingBreaks}
 use Rattle.rule_document_definitions.specs.Contents.{ContentBelow, ContentStarts}
 use Rattle.rule_document_definitions.specs.Limits.{chain_bound, PassesChainBound}
-use Rattle.rule_merging_laws.specs.Settled.{StandWhere, HasStart, StartsStand}
-use Rattle.rule_merging_laws.specs.Going.{IsEndOf}
-use Rattle.rule_merging_laws.specs.Contents.{PlainField, PlainStarts, AreShapesSettled, AreSelectionsSettled, AreShapesStanding, AreSelectionsStanding, IsGoingByKeys, IsGoingByParents}
+use Rattle.rule_document_definitions.specs.Settled.{StandWhere, HasStart, StartsStand}
+use Rattle.rule_document_definitions.specs.Going.{IsEndOf}
+use Rattle.rule_document_definitions.specs.PlainFields.{PlainField, PlainStarts, AreShapesSettled, AreSelectionsSettled, AreShapesStanding, AreSelectionsStanding, IsGoingByKeys, IsGoingByParents}
 
 -- where lists of contents are settled and one of each kind has all that starts, the fields merge
 abbrev pub SettledFieldsMerge : Type 0

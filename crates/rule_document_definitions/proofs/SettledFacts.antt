@@ -4,7 +4,7 @@ use Rattle.std.proofs.lemmas.List.Elements.{All-contains, All-from_recursion}
 use Rattle.rule_definitions.proofs.Lists.{not_in_nil}
 use Rattle.rule_document_definitions.specs.Chains.{Chain, GoTogether, Merge}
 use Rattle.rule_document_definitions.specs.Groups.{AgreeWithHead}
-use Rattle.rule_merging_laws.specs.Settled.{StandIn, HasStart, StartsStand, IsSettledIn, IsUnderWay, IsSettled}
+use Rattle.rule_document_definitions.specs.Settled.{StandIn, HasStart, StartsStand, IsSettledIn, IsUnderWay, IsSettled}
 
 module _ {F : Type 0} (Below Together Agree : F → F → Type 0) where
   -- ---- what is settled merges

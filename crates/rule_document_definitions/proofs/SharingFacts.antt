@@ -4,7 +4,7 @@ use Rattle.rule_definitions.specs.Judged.{Judged}
 use Rattle.rule_document_definitions.specs.Selected.{StandingField}
 use Rattle.rule_document_definitions.specs.Groups.{AreGroups}
 use Rattle.rule_document_definitions.specs.Merging.{SameKey, MayShare, IsAbstract}
-use Rattle.rule_merging_laws.specs.Sharing.{AreKeyGroups, IsOn, AreShareGroups}
+use Rattle.rule_document_definitions.specs.Sharing.{AreKeyGroups, IsOn, AreShareGroups}
 
 module _ {P : Type 0} (list : List (StandingField P)) (groups : List (List (StandingField P))) where
   -- groups of keys are groups of fields that have one key

@@ -14,11 +14,11 @@ use Rattle.rule_document_definitions.specs.Limits.{chain_bound}
 use Rattle.rule_document_definitions.proofs.Along.{chain_up, meet_up}
 use Rattle.rule_document_definitions.proofs.ContentFacts.{contents_merge}
 use Rattle.rule_document_definitions.proofs.Same.{merges_by_contents}
-use Rattle.rule_merging_laws.specs.Contents.{PlainBelow, PlainStarts, IsGoingByKeys, IsGoingByParents}
-use Rattle.rule_merging_laws.specs.Settled.{StandWhere}
-use Rattle.rule_merging_laws.specs.Laws.{SettledFieldsMerge, StandingFieldsMerge, GoingFieldsAgree, GoingFieldsBreak, LongChainsPassTheBound}
-use Rattle.rule_merging_laws.proofs.SettledFacts.{standing_merge, settled_merge}
-use Rattle.rule_merging_laws.proofs.Elsewhere.{content_below, content_starts}
+use Rattle.rule_document_definitions.specs.PlainFields.{PlainBelow, PlainStarts, IsGoingByKeys, IsGoingByParents}
+use Rattle.rule_document_definitions.specs.Settled.{StandWhere}
+use Rattle.rule_document_definitions.specs.MergingLaws.{SettledFieldsMerge, StandingFieldsMerge, GoingFieldsAgree, GoingFieldsBreak, LongChainsPassTheBound}
+use Rattle.rule_document_definitions.proofs.SettledFacts.{standing_merge, settled_merge}
+use Rattle.rule_document_definitions.proofs.Elsewhere.{content_below, content_starts}
 
 -- fields merge where lists of contents are settled that have all that starts
 pub fields_merge : SettledFieldsMerge

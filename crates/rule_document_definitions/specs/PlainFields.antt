@@ -7,8 +7,8 @@ use Rattle.rule_document_definitions.specs.Selected.{InOperation, StandingField}
 use Rattle.rule_document_definitions.specs.Reached.{IsFieldOf}
 use Rattle.rule_document_definitions.specs.Merging.{SameKey, SameShape, MayShare, SameNameAndArguments}
 use Rattle.rule_document_definitions.specs.Contents.{content, ContentBelow, ContentStarts}
-use Rattle.rule_merging_laws.specs.Settled.{IsSettledIn, IsSettled}
-use Rattle.rule_merging_laws.specs.Going.{IsGoing}
+use Rattle.rule_document_definitions.specs.Settled.{IsSettledIn, IsSettled}
+use Rattle.rule_document_definitions.specs.Going.{IsGoing}
 
 -- a field, with nothing told of where it stands
 abbrev pub PlainField : Type 0
