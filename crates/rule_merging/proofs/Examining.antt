@@ -23,7 +23,7 @@ use Rattle.rule_field_groups.specs.in_ground.Fields.{field_of, fields_of}
 use Rattle.rule_field_groups.specs.in_ground.declared.field_selection.FieldSelection.{FieldSelection}
 use Rattle.rule_document_definitions.specs.PlainFields.{PlainField, PlainSet, PlainBelow, PlainStarts, IsSelected}
 use Rattle.rule_document_definitions.specs.Settled.{StandIn, StartsStand, IsUnderWay}
-use Rattle.rule_field_sets.specs.Paired.{IsPairDone}
+use Rattle.rule_field_groups.specs.Paired.{IsPairDone}
 use Rattle.rule_document_definitions.specs.Going.{IsEndOf, IsGoing}
 use Rattle.rule_document_definitions.proofs.SettledFacts.{by_head, begun, moved, ended}
 use Rattle.rule_document_definitions.proofs.GoingFacts.{going_start, going_below, end_start, end_below}

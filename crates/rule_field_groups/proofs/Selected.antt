@@ -26,9 +26,9 @@ use Rattle.rule_document_definitions.specs.Selected.{InOperation, StandingField,
 use Rattle.rule_document_ground.specs.Fields.{meant_fragments}
 use Rattle.rule_document_ground.specs.Lent.{field_lent}
 use Rattle.rule_document_ground.proofs.Found.{meant_node, found_under}
-use Rattle.rule_field_sets.specs.Own.{own_fields, spread_set, spread_sets}
-use Rattle.rule_field_sets.specs.Laws.{meant_spread}
-use Rattle.rule_field_sets.specs.declared.own.SpreadSet.{SpreadSet}
+use Rattle.rule_field_groups.specs.Own.{own_fields, spread_set, spread_sets}
+use Rattle.rule_field_groups.specs.Laws.{meant_spread}
+use Rattle.rule_field_groups.specs.declared.own.SpreadSet.{SpreadSet}
 
 abbrev Layer : Type 0
 Layer = Selection-F Selection Field InlineFragment SelectionSet

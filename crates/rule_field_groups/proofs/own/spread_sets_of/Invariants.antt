@@ -1,8 +1,8 @@
 use Rattle.std.proofs.Common.{◌≡◌, take}
 use Rattle.std.specs.Prelude.{flat_map}
-use Rattle.rule_field_sets.specs.Laws.{meant_spread}
-use Rattle.rule_field_sets.proofs.Selected.{spread_part}
-use Rattle.rule_field_sets.proofs.own.spread_sets_of.Given as goal
+use Rattle.rule_field_groups.specs.Laws.{meant_spread}
+use Rattle.rule_field_groups.proofs.Selected.{spread_part}
+use Rattle.rule_field_groups.proofs.own.spread_sets_of.Given as goal
 
 abbrev pub invariant-loop-selection : goal.invariant-loop-selection
 invariant-loop-selection l = record {

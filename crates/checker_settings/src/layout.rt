@@ -4,7 +4,7 @@ ghost use Rattle.std.specs.Prelude.{◌≡◌, IfOk, string_bytes};
 ghost use Rattle.tree_definitions.specs.DefinitionTree.{document_tree};
 ghost use Rattle.tree_definitions.specs.DocumentLayout.{document_text};
 ghost use Rattle.tree_printing.specs.StringLayout.{is_blank};
-ghost use Rattle.checker_layouts.specs.Layouts.{prefix_of};
+ghost use Rattle.checker_settings.specs.Layouts.{prefix_of};
 
 use std::alloc::{AllocError, Global};
 use tree_definitions::Document;

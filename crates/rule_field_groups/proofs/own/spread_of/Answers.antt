@@ -4,9 +4,9 @@ use Rattle.document_typed_selections.specs.declared.selection.InlineFragment.{In
 use Rattle.document_typed_selections.specs.declared.selection.Selection.TheOpen.{InlineFragment as InlineOf}
 use Rattle.document_typed_selections.specs.declared.selection.Selection.TheViews.{out-Selection, outs-InlineFragment}
 use Rattle.document_typed_operations.specs.declared.operation.Fragment.{Fragment}
-use Rattle.rule_field_sets.specs.declared.own.SpreadSet.{SpreadSet}
-use Rattle.rule_field_sets.proofs.Selected.{meant_value, field_part, named_by, inline_part}
-use Rattle.rule_field_sets.proofs.own.spread_of.Goals as goal
+use Rattle.rule_field_groups.specs.declared.own.SpreadSet.{SpreadSet}
+use Rattle.rule_field_groups.proofs.Selected.{meant_value, field_part, named_by, inline_part}
+use Rattle.rule_field_groups.proofs.own.spread_of.Goals as goal
 
 pub returns-in-Field : goal.returns-in-Field
 unfolding out-Selection denote.Hole.Carrier.out

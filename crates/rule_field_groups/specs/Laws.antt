@@ -7,8 +7,8 @@ use Rattle.document_meaning.specs.MeantTree.{MeantSet, MeantFragment, MeantDocum
 use Rattle.rule_document_definitions.specs.Selected.{Position, StandingField}
 use Rattle.rule_document_definitions.specs.Reached.{IsFieldOf}
 use Rattle.rule_document_definitions.specs.Contents.{content}
-use Rattle.rule_field_sets.specs.Own.{own_fields, IsSpreadFrom}
-use Rattle.rule_field_sets.specs.declared.own.SpreadSet.{SpreadSet}
+use Rattle.rule_field_groups.specs.Own.{own_fields, IsSpreadFrom}
+use Rattle.rule_field_groups.specs.declared.own.SpreadSet.{SpreadSet}
 
 -- what sets mean that are spread
 abbrev pub meant_spread : List SpreadSet → List (MeantSet Place)

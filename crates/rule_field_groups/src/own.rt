@@ -5,8 +5,8 @@ ghost use Rattle.document_typed_selections.specs.TypedTree.{typed_selection_tree
 ghost use Rattle.document_meaning.specs.MeantTree.{meant, meant_of_set};
 ghost use Rattle.rule_document_ground.specs.Fields.{fields_of, meant_fragments};
 ghost use Rattle.rule_document_ground.specs.Lent.{field_lent};
-ghost use Rattle.rule_field_sets.specs.Own.{own_fields, spread_set, spread_sets};
-ghost use Rattle.rule_field_sets.specs.Laws.{meant_spread};
+ghost use Rattle.rule_field_groups.specs.Own.{own_fields, spread_set, spread_sets};
+ghost use Rattle.rule_field_groups.specs.Laws.{meant_spread};
 
 use document_typed_operations::FragmentMap;
 use document_typed_selections::{Selection, SelectionSet};

@@ -9,7 +9,7 @@ use Rattle.document_meaning.specs.Unplaced.{unplaced_meant, unplaced_set, unplac
 use Rattle.rule_document_definitions.specs.Selected.{InOperation, Standing, field_there, standing_in}
 use Rattle.rule_document_definitions.specs.Contents.{unplaced_content}
 use Rattle.rule_document_definitions.proofs.Unplaced.{unplaced_standing, standing_same, under_same}
-use Rattle.rule_field_sets.specs.Own.{own_fields, filled, spread_set, spread_sets}
+use Rattle.rule_field_groups.specs.Own.{own_fields, filled, spread_set, spread_sets}
 
 moved_along : {X Y A B : Type 0} (g : X → Y) (h : A → B) (of : X → List A) (on : Y → List B) → ((x : X) → on (g x) ≡ map h (of x)) → (xs : List X) → flat_map on (map g xs) ≡ map h (flat_map of xs)
 moved_along g h of on each [] = refl

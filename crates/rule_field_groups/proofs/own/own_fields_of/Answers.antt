@@ -3,8 +3,8 @@ use Rattle.std.specs.Prelude.{flat_map}
 use Rattle.std.proofs.lemmas.List.{take_all}
 use Rattle.graphql_names.specs.Placed.{name_tree}
 use Rattle.rule_document_ground.specs.Fields.{fields_of}
-use Rattle.rule_field_sets.proofs.Selected.{front_more, own_part, own_all}
-use Rattle.rule_field_sets.proofs.own.own_fields_of.Goals as goal
+use Rattle.rule_field_groups.proofs.Selected.{front_more, own_part, own_all}
+use Rattle.rule_field_groups.proofs.own.own_fields_of.Goals as goal
 
 pub loop-selection-init : goal.loop-selection-init
 loop-selection-init c = record { items = c.deref-selection-items.ensures.value; found = ap fields_of c.new-found.ensures.items }

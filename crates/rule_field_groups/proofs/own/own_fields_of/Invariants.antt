@@ -2,8 +2,8 @@ use Rattle.std.proofs.Common.{◌≡◌, take}
 use Rattle.std.specs.Prelude.{flat_map}
 use Rattle.graphql_names.specs.Placed.{name_tree}
 use Rattle.rule_document_ground.specs.Fields.{fields_of}
-use Rattle.rule_field_sets.proofs.Selected.{own_part}
-use Rattle.rule_field_sets.proofs.own.own_fields_of.Given as goal
+use Rattle.rule_field_groups.proofs.Selected.{own_part}
+use Rattle.rule_field_groups.proofs.own.own_fields_of.Given as goal
 
 abbrev pub invariant-loop-selection : goal.invariant-loop-selection
 invariant-loop-selection l = record {

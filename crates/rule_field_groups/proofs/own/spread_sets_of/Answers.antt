@@ -1,10 +1,10 @@
 use Rattle.std.proofs.Common.{◌≡◌, ◌∙◌, ◌<◌, ◌++◌, ◌∷◌, [], length, take, refl, sym, ap, append-nil, arith}
 use Rattle.std.specs.Prelude.{None, Some, option_map, option_to_list, flat_map}
 use Rattle.std.proofs.lemmas.List.{take_all}
-use Rattle.rule_field_sets.specs.Laws.{meant_spread}
-use Rattle.rule_field_sets.proofs.Selected.{front_more, meant_value, spread_part, spread_all, spread_push}
-use Rattle.rule_field_sets.proofs.own.spread_sets_of.Goals.{in-Some+in_ok-push, in_default}
-use Rattle.rule_field_sets.proofs.own.spread_sets_of.Goals as goal
+use Rattle.rule_field_groups.specs.Laws.{meant_spread}
+use Rattle.rule_field_groups.proofs.Selected.{front_more, meant_value, spread_part, spread_all, spread_push}
+use Rattle.rule_field_groups.proofs.own.spread_sets_of.Goals.{in-Some+in_ok-push, in_default}
+use Rattle.rule_field_groups.proofs.own.spread_sets_of.Goals as goal
 
 pub loop-selection-init : goal.loop-selection-init
 loop-selection-init c = record { items = c.deref-selection-items.ensures.value; found = ap meant_spread c.new-found.ensures.items }

@@ -9,8 +9,8 @@ use Rattle.document_meaning.specs.MeantTree.{MeantSelection, MeantField, MeantSp
 use Rattle.rule_document_definitions.specs.Selected.{Position, InOperation, InFragment, SelectionAt, Standing, StandingField, stand, standing_in, field_there, as_field, fragment_named}
 use Rattle.rule_document_definitions.specs.Reached.{Closed, first, next, InFragmentOf}
 use Rattle.rule_document_definitions.specs.Contents.{content}
-use Rattle.rule_field_sets.specs.Own.{own_fields, spread_set, spread_sets, IsSpreadFrom}
-use Rattle.rule_field_sets.specs.Laws.{HasField, HasOwnField}
+use Rattle.rule_field_groups.specs.Own.{own_fields, spread_set, spread_sets, IsSpreadFrom}
+use Rattle.rule_field_groups.specs.Laws.{HasField, HasOwnField}
 
 none_is : {A B : Type 0} (a : A) → None ≡ Some a → B
 none_is a h = absurd (true≢false (sym (ap is_some h)))
