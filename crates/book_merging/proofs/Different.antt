@@ -10,7 +10,7 @@ use Rattle.rule_document_definitions.specs.Named.{FragmentsFoundByName}
 use Rattle.rule_document_definitions.specs.SameValues.{SameArguments}
 use Rattle.rule_document_definitions.specs.Merging.{Below, Starts, SameKey, MayShare, SameShape, SameName, SameNameAndArguments, FieldsMerge}
 use Rattle.rule_document_definitions.proofs.Positions.{one_reached_field}
-use Rattle.rule_merging_laws.proofs.Reflexive.{shape_refl, selection_refl}
+use Rattle.rule_document_definitions.proofs.Reflexive.{shape_refl, selection_refl}
 use Rattle.book_validity.specs.Words.{Document, Operation, Selection, Field}
 use Rattle.book_validity.specs.FieldSelectionMerging.{IsScalarOrEnum, selection_set, merged_set, IsIn, SameResponseShape, FieldsInSetCanMerge, DoItsFieldsMerge}
 use Rattle.book_merging.specs.OfDifferent.{AreDifferent, EachDifferentPair, SameResponseShapeOfDifferent, FieldsInSetCanMergeOfDifferent, AnySetCanMerge}

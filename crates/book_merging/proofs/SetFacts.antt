@@ -9,7 +9,7 @@ use Rattle.rule_document_definitions.specs.Reached.{Closed, first, next, Reached
 use Rattle.rule_document_definitions.specs.Chains.{Meet}
 use Rattle.rule_document_definitions.specs.Merging.{Below, Starts, SameKey, MayShare}
 use Rattle.rule_document_definitions.proofs.MergingFacts.{chain_ends, closed_within}
-use Rattle.rule_merging_laws.proofs.GoingFacts.{chain_on, together_on}
+use Rattle.rule_document_definitions.proofs.GoingFacts.{chain_on, together_on}
 use Rattle.book_validity.specs.Words.{Document, Operation, Selection, Field}
 use Rattle.book_validity.specs.FieldSelectionMerging.{selection_set, merged_set, IsIn}
 

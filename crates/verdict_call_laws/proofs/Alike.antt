@@ -2,7 +2,7 @@
 use Rattle.std.proofs.Common.{◌≡◌, ◌↔◌, ◌⊎◌, List, Result, Ok, Err, inl, inr, sym, ap, subst, ◌∙◌}
 use Rattle.std.specs.Prelude.{IfOk, IfErr}
 use Rattle.rule_definitions.specs.Laws.{AreEqual}
-use Rattle.verdict_rearranging_laws.specs.Permuting.{IsPermuted}
+use Rattle.verdict_laws.specs.Permuting.{IsPermuted}
 use Rattle.verdict_definitions.specs.Texts.{SourceText, Terms}
 use Rattle.verdict_definitions.specs.Meaning.{schema_at_hand}
 use Rattle.verdict_definitions.specs.Judge.{AreSchemasCertain, IsAccepted, IsCertain, IsDocumentAccepted}
