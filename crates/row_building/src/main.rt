@@ -4,10 +4,13 @@
 #![tactic(auto)]
 
 mod coordinates;
+mod copies;
 mod documents;
+mod extended;
 mod field_sets;
 mod layouts;
 mod lines;
+mod made;
 mod new_fields;
 mod outline;
 mod over_schemas;
@@ -35,14 +38,15 @@ impl Calls for Building {
         match call {
             "print" => Some(&["tree", "input", "layout", "level", "step", "write"]),
             "writable" => Some(&["tree", "input"]),
-            "parse_document" | "parse_type" | "parse_selections" => Some(&["nesting", "input"]),
+            "parse_document" | "parse_type" | "parse_selections" | "argument_by_name" => {
+                Some(&["nesting", "input"])
+            }
             "next_token" => Some(&["input"]),
             "layouts" => Some(&["input", "flat"]),
-            "schema" | "orphans" => Some(&["schema", "first", "adopt", "ignore"]),
+            "schema" | "orphans" | "extended" => Some(&["schema", "first", "adopt", "ignore"]),
             "coordinate" => Some(&["schema", "form", "input"]),
-            "document" | "written" | "fields" | "all_fields" | "root_fields" | "introspection" => {
-                Some(&["schema", "standalone", "document"])
-            }
+            "document" | "written" | "fields" | "all_fields" | "root_fields" | "introspection"
+            | "made" => Some(&["schema", "standalone", "document"]),
             "field_set" | "new_field" => Some(&["schema", "type", "input"]),
             _ => None,
         }
@@ -52,7 +56,7 @@ impl Calls for Building {
         match case.call {
             "print" | "writable" => by_tree(alloc, case, tally),
             "layouts" => by_layouts(alloc, case, tally),
-            "parse_document" | "parse_type" | "parse_selections" | "next_token" => {
+            "parse_document" | "parse_type" | "parse_selections" | "argument_by_name" | "next_token" => {
                 by_read(alloc, case, tally)
             }
             _ => by_schema_texts(alloc, case, tally),

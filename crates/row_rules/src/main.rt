@@ -31,7 +31,7 @@ impl Calls for Judging {
             "rules" | "kept" | "noted" => Some(&["schema", "types"]),
             "value" | "covariant" => Some(&["schema", "type", "input"]),
             "directives" => Some(&["schema", "standalone", "location", "input"]),
-            "arguments" => Some(&["input"]),
+            "arguments" | "never" => Some(&["input"]),
             "usage" => Some(&["schema", "input"]),
             "document" => Some(&["schema", "nesting", "input", "once", "some"]),
             "merging" => Some(&[
@@ -44,7 +44,7 @@ impl Calls for Judging {
     }
 
     fn judge(&self, alloc: Global, case: Case<'_>, tally: &mut Tally) -> Result<(), Problem> {
-        if case.call == "alone" {
+        if case.call == "alone" || case.call == "never" {
             return by_inputs(alloc, case, None, tally);
         }
         match build(alloc, case, &mut tally.answer)? {
