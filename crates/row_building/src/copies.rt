@@ -1,19 +1,13 @@
 //! Copies of trees, and hashes of equal trees.
 
 use graphql_names::Node;
-use std::alloc::{AllocError, Global};
 use std::hash::{DefaultHasher, Hash, Hasher};
 use tree_definitions::{Definition, Document};
-use tree_directives::{Argument, DirectiveList};
+use tree_directives::DirectiveList;
 use tree_operations::{OperationDefinition, Selection};
 
-/// Whether the values are equal, and their hashes.
-pub(crate) fn are_alike<T: PartialEq + Hash>(one: &T, other: &T) -> bool {
-    *one == *other && hash_of(one) == hash_of(other)
-}
-
 /// The hash of a value.
-fn hash_of<T: Hash>(value: &T) -> u64 {
+pub(crate) fn hash_of<T: Hash>(value: &T) -> u64 {
     let mut hasher = DefaultHasher::default();
     value.hash(&mut hasher);
     hasher.finish()
@@ -38,9 +32,9 @@ fn are_copied<T: Clone + PartialEq>(nodes: &[Node<T>]) -> bool {
 }
 
 /// Whether the document's copy equals it, and that of each definition and of what is in it.
-pub(crate) fn document_is_copied(alloc: Global, document: &Document) -> bool {
+pub(crate) fn document_is_copied(document: &Document) -> bool {
     for definition in &document.definitions {
-        if !is_copied(definition) || !content_is_copied(alloc, definition) {
+        if !is_copied(definition) || !content_is_copied(definition) {
             return false;
         }
     }
@@ -48,9 +42,9 @@ pub(crate) fn document_is_copied(alloc: Global, document: &Document) -> bool {
 }
 
 /// Whether the copy of what is in the definition equals that, and so those of its parts.
-fn content_is_copied(alloc: Global, definition: &Definition) -> bool {
+fn content_is_copied(definition: &Definition) -> bool {
     match definition {
-        Definition::OperationDefinition(node) => operation_is_copied(alloc, node.content()),
+        Definition::OperationDefinition(node) => operation_is_copied(node.content()),
         Definition::FragmentDefinition(node) => is_copied(node.content()),
         Definition::DirectiveDefinition(node) => {
             is_copied(node.content()) && are_copied(&node.content().arguments)
@@ -77,21 +71,18 @@ fn content_is_copied(alloc: Global, definition: &Definition) -> bool {
 }
 
 /// Whether the operation's copy equals it, and those of its variables, directives and selections.
-fn operation_is_copied(alloc: Global, operation: &OperationDefinition) -> bool {
+fn operation_is_copied(operation: &OperationDefinition) -> bool {
     is_copied(operation)
         && are_copied(&operation.variables)
         && directives_are_copied(&operation.directives)
         && selections_are_copied(&operation.selection_set)
-        && matches!(is_listed(alloc, &operation.directives), Ok(true))
 }
 
 /// Whether copies of what is in the selections equal that.
 fn selections_are_copied(selections: &[Selection]) -> bool {
     for selection in selections {
         let is_so = match selection {
-            Selection::Field(node) => {
-                is_copied(node.content()) && arguments_are_copied(&node.content().arguments)
-            }
+            Selection::Field(node) => is_copied(node.content()),
             Selection::FragmentSpread(node) => is_copied(node.content()),
             Selection::InlineFragment(node) => is_copied(node.content()),
         };
@@ -105,24 +96,14 @@ fn selections_are_copied(selections: &[Selection]) -> bool {
 /// Whether copies of the directives, of their arguments and of the values of these equal them.
 fn directives_are_copied(list: &DirectiveList) -> bool {
     for directive in &list.0 {
-        if !arguments_are_copied(&directive.content().arguments) {
+        for argument in &directive.content().arguments {
+            if !is_copied(argument.content().value.content()) {
+                return false;
+            }
+        }
+        if !are_copied(&directive.content().arguments) {
             return false;
         }
     }
     are_copied(&list.0)
-}
-
-/// Whether copies of the arguments and of their values equal these.
-fn arguments_are_copied(arguments: &[Node<Argument>]) -> bool {
-    for argument in arguments {
-        if !is_copied(argument.content().value.content()) {
-            return false;
-        }
-    }
-    are_copied(arguments)
-}
-
-/// Whether the list that is made of copies of its directives equals it.
-fn is_listed(alloc: Global, list: &DirectiveList) -> Result<bool, AllocError> {
-    Ok(DirectiveList::try_from_iter(alloc, list.0.clone()?)? == *list)
 }

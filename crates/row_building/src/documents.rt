@@ -1,6 +1,5 @@
 //! Documents that are built under a schema, or without one.
 
-use crate::made::push_made;
 use crate::walks::push_kept;
 use graphql_documents::{
     BuildError, ExecutableDocument, ExecutableDocumentBuilder, ExecutableDocumentExt,
@@ -9,7 +8,7 @@ use graphql_names::{FileId, SourceSpan};
 use graphql_schema::Schema;
 use row_files::{Answer, Case, Problem, push_faults};
 use row_schemas::{document_of, schema_under};
-use std::alloc::Global;
+use std::alloc::{AllocError, Global};
 
 /// Adds what is kept of the row's documents, or which fields the call lends of that, and what has no meaning.
 pub(crate) fn push_documents(
@@ -21,7 +20,7 @@ pub(crate) fn push_documents(
     let mut builder = ExecutableDocument::builder(alloc, schema_under(case, schema)?);
     add_documents(alloc, case, &mut builder)?;
     match builder.build() {
-        Ok(typed) => push_typed(alloc, case.call, schema, &typed, answer),
+        Ok(typed) => Ok(push_typed(alloc, case.call, &typed, answer)?),
         Err(_) => Err(Problem::Memory),
     }
 }
@@ -62,15 +61,10 @@ type Typed = (ExecutableDocument, Vec<(Option<SourceSpan>, BuildError)>);
 fn push_typed(
     alloc: Global,
     call: &str,
-    schema: &Schema,
     typed: &Typed,
     answer: &mut Answer,
-) -> Result<(), Problem> {
-    if call == "made" {
-        push_made(alloc, schema, &typed.0, &mut answer.text)?;
-    } else {
-        push_kept(alloc, call, &typed.0, &mut answer.text)?;
-    }
+) -> Result<(), AllocError> {
+    push_kept(alloc, call, &typed.0, &mut answer.text)?;
     push_faults(&typed.1, answer);
     Ok(())
 }

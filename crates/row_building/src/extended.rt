@@ -97,11 +97,7 @@ fn push_roots(
 }
 
 /// Adds of each interface how many objects and how many interfaces implement it, if any does, and how many are implemented.
-fn push_implementers(
-    alloc: Global,
-    schema: &Schema,
-    lines: &mut Lines,
-) -> Result<(), AllocError> {
+fn push_implementers(alloc: Global, schema: &Schema, lines: &mut Lines) -> Result<(), AllocError> {
     let map = schema.implementers_map(alloc)?;
     for ty in schema.types.values() {
         if let Some(found) = map.get(ty.name()) {

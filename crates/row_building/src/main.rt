@@ -10,7 +10,6 @@ mod extended;
 mod field_sets;
 mod layouts;
 mod lines;
-mod made;
 mod new_fields;
 mod outline;
 mod over_schemas;
@@ -45,8 +44,9 @@ impl Calls for Building {
             "layouts" => Some(&["input", "flat"]),
             "schema" | "orphans" | "extended" => Some(&["schema", "first", "adopt", "ignore"]),
             "coordinate" => Some(&["schema", "form", "input"]),
-            "document" | "written" | "fields" | "all_fields" | "root_fields" | "introspection"
-            | "made" => Some(&["schema", "standalone", "document"]),
+            "document" | "written" | "fields" | "all_fields" | "root_fields" | "introspection" => {
+                Some(&["schema", "standalone", "document"])
+            }
             "field_set" | "new_field" => Some(&["schema", "type", "input"]),
             _ => None,
         }
@@ -56,9 +56,11 @@ impl Calls for Building {
         match case.call {
             "print" | "writable" => by_tree(alloc, case, tally),
             "layouts" => by_layouts(alloc, case, tally),
-            "parse_document" | "parse_type" | "parse_selections" | "argument_by_name" | "next_token" => {
-                by_read(alloc, case, tally)
-            }
+            "parse_document"
+            | "parse_type"
+            | "parse_selections"
+            | "argument_by_name"
+            | "next_token" => by_read(alloc, case, tally),
             _ => by_schema_texts(alloc, case, tally),
         }
     }

@@ -51,14 +51,14 @@ fn push_answer(alloc: Global, call: &str, text: &str, nesting: usize, answer: &m
         "parse_type" => push_type(alloc, text, nesting, answer),
         "parse_selections" => push_selections(alloc, text, nesting, answer),
         "next_token" => push_tokens(text, answer),
-        "argument_by_name" => push_arguments(alloc, text, nesting, answer),
-        _ => push_document(alloc, text, nesting, answer),
+        _ => push_document(alloc, call, text, nesting, answer),
     }
 }
 
-/// Adds what a document that is read prints on one line.
-fn push_document(alloc: Global, text: &str, nesting: usize, answer: &mut Answer) {
+/// Adds what a document that is read prints on one line, or what its directives have.
+fn push_document(alloc: Global, call: &str, text: &str, nesting: usize, answer: &mut Answer) {
     match parse_document(alloc, text, FileId(1), nesting) {
+        Ok(document) if call == "argument_by_name" => push_arguments(&document, answer),
         Ok(document) => answer.show("0", &document.serialize().no_indent()),
         Err(fault) => push_fault(fault, &mut answer.status),
     }
@@ -91,15 +91,7 @@ fn push_lines(selections: &[Selection], answer: &mut Answer) {
 
 /// Adds what each directive of the document's operations has for `a`, on a line of its own, where the document's first
 /// definition may be that of a directive.
-fn push_arguments(alloc: Global, text: &str, nesting: usize, answer: &mut Answer) {
-    match parse_document(alloc, text, FileId(1), nesting) {
-        Ok(document) => push_given(&document, answer),
-        Err(fault) => push_fault(fault, &mut answer.status),
-    }
-}
-
-/// Adds what each directive of the operations has for `a`.
-fn push_given(document: &Document, answer: &mut Answer) {
+fn push_arguments(document: &Document, answer: &mut Answer) {
     let definition = match document.definitions.first() {
         Some(Definition::DirectiveDefinition(node)) => Some(node.content()),
         _ => None,

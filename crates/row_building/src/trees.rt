@@ -126,10 +126,12 @@ fn by_operation(
     judge_tree(alloc, case, &tree, tree.is_writable(), tally)
 }
 
-/// Adds `@dir`.
+/// Adds `@dir`, and makes the list of copies of its directives.
 fn push_directive(alloc: Global, list: &mut DirectiveList) -> Result<(), AllocError> {
     let directive = Directive::new(alloc, Name::new_static_unchecked("dir"));
-    Ok(list.push(Node::new(alloc, directive)?)?)
+    list.push(Node::new(alloc, directive)?)?;
+    *list = DirectiveList::try_from_iter(alloc, list.0.clone()?)?;
+    Ok(())
 }
 
 /// Judges what the row asks of the fragment under the name `on`.

@@ -41,11 +41,7 @@ fn tell_the_same(alloc: Global, one: &DiagnosticData, other: &DiagnosticData) ->
 
 /// Adds what is told of a number that is too large for Float, which no text breaks: of a copy, and of what is copied. Both are
 /// moved from another list.
-pub(crate) fn push_never(
-    alloc: Global,
-    text: &str,
-    answer: &mut Answer,
-) -> Result<(), AllocError> {
+pub(crate) fn push_never(alloc: Global, text: &str, answer: &mut Answer) -> Result<(), AllocError> {
     let mut told = DiagnosticList::new(alloc);
     tell_never(alloc, text, &mut told)?;
     let mut list = DiagnosticList::new(alloc);

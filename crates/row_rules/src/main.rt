@@ -9,6 +9,7 @@ mod given;
 mod input;
 mod inputs;
 mod judged_schemas;
+mod made;
 mod merging;
 mod schemas;
 mod told;
@@ -33,7 +34,7 @@ impl Calls for Judging {
             "directives" => Some(&["schema", "standalone", "location", "input"]),
             "arguments" | "never" => Some(&["input"]),
             "usage" => Some(&["schema", "input"]),
-            "document" => Some(&["schema", "nesting", "input", "once", "some"]),
+            "document" | "made" => Some(&["schema", "nesting", "input", "once", "some"]),
             "merging" => Some(&[
                 "schema", "nesting", "input", "once", "some", "returns", "at_least", "at_most",
             ]),
@@ -66,7 +67,7 @@ fn by_built(
             push_rules(alloc, case, &mut built.schema, &mut tally.answer)?;
             judge(case, &[], tally)
         }
-        "document" | "merging" | "field_set" => {
+        "document" | "made" | "merging" | "field_set" => {
             judge_schema(alloc, case, built)?;
             by_inputs(alloc, case, Some(&built.schema), tally)
         }

@@ -1,13 +1,12 @@
 //! Selections that a set makes, with what is added to them, and copies of operations and fragments.
 
-use crate::copies::is_copied;
 use graphql_documents::{
     ExecutableDocument, Field, FragmentSpread, InlineFragment, Selection, SelectionSet,
     SelectionSetExt,
 };
 use graphql_names::{Node, name};
 use graphql_schema::Schema;
-use row_files::{Lines, Problem};
+use row_files::{Answer, Lines, Problem};
 use std::alloc::{AllocError, Global};
 use tree_directives::{Argument, Directive};
 
@@ -47,21 +46,20 @@ pub(crate) fn push_made(
     alloc: Global,
     schema: &Schema,
     document: &ExecutableDocument,
-    lines: &mut Lines,
+    answer: &mut Answer,
 ) -> Result<(), Problem> {
     for operation in document.operations.iter() {
-        if let Some(parts) = parts_of(&operation.content().selection_set) {
-            push_selections(alloc, schema, parts, lines)?;
+        let operation = operation.content();
+        if let Some(parts) = parts_of(&operation.selection_set) {
+            push_selections(alloc, schema, parts, &mut answer.text)?;
         }
-        if is_copied(operation.content()) {
-            lines.put("an operation, copied\n");
-        }
+        push_same("an operation", operation, operation, &mut answer.text);
     }
     for fragment in document.fragments.values() {
-        if is_copied(fragment.content()) {
-            lines.put("a fragment, copied\n");
-        }
+        let fragment = fragment.content();
+        push_same("a fragment", fragment, fragment, &mut answer.text);
     }
+    answer.status.put("0");
     Ok(())
 }
 
@@ -79,9 +77,19 @@ fn push_selections(
     let spread = parts.set.new_fragment_spread(alloc, name!("F"));
     push_same("a spread", &marked(parts, spread)?, parts.spread, lines);
     let inline = parts.set.new_inline_fragment(alloc, Some(name!("Query")))?;
-    push_same("an inline fragment", &filled(parts, inline)?, parts.inline, lines);
+    push_same(
+        "an inline fragment",
+        &filled(parts, inline)?,
+        parts.inline,
+        lines,
+    );
     let bare = parts.set.new_inline_fragment(alloc, None)?;
-    push_same("one without a condition", &extended(parts, bare)?, parts.bare, lines);
+    push_same(
+        "one without a condition",
+        &extended(parts, bare)?,
+        parts.bare,
+        lines,
+    );
     Ok(())
 }
 
@@ -90,13 +98,18 @@ fn push_same<T: Clone + PartialEq>(what: &str, made: &T, wanted: &T, lines: &mut
     if *made == *wanted {
         lines.put(what);
     }
-    lines.put(if is_copied(made) { ", copied\n" } else { "\n" });
+    match made.clone() {
+        Ok(copy) if copy == *made => lines.put(", copied\n"),
+        _ => lines.put("\n"),
+    }
 }
 
 /// The field as `z`, with the argument `x` and each part of the single one, one by one and all.
 fn doubled(parts: Parts<'_>, field: Field) -> Result<Field, AllocError> {
     let value = parts.argument.content().value.clone()?;
-    let made = field.with_opt_alias(Some(name!("z"))).with_argument(name!("x"), value)?;
+    let made = field
+        .with_opt_alias(Some(name!("z")))
+        .with_argument(name!("x"), value)?;
     let made = made.with_arguments(parts.single.arguments.clone()?)?;
     let made = made.with_directive(parts.directive.clone()?)?;
     let made = made.with_directives(parts.single.directives.0.clone()?)?;
@@ -121,6 +134,7 @@ fn filled(parts: Parts<'_>, inline: InlineFragment) -> Result<InlineFragment, Al
 /// The inline fragment with the selections of the single field.
 fn extended(parts: Parts<'_>, inline: InlineFragment) -> Result<InlineFragment, AllocError> {
     let mut made = inline;
-    made.selection_set.extend(parts.single.selection_set.selections.clone()?)?;
+    made.selection_set
+        .extend(parts.single.selection_set.selections.clone()?)?;
     Ok(made)
 }
