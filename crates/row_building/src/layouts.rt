@@ -1,5 +1,6 @@
 //! Rows of documents that are printed under each layout, read again and printed again.
 
+use crate::copies::{document_is_copied, hash_of};
 use crate::print::{Form, form_named, laid_out};
 use graphql_names::FileId;
 use graphql_read::parse_document;
@@ -53,17 +54,23 @@ fn push_answer(alloc: Global, text: &str, layout: &str, answer: &mut Answer) {
     }
 }
 
-/// Adds what is printed of the document, and whether that reads as it and is printed alike.
+/// Adds what is printed of the document, and whether it is copied, and what is printed reads as it and is printed alike.
 fn push_printed(alloc: Global, document: &Document, form: Form, answer: &mut Answer) {
     answer.text.show(&laid_out(document, form, 0));
-    let status = read_again(alloc, document, form, answer.text.as_str());
+    let status = if document_is_copied(document) {
+        read_again(alloc, document, form, answer.text.as_str())
+    } else {
+        "1 a copy is another"
+    };
     answer.status.put(status);
 }
 
-/// Whether what is printed of the document reads as it, apart from places, and is printed alike.
+/// Whether what is printed of the document reads as it, apart from places and with its hash, and is printed alike.
 fn read_again(alloc: Global, document: &Document, form: Form, printed: &str) -> &'static str {
     match parse_document(alloc, printed, FileId(2), usize::MAX) {
-        Ok(again) if again == *document => printed_twice(alloc, &again, form, printed),
+        Ok(again) if again == *document && hash_of(&again) == hash_of(document) => {
+            printed_twice(alloc, &again, form, printed)
+        }
         Ok(_) => "1 what is printed reads as another document",
         Err(_) => "1 what is printed is not read",
     }

@@ -4,7 +4,9 @@
 #![tactic(auto)]
 
 mod coordinates;
+mod copies;
 mod documents;
+mod extended;
 mod field_sets;
 mod layouts;
 mod lines;
@@ -35,10 +37,12 @@ impl Calls for Building {
         match call {
             "print" => Some(&["tree", "input", "layout", "level", "step", "write"]),
             "writable" => Some(&["tree", "input"]),
-            "parse_document" | "parse_type" | "parse_selections" => Some(&["nesting", "input"]),
+            "parse_document" | "parse_type" | "parse_selections" | "argument_by_name" => {
+                Some(&["nesting", "input"])
+            }
             "next_token" => Some(&["input"]),
             "layouts" => Some(&["input", "flat"]),
-            "schema" | "orphans" => Some(&["schema", "first", "adopt", "ignore"]),
+            "schema" | "orphans" | "extended" => Some(&["schema", "first", "adopt", "ignore"]),
             "coordinate" => Some(&["schema", "form", "input"]),
             "document" | "written" | "fields" | "all_fields" | "root_fields" | "introspection" => {
                 Some(&["schema", "standalone", "document"])
@@ -52,9 +56,11 @@ impl Calls for Building {
         match case.call {
             "print" | "writable" => by_tree(alloc, case, tally),
             "layouts" => by_layouts(alloc, case, tally),
-            "parse_document" | "parse_type" | "parse_selections" | "next_token" => {
-                by_read(alloc, case, tally)
-            }
+            "parse_document"
+            | "parse_type"
+            | "parse_selections"
+            | "argument_by_name"
+            | "next_token" => by_read(alloc, case, tally),
             _ => by_schema_texts(alloc, case, tally),
         }
     }

@@ -33,7 +33,12 @@ fn by_built(
         "coordinate" | "field_set" | "new_field" => {
             return by_inputs(alloc, case, &built.schema, tally);
         }
-        "schema" | "orphans" => push_built(alloc, case.call, built, &mut tally.answer)?,
+        "schema" | "orphans" | "extended" => push_built(
+            alloc,
+            case.call,
+            built,
+            &mut tally.answer,
+        )?,
         _ => push_documents(alloc, case, &built.schema, &mut tally.answer)?,
     }
     judge(case, &[], tally)

@@ -7,6 +7,8 @@ use graphql_read::{
 };
 use row_files::{Answer, Case, Lines, Problem, Tally, Way, compare, text_of};
 use std::alloc::Global;
+use tree_definitions::{Definition, Document};
+use tree_directives::{Directive, DirectiveDefinition};
 use tree_operations::Selection;
 use tree_printing::Tree;
 
@@ -49,13 +51,14 @@ fn push_answer(alloc: Global, call: &str, text: &str, nesting: usize, answer: &m
         "parse_type" => push_type(alloc, text, nesting, answer),
         "parse_selections" => push_selections(alloc, text, nesting, answer),
         "next_token" => push_tokens(text, answer),
-        _ => push_document(alloc, text, nesting, answer),
+        _ => push_document(alloc, call, text, nesting, answer),
     }
 }
 
-/// Adds what a document that is read prints on one line.
-fn push_document(alloc: Global, text: &str, nesting: usize, answer: &mut Answer) {
+/// Adds what a document that is read prints on one line, or what its directives have.
+fn push_document(alloc: Global, call: &str, text: &str, nesting: usize, answer: &mut Answer) {
     match parse_document(alloc, text, FileId(1), nesting) {
+        Ok(document) if call == "argument_by_name" => push_arguments(&document, answer),
         Ok(document) => answer.show("0", &document.serialize().no_indent()),
         Err(fault) => push_fault(fault, &mut answer.status),
     }
@@ -84,6 +87,36 @@ fn push_lines(selections: &[Selection], answer: &mut Answer) {
         answer.text.show_between("", &shown, "\n");
     }
     answer.status.put("0");
+}
+
+/// Adds what each directive of the document's operations has for `a`, on a line of its own, where the document's first
+/// definition may be that of a directive.
+fn push_arguments(document: &Document, answer: &mut Answer) {
+    let definition = match document.definitions.first() {
+        Some(Definition::DirectiveDefinition(node)) => Some(node.content()),
+        _ => None,
+    };
+    for given in &document.definitions {
+        if let Definition::OperationDefinition(node) = given {
+            for directive in &node.content().directives.0 {
+                push_argument(directive.content(), definition, &mut answer.text);
+            }
+        }
+    }
+    answer.status.put("0");
+}
+
+/// Adds the value that the directive has for `a`, or why it has none.
+fn push_argument(
+    directive: &Directive,
+    definition: Option<&DirectiveDefinition>,
+    lines: &mut Lines,
+) {
+    match directive.argument_by_name("a", definition) {
+        Ok(None) => lines.put("an implicit null\n"),
+        Ok(Some(value)) => lines.show_between("", value, "\n"),
+        Err(error) => lines.show_between("", &error, "\n"),
+    }
 }
 
 /// Adds a fault and its place.

@@ -1,12 +1,14 @@
 //! Schemas that are built, and written out.
 
+use crate::extended::push_extended;
 use graphql_schema::Schema;
 use row_files::{Answer, push_faults};
 use row_schemas::Built;
 use std::alloc::{AllocError, Global};
 use tree_printing::Tree;
 
-/// Adds what is built: the written schema, or its faults. Of `orphans` the answer has all but the status.
+/// Adds what is built: the written schema, or its faults; or what `extended` tells of it. Of `orphans` the answer has all but
+/// the status.
 pub(crate) fn push_built(
     alloc: Global,
     call: &str,
@@ -14,6 +16,9 @@ pub(crate) fn push_built(
     answer: &mut Answer,
 ) -> Result<(), AllocError> {
     if call == "orphans" {
+        answer.status.put("0");
+    } else if call == "extended" {
+        push_extended(alloc, &built.schema, &mut answer.text)?;
         answer.status.put("0");
     } else if built.faults.is_empty() {
         push_schema(alloc, &built.schema, answer)?;

@@ -7,6 +7,7 @@ use row_files::{Case, Field, Problem, Tally, text_of};
 use std::alloc::{AllocError, Global};
 use tree_definitions::{Definition, Document};
 use tree_directives::{Directive, DirectiveDefinition, DirectiveList};
+use tree_literals::{IntValue, Value};
 use tree_operations::{FragmentDefinition, OperationDefinition};
 
 /// Judges what the row asks of the tree that it names: what is printed of it, or whether it is writable.
@@ -15,6 +16,7 @@ pub(crate) fn by_tree(alloc: Global, case: Case<'_>, tally: &mut Tally) -> Resul
     match field.value {
         "directive without locations" => by_directive(alloc, case, tally),
         "document without definitions" => by_no_definitions(alloc, case, tally),
+        "least integer" => by_integer(alloc, case, tally),
         _ => by_text(alloc, case, field, tally),
     }
 }
@@ -35,6 +37,12 @@ fn by_directive(alloc: Global, case: Case<'_>, tally: &mut Tally) -> Result<(), 
 /// Judges what the row asks of the document without definitions.
 fn by_no_definitions(alloc: Global, case: Case<'_>, tally: &mut Tally) -> Result<(), Problem> {
     let tree = Document::new(alloc);
+    judge_tree(alloc, case, &tree, tree.is_writable(), tally)
+}
+
+/// Judges what the row asks of the least integer of 32 bits.
+fn by_integer(alloc: Global, case: Case<'_>, tally: &mut Tally) -> Result<(), Problem> {
+    let tree = Value::Int(IntValue::from_i32(alloc, i32::MIN)?);
     judge_tree(alloc, case, &tree, tree.is_writable(), tally)
 }
 
@@ -118,10 +126,12 @@ fn by_operation(
     judge_tree(alloc, case, &tree, tree.is_writable(), tally)
 }
 
-/// Adds `@dir`.
+/// Adds `@dir`, and makes the list of copies of its directives.
 fn push_directive(alloc: Global, list: &mut DirectiveList) -> Result<(), AllocError> {
     let directive = Directive::new(alloc, Name::new_static_unchecked("dir"));
-    Ok(list.0.push(Node::new(alloc, directive)?)?)
+    list.push(Node::new(alloc, directive)?)?;
+    *list = DirectiveList::try_from_iter(alloc, list.0.clone()?)?;
+    Ok(())
 }
 
 /// Judges what the row asks of the fragment under the name `on`.

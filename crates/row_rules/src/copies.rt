@@ -1,36 +1,33 @@
 //! What is told, and whether copies tell the same.
 
+use fault_data::Fault;
 use graphql_faults::{Details, DiagnosticData, DiagnosticList};
 use row_files::{Answer, Lines, push_faults};
 use std::alloc::{AllocError, Global};
 
 /// Adds a line for each fault, in order. The status tells whether there is one, and first where the copy of one is another.
-pub(crate) fn push_in_order(
-    alloc: Global,
-    list: &DiagnosticList,
-    answer: &mut Answer,
-) -> Result<(), AllocError> {
-    for (_, details) in list.iter() {
-        if !is_copied(alloc, details)? {
-            answer.status.put("the copy of a fault is another: ");
-        }
-    }
+pub(crate) fn push_in_order(alloc: Global, list: &DiagnosticList, answer: &mut Answer) {
+    push_copies(alloc, list, answer);
     push_faults(list.iter().as_slice(), answer);
-    Ok(())
 }
 
-/// Whether the copy of what breaks a rule equals it and tells the same.
-fn is_copied(alloc: Global, details: &Details) -> Result<bool, AllocError> {
-    match details {
-        Details::Data(data) => data_is_copied(alloc, data),
-        _ => Ok(true),
+/// Adds to the status where the copy of what breaks a rule is another.
+pub(crate) fn push_copies(alloc: Global, list: &DiagnosticList, answer: &mut Answer) {
+    for (_, details) in list.iter() {
+        if let Details::Data(data) = details {
+            if !is_copied(alloc, data) {
+                answer.status.put("the copy of a fault is another: ");
+            }
+        }
     }
 }
 
 /// Whether the copy of the data equals them and tells the same.
-fn data_is_copied(alloc: Global, data: &DiagnosticData) -> Result<bool, AllocError> {
-    let copy = data.clone()?;
-    Ok(copy == *data && tell_the_same(alloc, &copy, data))
+fn is_copied(alloc: Global, data: &DiagnosticData) -> bool {
+    match data.clone() {
+        Ok(copy) => copy == *data && tell_the_same(alloc, &copy, data),
+        Err(_) => false,
+    }
 }
 
 /// Whether the data tell the same.
@@ -40,4 +37,26 @@ fn tell_the_same(alloc: Global, one: &DiagnosticData, other: &DiagnosticData) ->
     let mut other_told = Lines::new(alloc);
     other_told.show(other);
     told.as_str() == other_told.as_str()
+}
+
+/// Adds what is told of a number that is too large for Float, which no text breaks: of a copy, and of what is copied. Both are
+/// moved from another list.
+pub(crate) fn push_never(alloc: Global, text: &str, answer: &mut Answer) -> Result<(), AllocError> {
+    let mut told = DiagnosticList::new(alloc);
+    tell_never(alloc, text, &mut told)?;
+    let mut list = DiagnosticList::new(alloc);
+    list.append(&mut told)?;
+    push_in_order(alloc, &list, answer);
+    Ok(())
+}
+
+/// Tells twice that the number is too large for Float, once by a copy.
+fn tell_never(alloc: Global, text: &str, list: &mut DiagnosticList) -> Result<(), AllocError> {
+    let value = String::from_str(alloc, text)?;
+    let fault = Fault {
+        location: None,
+        data: DiagnosticData::FloatCoercionError { value },
+    };
+    list.push_fault(fault.clone()?)?;
+    list.push_fault(fault)
 }

@@ -1,6 +1,7 @@
 //! Documents that are judged over a schema, or without one.
 
 use crate::input::Input;
+use crate::made::push_made;
 use crate::merging::push_merging;
 use crate::told::{push_told, push_typing};
 use graphql_documents::{ExecutableDocument, ExecutableDocumentExt};
@@ -45,6 +46,9 @@ fn push_call(
     match schema {
         Some(schema) if case.call == "merging" => {
             return push_merging(alloc, case, schema, document, answer);
+        }
+        Some(schema) if case.call == "made" => {
+            return push_made(alloc, schema, document, answer);
         }
         Some(schema) => validate_executable_document(alloc, &mut list, schema, document)?,
         None => validate_standalone_executable(alloc, &mut list, document)?,

@@ -1,5 +1,6 @@
 //! What calls answer to each input of a row.
 
+use crate::copies::push_never;
 use crate::documents::push_document;
 use crate::field_sets::push_field_set;
 use crate::input::Input;
@@ -54,6 +55,7 @@ fn push_input(
         Some(schema) if case.call == "field_set" => {
             push_field_set(alloc, case, schema, input, answer)
         }
+        None if case.call == "never" => Ok(push_never(alloc, input.text, answer)?),
         _ => push_document(alloc, case, schema, input, answer),
     }
 }

@@ -9,6 +9,7 @@ mod given;
 mod input;
 mod inputs;
 mod judged_schemas;
+mod made;
 mod merging;
 mod schemas;
 mod told;
@@ -31,9 +32,9 @@ impl Calls for Judging {
             "rules" | "kept" | "noted" => Some(&["schema", "types"]),
             "value" | "covariant" => Some(&["schema", "type", "input"]),
             "directives" => Some(&["schema", "standalone", "location", "input"]),
-            "arguments" => Some(&["input"]),
+            "arguments" | "never" => Some(&["input"]),
             "usage" => Some(&["schema", "input"]),
-            "document" => Some(&["schema", "nesting", "input", "once", "some"]),
+            "document" | "made" => Some(&["schema", "nesting", "input", "once", "some"]),
             "merging" => Some(&[
                 "schema", "nesting", "input", "once", "some", "returns", "at_least", "at_most",
             ]),
@@ -44,7 +45,7 @@ impl Calls for Judging {
     }
 
     fn judge(&self, alloc: Global, case: Case<'_>, tally: &mut Tally) -> Result<(), Problem> {
-        if case.call == "alone" {
+        if case.call == "alone" || case.call == "never" {
             return by_inputs(alloc, case, None, tally);
         }
         match build(alloc, case, &mut tally.answer)? {
@@ -66,7 +67,7 @@ fn by_built(
             push_rules(alloc, case, &mut built.schema, &mut tally.answer)?;
             judge(case, &[], tally)
         }
-        "document" | "merging" | "field_set" => {
+        "document" | "made" | "merging" | "field_set" => {
             judge_schema(alloc, case, built)?;
             by_inputs(alloc, case, Some(&built.schema), tally)
         }

@@ -23,7 +23,8 @@ pub(crate) fn push_rules(
         "noted" => push_noted(schema, &mut answer.text),
         _ => {}
     }
-    Ok(push_in_order(alloc, &list, answer)?)
+    push_in_order(alloc, &list, answer);
+    Ok(())
 }
 
 /// Adds the name of each scalar among the types, a line each.

@@ -1,5 +1,6 @@
 //! What is told, in the order of places: in which order a call tells faults is nowhere asked for.
 
+use crate::copies::push_copies;
 use graphql_documents::BuildError;
 use graphql_faults::DiagnosticList;
 use graphql_names::SourceSpan;
@@ -23,13 +24,15 @@ pub(crate) fn push_typing(
     Ok(())
 }
 
-/// Adds a line for each fault, those that stand first in front. The status tells whether there is one.
+/// Adds a line for each fault, those that stand first in front. The status tells whether there is one, and first where the copy
+/// of one is another.
 pub(crate) fn push_told(
     alloc: Global,
     case: Case<'_>,
     list: &DiagnosticList,
     answer: &mut Answer,
 ) -> Result<(), Problem> {
+    push_copies(alloc, list, answer);
     let mut lines = lines_of(alloc, list)?;
     if says(case.row, "once", "yes")? {
         lines.dedup();

@@ -63,7 +63,8 @@ fn push_faults_of(
     };
     let mut list = DiagnosticList::new(alloc);
     tell(alloc, case, schema, node.content(), &mut list)?;
-    Ok(push_in_order(alloc, &list, answer)?)
+    push_in_order(alloc, &list, answer);
+    Ok(())
 }
 
 /// Tells what the call finds in the operation.
