@@ -15,37 +15,43 @@ pub(crate) fn by_form(alloc: Global, case: Case<'_>, tally: &mut Tally) -> Resul
 
 /// The fault that the row has.
 fn entry_of(alloc: Global, case: Case<'_>) -> Result<Entry, Problem> {
-    let place = place_of(case)?;
-    let mut related = Vec::new(alloc);
-    if let Some(bytes) = case.given.inputs.get(5) {
-        related.push(Related {
-            path: input(alloc, case, 0)?,
-            start: None,
-            words: String::from_str(alloc, text_of(case, bytes)?)?,
-        })?;
+    let path = input(case, 0)?;
+    let message = String::from_str(alloc, input(case, 1)?)?;
+    let mut entry = Entry::at(alloc, &[], path, None, "Rule", message)?;
+    add_place(alloc, case, &mut entry)?;
+    add_others(alloc, case, &mut entry)?;
+    Ok(entry)
+}
+
+/// Adds the place that the row has, with its line, if it names a line.
+fn add_place(alloc: Global, case: Case<'_>, entry: &mut Entry) -> Result<(), Problem> {
+    entry.place = place_of(case)?;
+    if entry.place.is_none() {
+        return Ok(());
     }
-    let hint = match case.given.inputs.get(6) {
-        None => None,
-        Some(bytes) => Some(String::from_str(alloc, text_of(case, bytes)?)?),
-    };
-    let excerpt = match place {
-        None => None,
-        Some(_) => Some(Excerpt {
-            before: input(alloc, case, 2)?,
-            marked: input(alloc, case, 3)?,
-            after: input(alloc, case, 4)?,
-        }),
-    };
-    Ok(Entry {
-        path: input(alloc, case, 0)?,
-        place,
-        rule: "Rule",
-        message: input(alloc, case, 1)?,
-        excerpt,
-        related,
-        hint,
-        fields: Vec::new(alloc),
-    })
+    let before = input(case, 2)?;
+    let marked = input(case, 3)?;
+    let after = input(case, 4)?;
+    entry.excerpt = Some(Excerpt {
+        before: String::from_str(alloc, before)?,
+        marked: String::from_str(alloc, marked)?,
+        after: String::from_str(alloc, after)?,
+    });
+    Ok(())
+}
+
+/// Adds the other place and the hint that the row has.
+fn add_others(alloc: Global, case: Case<'_>, entry: &mut Entry) -> Result<(), Problem> {
+    if case.given.inputs.len() > 5 {
+        let path = String::from_str(alloc, &entry.path)?;
+        let words = String::from_str(alloc, input(case, 5)?)?;
+        let start = None;
+        entry.related.push(Related { path, start, words })?;
+    }
+    if case.given.inputs.len() > 6 {
+        entry.hint = Some(String::from_str(alloc, input(case, 6)?)?);
+    }
+    Ok(())
 }
 
 /// The place that the row has, if it names a line.
@@ -71,10 +77,10 @@ fn place_of(case: Case<'_>) -> Result<Option<Place>, Problem> {
 }
 
 /// The input of this number, or the empty text.
-fn input(alloc: Global, case: Case<'_>, index: usize) -> Result<String, Problem> {
+fn input(case: Case<'_>, index: usize) -> Result<&str, Problem> {
     match case.given.inputs.get(index) {
-        None => Ok(String::new(alloc)),
-        Some(bytes) => Ok(String::from_str(alloc, text_of(case, bytes)?)?),
+        None => Ok(""),
+        Some(bytes) => text_of(case, bytes),
     }
 }
 
