@@ -18,3 +18,8 @@ pub mod Schema
 pub mod Typing
 pub mod Folding
 pub mod Yes
+pub mod OfDifferent
+pub mod MergingLaws
+pub mod Laws
+pub mod Exceptions
+pub mod Refused

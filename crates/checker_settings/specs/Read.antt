@@ -6,8 +6,8 @@ use Rattle.clap.specs.Words.{FailsBy, IsUnsignedIn, Row, all_of, fault_of, first
 use Rattle.clap.specs.declared.parser.matches.Found.{Found}
 use Rattle.clap.specs.declared.error.Error.{Error}
 use Rattle.clap.specs.declared.builder.value_parser.ValueParser.{ValueParser}
-use Rattle.checker_layouts.specs.Layouts.{prefix_of}
-use Rattle.checker_layouts.specs.declared.layout.Layout.{Layout}
+use Rattle.checker_settings.specs.Layouts.{prefix_of}
+use Rattle.checker_settings.specs.declared.layout.Layout.{Layout}
 use Rattle.checker_settings.specs.Program.{AreLayoutNames, program}
 use Rattle.checker_settings.specs.declared.settings.Settings.{Settings}
 

@@ -1,12 +1,15 @@
-//! What the program's words ask for, read by `clap`.
+//! Layouts under which a document is written again, and what the program's words ask for, read by `clap`.
 //!
-//! For the layer above: settings are what stands under the names of the program's arguments (`specs/Program.antt`,
-//! `specs/Read.antt`).
+//! For the layer above: a written text is that of the document's tree under the layout's prefix (`specs/Layouts.antt`), and
+//! what begins a line may be read again where `is_prefix` says so; that is in `layout.rt`. Settings are what is under the
+//! names of the program's arguments (`specs/Program.antt`, `specs/Read.antt`).
 //!
-//! Begin with `settings.rt`; the arguments are in `command.rt`.
+//! Begin with `layout.rt` and `settings.rt`; the arguments are in `command.rt`.
 #![tactic(auto)]
 
 mod command;
+mod layout;
 mod settings;
 
+pub use layout::{Layout, written};
 pub use settings::Settings;

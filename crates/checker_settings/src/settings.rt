@@ -3,11 +3,11 @@
 ghost use Rattle.std.specs.Prelude.{◌≡◌, ◌<◌, ◌≤◌, ℕ, List, [], IfOk, None, Some, length, map, codes, string_bytes, option_map, unwrap_or};
 ghost use Rattle.std.specs.Str.Parse.{digits_value, without_leading_plus};
 ghost use Rattle.clap.specs.Words.{IsUnsignedIn, first_value, found_of, matched_of, one_text, raw_values};
-ghost use Rattle.checker_layouts.specs.Layouts.{prefix_of};
+ghost use Rattle.checker_settings.specs.Layouts.{prefix_of};
 ghost use Rattle.checker_settings.specs.Read.{prefix_named, IsTakenFrom, ReadsAs, IsProgramLayout};
 
 use crate::command::program_command;
-use checker_layouts::Layout;
+use crate::layout::Layout;
 use clap::{ArgMatches, Error};
 use std::alloc::{AllocError, Global};
 
@@ -28,7 +28,12 @@ pub struct Settings {
 
 impl Drop for Settings {
     fn drop(self) {
-        let Settings { document: _, schemas: _, layout: _, nesting: _ } = self;
+        let Settings {
+            document: _,
+            schemas: _,
+            layout: _,
+            nesting: _,
+        } = self;
     }
 }
 

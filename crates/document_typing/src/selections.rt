@@ -1,14 +1,14 @@
 //! Typing of selections. What holds much is not inlined, so that a level of selections takes the stack of its kind alone.
-ghost use Rattle.std.specs.Prelude.{◌≡◌, ◌++◌, [], ◌∷◌, ℕ, List, IfOk, OnOk};
-ghost use Rattle.std.specs.Option.{option_map};
-ghost use Rattle.graphql_names.specs.Node.{content, place};
-ghost use Rattle.graphql_names.specs.Placed.{name_tree, node_tree};
-ghost use Rattle.tree_directives.specs.DirectiveTree.{directives_tree};
+//! Rattle's own compiler inlines whatever has one caller, so the longest of these have two.
+ghost use Rattle.std.specs.Prelude.{◌≡◌, ◌++◌, [], ℕ, List, Option, IfOk, OnOk};
+ghost use Rattle.graphql_names.specs.Node.{content};
+ghost use Rattle.graphql_names.specs.Placed.{Place, name_tree, node_tree};
 ghost use Rattle.tree_operations.specs.SelectionTree.{selection_tree, selection_trees};
 ghost use Rattle.tree_operations.specs.SelectionParts.{field_node_tree, inline_node_tree};
 ghost use Rattle.tree_type_members.specs.TypeSystemTree.{field_definition_tree};
+ghost use Rattle.schema_types.specs.SchemaTree.{SchemaTree};
 ghost use Rattle.document_typed_selections.specs.TypedTree.{set_type, typed_set_tree};
-ghost use Rattle.document_typing.specs.MeantTree.{MeantInline, meant_of_set, set_on};
+ghost use Rattle.document_typing.specs.MeantTree.{meant_of_set, set_on};
 ghost use Rattle.document_typing.specs.KeptSelections.{kept, kept_all};
 ghost use Rattle.document_typing.specs.SetFaults.{selection_faults, set_faults};
 ghost use Rattle.document_typing.specs.DefinedField.{definition_view, kept_defined, defined_faults};
@@ -92,11 +92,50 @@ fn type_field(
     ensures defined { OnOk result (AreKeptDefined (schema_under schema.entry) parent.now.text out.old → AreKeptDefined (schema_under schema.entry) parent.now.text out.new) }
     ensures faults { OnOk result (faults_of faults.new ≡ faults_of faults.old ++ selection_faults (meanings_under schema.entry) (field_node_tree field.now) parent.now.text) }
 {
+    let tree = field.content();
+    if tree.selection_set.is_empty() {
+        return type_leaf(alloc, schema, parent, field, out, faults);
+    }
+    match definition_of(alloc, schema, parent, &tree.name)? {
+        None => undefined_field(field.location(), parent, &tree.name, faults),
+        Some(definition) => type_defined_field(alloc, schema, definition, field, out, faults),
+    }
+}
+
+/// Keeps a field that selects nothing with its definition on the type, or tells that it has none (section 5.3.1).
+#[inline(never)]
+fn type_leaf(
+    alloc: Global,
+    schema: Option<&Schema>,
+    parent: &Name,
+    field: &Node<Field>,
+    out: &mut Vec<typed::Selection>,
+    faults: &mut Vec<(Option<SourceSpan>, BuildError)>,
+) -> Result<(), AllocError>
+    requires leaf { (content field.now).selection_set.items ≡ [] }
+    ensures kept { OnOk result (meant_selections out.new ≡ meant_selections out.old ++ kept (meanings_under schema.entry) (field_node_tree field.now) parent.now.text) }
+    ensures defined { OnOk result (AreKeptDefined (schema_under schema.entry) parent.now.text out.old → AreKeptDefined (schema_under schema.entry) parent.now.text out.new) }
+    ensures faults { OnOk result (faults_of faults.new ≡ faults_of faults.old ++ selection_faults (meanings_under schema.entry) (field_node_tree field.now) parent.now.text) }
+{
     let name = &field.content().name;
     match definition_of(alloc, schema, parent, name)? {
         None => undefined_field(field.location(), parent, name, faults),
-        Some(definition) => type_defined_field(alloc, schema, definition, field, out, faults),
+        Some(definition) => {
+            let set = empty_set(alloc, inner_name(&definition))?;
+            keep_field(alloc, definition, field, set, out)
+        }
     }
+}
+
+/// The set of no selections on the type.
+fn empty_set(alloc: Global, type_name: &Name) -> Result<typed::SelectionSet, AllocError>
+    ensures kept { IfOk result (λ s. meant_of_set (typed_set_tree s) ≡ set_on type_name.now.text []) }
+    ensures defined { IfOk result (λ s. (t : Option (SchemaTree Place)) → IsDefinedSet t (typed_set_tree s)) }
+{
+    Ok(typed::SelectionSet {
+        ty: type_name.clone()?,
+        selections: Vec::new(alloc),
+    })
 }
 
 /// Lets a definition go.
@@ -138,6 +177,7 @@ fn type_defined_field(
 /// Keeps the inline fragment with its set, on the type of its condition or else on that around it, or tells that its
 /// condition is not there (section 5.5.1.2).
 #[cycle(typing)]
+#[inline(never)]
 fn type_inline(
     alloc: Global,
     schema: Option<&Schema>,
@@ -150,8 +190,12 @@ fn type_inline(
     ensures defined { OnOk result (AreKeptDefined (schema_under schema.entry) parent.now.text out.old → AreKeptDefined (schema_under schema.entry) parent.now.text out.new) }
     ensures faults { OnOk result (faults_of faults.new ≡ faults_of faults.old ++ selection_faults (meanings_under schema.entry) (inline_node_tree inline.now) parent.now.text) }
 {
+    let selections = &inline.content().selection_set;
     match &inline.content().type_condition {
-        None => type_inline_on(alloc, schema, parent, inline, out, faults),
+        None => {
+            let set = type_set(alloc, schema, parent, selections, faults)?;
+            keep_inline(alloc, inline, set, out)
+        }
         Some(condition) => {
             if !has_type(schema, condition) {
                 return undefined_type_in_inline_fragment_type_condition(
@@ -160,27 +204,8 @@ fn type_inline(
                     faults,
                 );
             }
-            type_inline_on(alloc, schema, condition, inline, out, faults)
+            let set = type_set(alloc, schema, condition, selections, faults)?;
+            keep_inline(alloc, inline, set, out)
         }
     }
-}
-
-/// Keeps the inline fragment with its set on that type.
-#[cycle(typing)]
-#[inline(never)]
-fn type_inline_on(
-    alloc: Global,
-    schema: Option<&Schema>,
-    type_name: &Name,
-    inline: &Node<InlineFragment>,
-    out: &mut Vec<typed::Selection>,
-    faults: &mut Vec<(Option<SourceSpan>, BuildError)>,
-) -> Result<(), AllocError>
-    ensures kept { OnOk result (meant_selections out.new ≡ meant_selections out.old ++ MeantInline (place inline.now) (option_map name_tree (content inline.now).type_condition) (directives_tree (content inline.now).directives) (set_on type_name.now.text (kept_all (meanings_under schema.entry) (selection_trees selection_tree (content inline.now).selection_set.items) type_name.now.text)) ∷ []) }
-    ensures defined { OnOk result ((t : List ℕ) → AreKeptDefined (schema_under schema.entry) t out.old → AreKeptDefined (schema_under schema.entry) t out.new) }
-    ensures faults { OnOk result (faults_of faults.new ≡ faults_of faults.old ++ set_faults (meanings_under schema.entry) (selection_trees selection_tree (content inline.now).selection_set.items) type_name.now.text) }
-{
-    let selections = &inline.content().selection_set;
-    let set = type_set(alloc, schema, type_name, selections, faults)?;
-    keep_inline(alloc, inline, set, out)
 }

@@ -12,7 +12,7 @@ use Rattle.verdict_definitions.specs.Judge.{IsDocumentAccepted, IsAccepted, AreS
 use Rattle.verdict_definitions.specs.Says.{AnyFault}
 use Rattle.verdict_definitions.specs.Answer.{RefusesDocument, Refuses}
 use Rattle.book_validity.specs.Yes.{IsYes}
-use Rattle.book_laws.proofs.AcceptedFacts.{accepted_by_the_book}
+use Rattle.book_validity.proofs.AcceptedFacts.{accepted_by_the_book}
 use Rattle.checker_schemas.specs.CheckedSchemaValue.{CheckedSchemaValue, IsCheckedSchemaOf}
 use Rattle.graphql_checked.specs.CheckerValue.{CheckerValue, IsCheckedDocumentOf}
 use Rattle.graphql_checked.specs.CheckerAnswers.{IsCheckerAddRefusal, IsFinishRefusal}

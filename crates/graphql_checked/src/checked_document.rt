@@ -7,12 +7,12 @@ ghost use Rattle.document_typing.specs.DocumentView.{meant_document};
 ghost use Rattle.document_typing.specs.DefinedByPlace.{IsDefinedDocument};
 ghost use Rattle.graphql_validation.specs.TellsDocument.{IsTypedUnder};
 ghost use Rattle.checker_texts.specs.TextSources.{text_sources};
-ghost use Rattle.checker_layouts.specs.Layouts.{prefix_of};
+ghost use Rattle.checker_settings.specs.Layouts.{prefix_of};
 ghost use Rattle.graphql_checked.specs.CheckedView.{schema_value, document_value};
 ghost use Rattle.graphql_checked.specs.CheckerValue.{IsCheckedDocumentOf, WritesCheckedDocument};
 
 use crate::checked_schema::CheckedSchema;
-use checker_layouts::{Layout, written};
+use checker_settings::{Layout, written};
 use document_typed_operations::ExecutableDocument;
 use std::alloc::AllocError;
 use std::marker::Model;
@@ -26,7 +26,11 @@ pub struct CheckedDocument<'s> {
 
 impl Drop for CheckedDocument<'_> {
     fn drop(self) {
-        let CheckedDocument { schema: _, text: _, document: _ } = self;
+        let CheckedDocument {
+            schema: _,
+            text: _,
+            document: _,
+        } = self;
     }
 }
 

@@ -6,7 +6,7 @@ ghost use Rattle.tree_definitions.specs.Sources.{sources_of};
 ghost use Rattle.schema_building.specs.SourcesView.{sources_view, with_sources};
 ghost use Rattle.graphql_faults.specs.DetailsView.{diagnostics_of};
 ghost use Rattle.graphql_schema.specs.SchemaOf.{schema_tree};
-ghost use Rattle.checker_layouts.specs.Layouts.{prefix_of};
+ghost use Rattle.checker_settings.specs.Layouts.{prefix_of};
 ghost use Rattle.document_typing.specs.DocumentView.{meant_document};
 ghost use Rattle.document_typing.specs.DefinedByPlace.{IsDefinedDocument};
 ghost use Rattle.document_typed_operations.specs.TypedDocument.{typed_document_tree};
@@ -24,7 +24,7 @@ ghost use Rattle.checker_texts.specs.declared.refusal.Refusal.TheVariants.{Memor
 
 use crate::build_errors::document_errors;
 use crate::checked_document::CheckedDocument;
-use checker_layouts::{Layout, written};
+use checker_settings::{Layout, written};
 use checker_texts::{Refusal, Unread, only, read};
 use document_typed_operations::ExecutableDocument;
 use document_typing::{BuilderRefusal, ExecutableDocumentBuilder};

@@ -4,7 +4,7 @@ ghost use Rattle.std.specs.Prelude.{◌≡◌, false, OnOk, IfOk, IfErr, map, st
 ghost use Rattle.std.specs.Option.{option_copied};
 ghost use Rattle.graphql_names.specs.Device.{device_failed};
 ghost use Rattle.checker_answers.specs.Devices.{HaveNotFailed};
-ghost use Rattle.checker_layouts.specs.Layouts.{prefix_of};
+ghost use Rattle.checker_settings.specs.Layouts.{prefix_of};
 ghost use Rattle.verdict_definitions.specs.Judge.{IsCertain};
 ghost use Rattle.graphql_checked.specs.CheckedView.{schema_value, document_value};
 ghost use Rattle.checker_schemas.specs.CheckedSchemaValue.{IsCheckedSchemaOf};
@@ -19,7 +19,7 @@ use crate::verdict::schema_of;
 use checker_answers::{
     Outcome, RunFault, accepted, numbered, put, read_text, read_texts, refusal_answer,
 };
-use checker_layouts::Layout;
+use checker_settings::Layout;
 use graphql_names::Device;
 use std::alloc::{AllocError, Global};
 use std::io::{Read, Write};

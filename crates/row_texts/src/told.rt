@@ -4,7 +4,7 @@ use crate::asked::{Asked, Telling, layouts};
 use crate::lent::push_lent;
 use crate::pair::{Pair, push_pair};
 use crate::words::{push_refusal, push_text};
-use checker_layouts::Layout;
+use checker_settings::Layout;
 use checker_texts::Refusal;
 use document_typed_operations::ExecutableDocument;
 use row_files::{Answer, Case, Lines, Problem, Tally, Way, compare};

@@ -1,7 +1,7 @@
 //! Answers in words.
 
 use checker_answers::{CheckError, Verdict};
-use checker_layouts::Layout;
+use checker_settings::Layout;
 use checker_texts::Refusal;
 use graphql_faults::DiagnosticList;
 use graphql_names::{FileId, SourceSpan};

@@ -35,3 +35,10 @@ pub mod Heads
 pub mod Verdicts
 pub mod LimitRows
 pub mod PlaceRows
+pub mod SettledFacts
+pub mod GoingFacts
+pub mod SharingFacts
+pub mod Reflexive
+pub mod Elsewhere
+pub mod PlainFacts
+pub mod Merges

@@ -25,3 +25,9 @@ pub mod FaultsUnplaced
 pub mod Named
 pub mod Told
 pub mod Laws
+pub mod Settled
+pub mod Going
+pub mod Sharing
+pub mod PlainFields
+pub mod MergingLaws
+pub mod Equivalences

@@ -1,6 +1,8 @@
-//! Laws of the rules, each the contract of a function that does nothing.
+//! Laws of the rules, and of merging by groups of fields, each the contract of a function that does nothing.
 
 ghost use Rattle.rule_document_definitions.specs.Laws.{SameDocumentVerdict, SameBounds, SameFieldSetVerdict, SameVerdictAlone, MergesByContents, RulesWithoutPlaces, MergingWithoutPlaces, SetRulesWithoutPlaces, RulesAloneWithoutPlaces, BoundsWithoutPlaces, SetBoundsWithoutPlaces, ValidWhereNothingIsTold, MergesWhereNothingIsTold, SetValidWhereNothingIsTold, ValidAloneWhereNothingIsTold, WithinBoundsWhereNothingIsTold, SetWithinBoundsWhereNothingIsTold};
+ghost use Rattle.rule_document_definitions.specs.Equivalences.{ShapesAgreeAsEquals, SelectionsAgreeAsEquals};
+ghost use Rattle.rule_document_definitions.specs.MergingLaws.{SettledFieldsMerge, StandingFieldsMerge, GoingAgrees, GoingBreaks, LongChainsPassTheBound};
 
 /// Documents that are equal, with their operations and fragments in the same order, get the same verdict under schemas that
 /// are equal with the same built in, and pass the same bounds, whatever the rules are. So do field sets and documents
@@ -36,4 +38,34 @@ pub fn valid_where_nothing_is_told()
     ensures alone { ValidAloneWhereNothingIsTold }
     ensures bounds { WithinBoundsWhereNothingIsTold }
     ensures field_set_bounds { SetWithinBoundsWhereNothingIsTold }
+{}
+
+/// Where the lists of contents are settled, those by keys in shape and those by keys and parents in name and arguments, and
+/// have all that starts, the fields of an operation merge (GraphQL, October 2021, section 5.3.2).
+pub fn settled_fields_merge()
+    ensures { SettledFieldsMerge }
+{}
+
+/// Where fields that go together and are in one list are settled, those by keys in shape and those by keys and parents in name and
+/// arguments, and all that starts stands with all that starts and goes together with it, the fields of an operation merge.
+pub fn standing_fields_merge()
+    ensures { StandingFieldsMerge }
+{}
+
+/// Two fields of a list that chains lead to agree if the fields of the operation merge; and what is told of two that do not
+/// agree breaks a rule on merging.
+pub fn fields_of_lists_meet()
+    ensures agree { GoingAgrees }
+    ensures breaks { GoingBreaks }
+{}
+
+/// A field at the end of a chain that is longer than the bound passes the bound.
+pub fn long_chains_pass_the_bound()
+    ensures { LongChainsPassTheBound }
+{}
+
+/// To have one shape, and to have one name and the same arguments, are equivalences: so fields that agree with one field agree.
+pub fn agreeing_is_an_equivalence()
+    ensures shapes { ShapesAgreeAsEquals }
+    ensures selections { SelectionsAgreeAsEquals }
 {}

@@ -22,7 +22,7 @@ use Rattle.rule_document_definitions.proofs.Unplaced.{contains_map, contains_unm
 use Rattle.rule_document_ground.specs.Fields.{field_of, fields_of, content_of, AddsFieldsOf}
 use Rattle.rule_document_ground.specs.declared.field_selection.FieldSelection.{FieldSelection}
 use Rattle.rule_document_ground.proofs.ContentEquality.{selection_eq, selection_eq-Decides}
-use Rattle.rule_merging_laws.specs.Contents.{PlainField}
+use Rattle.rule_document_definitions.specs.PlainFields.{PlainField}
 use Rattle.rule_field_groups.specs.Below.{contents_of, meant_at, meant_sets, AreSelected, IsDistinctOf, IsMerged}
 
 pub any_among : {X : Type 0} (test : X → Bool) (xs : List X) → list_any test xs ≡ true → (y : X) × (Contains xs y × (test y ≡ true))

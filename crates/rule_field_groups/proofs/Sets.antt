@@ -6,7 +6,7 @@ use Rattle.std.proofs.lemmas.List.Elements.{Contains-append_left, Contains-appen
 use Rattle.indexmap.specs.IndexSet.{insert_key}
 use Rattle.graphql_names.specs.Placed.{Place}
 use Rattle.rule_definitions.proofs.Lists.{not_in_nil, only}
-use Rattle.rule_merging_laws.specs.Contents.{PlainSet}
+use Rattle.rule_document_definitions.specs.PlainFields.{PlainSet}
 use Rattle.document_typed_selections.specs.TypedTree.{TypedSelection, TypedField, TypedSpread, TypedInline, TypedSet, typed_set, TypedSelections, no_typed, typed_then, typed_set_tree, holds_none, unplaced_typed_selection, unplaced_typed_set, unplaced_typed_selections}
 use Rattle.rule_field_groups.specs.declared.below.SelectedSet.{SelectedSet}
 use Rattle.document_typed_selections.proofs.TypedEquality.{set_eq-Decides}

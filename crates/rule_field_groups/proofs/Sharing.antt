@@ -14,8 +14,8 @@ use Rattle.rule_document_definitions.specs.Selected.{StandingField, response_key
 use Rattle.rule_document_definitions.proofs.Unplaced.{contains_map, contains_unmap}
 use Rattle.rule_document_ground.specs.Fields.{field_of, fields_of}
 use Rattle.rule_document_ground.specs.declared.field_selection.FieldSelection.{FieldSelection}
-use Rattle.rule_merging_laws.specs.Sharing.{AreKeyGroups, AreShareGroups, IsOn}
-use Rattle.rule_merging_laws.proofs.SharingFacts.{key_groups, share_groups}
+use Rattle.rule_document_definitions.specs.Sharing.{AreKeyGroups, AreShareGroups, IsOn}
+use Rattle.rule_document_definitions.proofs.SharingFacts.{key_groups, share_groups}
 use Rattle.rule_field_groups.specs.Compared.{compared}
 use Rattle.rule_field_groups.specs.Kinds.{is_abstract}
 use Rattle.rule_field_groups.specs.Passes.{Together}

@@ -8,7 +8,7 @@ use Rattle.document_meaning.specs.Unplaced.{unplaced_set}
 use Rattle.rule_document_definitions.specs.Selected.{StandingField}
 use Rattle.rule_document_definitions.specs.Contents.{unplaced_content}
 use Rattle.rule_document_ground.specs.Fields.{fields_of, content_of}
-use Rattle.rule_merging_laws.specs.Contents.{PlainField, PlainSet, IsSelected}
+use Rattle.rule_document_definitions.specs.PlainFields.{PlainField, PlainSet, IsSelected}
 use Rattle.rule_cycle_search.specs.Paths.{HasNoRepeat}
 use Rattle.rule_document_ground.specs.declared.field_selection.FieldSelection.{FieldSelection}
 use Rattle.rule_field_groups.specs.declared.below.SelectedSet.{SelectedSet}

@@ -6,5 +6,8 @@ pub mod Passes
 pub mod Compared
 pub mod Below
 pub mod Under
+pub mod Own
+pub mod Laws
+pub mod Paired
 -- For the layer above.
 pub use Rattle.rule_document_ground.specs as in_ground

@@ -8,20 +8,29 @@
 //! together (`AreGroups`, over `Together` of `specs/Passes.antt`, and `parts_of` of `specs/KeyGroups.antt`);
 //! `check_key_group` adds what of the parts of a group does not agree (`AddsEach`), and counts how often shapes were compared
 //! (`specs/Compared.antt`); `merged_list` gives what sets select, each content once (`IsMerged` of `specs/Below.antt`),
-//! `lists_below` the lists of sets below a group (`AreListsBelow` of `specs/Under.antt`).
+//! `lists_below` the lists of sets below a group (`AreListsBelow` of `specs/Under.antt`). `own_fields_of` and `spread_sets_of`
+//! give what a set selects itself and what it spreads (`specs/Own.antt`).
 //!
-//! Begin with `groups.rt` and `conflicts.rt`, then `below.rt`.
+//! The fields that a set has through fragments are the own fields of the sets that spreads lead to from it: of inline
+//! fragments, which are spread where they stand, and of fragments (`laws::fields_through_spreads`). So fields are found by
+//! steps from set to set, and no set is scanned twice. Own fields and spread sets are the same without places
+//! (`proofs/Plain.antt`).
+//!
+//! Begin with `groups.rt` and `conflicts.rt`, then `below.rt` and `own.rt`.
 #![tactic(auto)]
 
 mod below;
 mod conflicts;
 mod groups;
 mod kinds;
+pub mod laws;
+mod own;
 mod pass;
 mod shapes;
 
 pub use below::{SelectedSet, lists_below, merged_list};
 pub use conflicts::{Breach, check_group, check_key_group};
 pub use groups::{KeyGroup, groups_of};
+pub use own::{SpreadSet, own_fields_of, spread_sets_of};
 pub use pass::Pass;
 pub use rule_document_ground::FieldSelection;

@@ -15,8 +15,8 @@ use Rattle.rule_document_definitions.proofs.MergingFacts.{merging_breaks_nothing
 use Rattle.rule_document_definitions.proofs.Stable.{merge_if_nothing_breaks}
 use Rattle.rule_document_definitions.proofs.Unplaced.{contains_unmap}
 use Rattle.rule_merging.specs.Examined.{Breaches}
-use Rattle.rule_merging_laws.specs.Contents.{PlainStarts, AreShapesStanding}
-use Rattle.rule_merging_laws.specs.Settled.{StandWhere, StartsStand}
+use Rattle.rule_document_definitions.specs.PlainFields.{PlainStarts, AreShapesStanding}
+use Rattle.rule_document_definitions.specs.Settled.{StandWhere, StartsStand}
 use Rattle.rule_merging.specs.Verdict.{lists_examined, ExaminesOperation}
 use Rattle.rule_merging.specs.declared.operation.Examined.{Examined}
 use Rattle.rule_field_groups.specs.in_ground.Broken.{brokens_of}

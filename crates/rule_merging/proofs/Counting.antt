@@ -20,9 +20,9 @@ use Rattle.rule_document_definitions.specs.Merging.{Below, Starts}
 use Rattle.rule_document_definitions.proofs.Unplaced.{contains_unmap}
 use Rattle.rule_field_groups.specs.in_ground.Fields.{field_of, fields_of, content_of}
 use Rattle.rule_field_groups.specs.in_ground.declared.field_selection.FieldSelection.{FieldSelection}
-use Rattle.rule_merging_laws.specs.Contents.{PlainField, PlainBelow}
-use Rattle.rule_merging_laws.proofs.Elsewhere.{content_starts}
-use Rattle.rule_merging_laws.proofs.PlainFacts.{plain_below, below_standing}
+use Rattle.rule_document_definitions.specs.PlainFields.{PlainField, PlainBelow}
+use Rattle.rule_document_definitions.proofs.Elsewhere.{content_starts}
+use Rattle.rule_document_definitions.proofs.PlainFacts.{plain_below, below_standing}
 use Rattle.rule_field_groups.specs.declared.pass.Pass.{Pass}
 use Rattle.rule_field_groups.specs.declared.pass.Pass.TheVariants.{Shapes, Selections}
 use Rattle.rule_field_groups.specs.Below.{contents_of, IsMergedIn}

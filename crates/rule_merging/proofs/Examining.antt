@@ -21,14 +21,14 @@ use Rattle.rule_document_definitions.proofs.MergingUnplaced.{key_up}
 use Rattle.rule_document_definitions.proofs.Unplaced.{contains_map, contains_unmap}
 use Rattle.rule_field_groups.specs.in_ground.Fields.{field_of, fields_of}
 use Rattle.rule_field_groups.specs.in_ground.declared.field_selection.FieldSelection.{FieldSelection}
-use Rattle.rule_merging_laws.specs.Contents.{PlainField, PlainSet, PlainBelow, PlainStarts, IsSelected}
-use Rattle.rule_merging_laws.specs.Settled.{StandIn, StartsStand, IsUnderWay}
-use Rattle.rule_field_sets.specs.Paired.{IsPairDone}
-use Rattle.rule_merging_laws.specs.Going.{IsEndOf, IsGoing}
-use Rattle.rule_merging_laws.proofs.SettledFacts.{by_head, begun, moved, ended}
-use Rattle.rule_merging_laws.proofs.GoingFacts.{going_start, going_below, end_start, end_below}
-use Rattle.rule_merging_laws.proofs.PlainFacts.{arguments_plain, selected_plain}
-use Rattle.rule_merging_laws.proofs.Merges.{going_breaks, bound_passed}
+use Rattle.rule_document_definitions.specs.PlainFields.{PlainField, PlainSet, PlainBelow, PlainStarts, IsSelected}
+use Rattle.rule_document_definitions.specs.Settled.{StandIn, StartsStand, IsUnderWay}
+use Rattle.rule_field_groups.specs.Paired.{IsPairDone}
+use Rattle.rule_document_definitions.specs.Going.{IsEndOf, IsGoing}
+use Rattle.rule_document_definitions.proofs.SettledFacts.{by_head, begun, moved, ended}
+use Rattle.rule_document_definitions.proofs.GoingFacts.{going_start, going_below, end_start, end_below}
+use Rattle.rule_document_definitions.proofs.PlainFacts.{arguments_plain, selected_plain}
+use Rattle.rule_document_definitions.proofs.Merges.{going_breaks, bound_passed}
 use Rattle.rule_field_groups.specs.declared.pass.Pass.{Pass}
 use Rattle.rule_field_groups.specs.declared.pass.Pass.TheVariants.{Shapes, Selections}
 use Rattle.rule_field_groups.specs.Passes.{Together, Agree, Conflict, TellsEach}

@@ -3,7 +3,7 @@ use Rattle.std.proofs.Common.{◌≡◌, ◌∙◌, true, false, List, [], ◌�
 use Rattle.std.proofs.lemmas.List.{map-append}
 use Rattle.std.proofs.lemmas.List.Elements.{Contains-append_left, Contains-append_right, Contains-append_cases}
 use Rattle.rule_definitions.proofs.Lists.{not_in_nil, only, Contains-first}
-use Rattle.rule_merging_laws.specs.Contents.{PlainSet}
+use Rattle.rule_document_definitions.specs.PlainFields.{PlainSet}
 use Rattle.rule_number_lists.specs.NumberLists.{HaveSame}
 use Rattle.rule_field_groups.specs.Below.{plain_sets}
 use Rattle.rule_merging.specs.declared.remembered.Pair.{Pair}

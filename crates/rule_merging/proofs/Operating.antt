@@ -10,7 +10,7 @@ use Rattle.document_meaning.specs.MeantTree.{MeantOperation, MeantDocument, mean
 use Rattle.document_typing.specs.DocumentView.{operation_meant}
 use Rattle.rule_definitions.specs.Judged.{Judged}
 use Rattle.rule_document_definitions.specs.DocumentFaults.{Broken}
-use Rattle.rule_merging_laws.proofs.Merges.{standing_fields_merge}
+use Rattle.rule_document_definitions.proofs.Merges.{standing_fields_merge}
 use Rattle.rule_field_groups.specs.declared.pass.Pass.TheVariants.{Shapes, Selections}
 use Rattle.rule_merging.specs.declared.operation.Examined.{Examined}
 use Rattle.rule_merging.specs.Remembered.{remembered, kept_of}

@@ -22,13 +22,13 @@ use Rattle.rule_field_groups.specs.Below.{plain_sets}
 use Rattle.rule_field_groups.proofs.Counts.{drop_first}
 use Rattle.rule_number_lists.specs.NumberLists.{HaveSame}
 use Rattle.rule_number_lists.proofs.Standing.{same_trans, same_sym}
-use Rattle.rule_merging_laws.specs.Contents.{PlainField, PlainSet, PlainBelow, PlainStarts, IsSelected}
-use Rattle.rule_merging_laws.specs.Settled.{StandIn, IsUnderWay}
-use Rattle.rule_field_sets.specs.Own.{own_fields, spread_sets, IsSpreadFrom}
-use Rattle.rule_field_sets.specs.Laws.{HasField}
-use Rattle.rule_field_sets.proofs.Reaching.{through_spreads}
-use Rattle.rule_field_sets.proofs.Plain.{own_plain, spread_plain}
-use Rattle.rule_field_sets.proofs.PairedFacts.{pairs_stand}
+use Rattle.rule_document_definitions.specs.PlainFields.{PlainField, PlainSet, PlainBelow, PlainStarts, IsSelected}
+use Rattle.rule_document_definitions.specs.Settled.{StandIn, IsUnderWay}
+use Rattle.rule_field_groups.specs.Own.{own_fields, spread_sets, IsSpreadFrom}
+use Rattle.rule_field_groups.specs.Laws.{HasField}
+use Rattle.rule_field_groups.proofs.Reaching.{through_spreads}
+use Rattle.rule_field_groups.proofs.Plain.{own_plain, spread_plain}
+use Rattle.rule_field_groups.proofs.PairedFacts.{pairs_stand}
 use Rattle.rule_merging.specs.Remembered.{Kept}
 use Rattle.rule_merging.specs.Examined.{Sets, all_plain, with_each, StandTogether, PlainOwn, PlainSelected, PlainSpreads, AreLookedAt, IsLeft, PairsAreDone, AreUnderWay, TellsIn, ComeFrom, SelectsAsMuch, SetsExamined, PairExamined, PairsExamined, AreTwosOf}
 use Rattle.rule_merging.specs.Counted.{IsLast, AreListed}

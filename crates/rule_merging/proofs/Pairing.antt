@@ -20,8 +20,8 @@ use Rattle.rule_field_groups.specs.Grouped.{key_of}
 use Rattle.rule_field_groups.specs.Below.{contents_of, plain_sets}
 use Rattle.rule_field_groups.proofs.Lists.{taken_more}
 use Rattle.rule_number_lists.specs.NumberLists.{HaveSame}
-use Rattle.rule_merging_laws.specs.Contents.{PlainField, PlainSet}
-use Rattle.rule_merging_laws.specs.Settled.{StandIn}
+use Rattle.rule_document_definitions.specs.PlainFields.{PlainField, PlainSet}
+use Rattle.rule_document_definitions.specs.Settled.{StandIn}
 use Rattle.rule_merging.specs.Remembered.{Kept}
 use Rattle.rule_merging.specs.Examined.{Sets, Breaches, all_plain, IsFresh, ListExamined}
 use Rattle.rule_merging.specs.Twos.{TwoFields, are_two, IsListOf, both_of, GoTogether, FieldsPaired}

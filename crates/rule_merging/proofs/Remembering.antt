@@ -16,7 +16,7 @@ use Rattle.rule_field_groups.specs.in_ground.Fields.{content_of}
 use Rattle.rule_field_groups.specs.in_ground.declared.field_selection.FieldSelection.{FieldSelection}
 use Rattle.rule_field_groups.proofs.in_ground.ContentEquality.{selection_eq, selection_eq-Decides}
 use Rattle.rule_field_groups.specs.declared.below.SelectedSet.{SelectedSet}
-use Rattle.rule_merging_laws.specs.Contents.{PlainField, PlainSet}
+use Rattle.rule_document_definitions.specs.PlainFields.{PlainField, PlainSet}
 use Rattle.rule_field_groups.specs.Below.{contents_of, meant_at, meant_sets, plain_sets}
 use Rattle.rule_field_groups.proofs.Sets.{set_key_eq, same_sets}
 use Rattle.rule_merging.specs.Remembered.{Kept, Remembers, HasLooked, Expands, LooksAt}

@@ -9,7 +9,7 @@ use Rattle.rule_document_definitions.specs.Selected.{StandingField}
 use Rattle.rule_document_definitions.specs.Chains.{Chain}
 use Rattle.rule_document_definitions.specs.Merging.{Below, Starts}
 use Rattle.rule_document_definitions.specs.Contents.{unplaced_content}
-use Rattle.rule_merging_laws.specs.Contents.{PlainField, IsSelected}
+use Rattle.rule_document_definitions.specs.PlainFields.{PlainField, IsSelected}
 use Rattle.rule_field_groups.specs.Compared.{compared}
 use Rattle.rule_field_groups.specs.declared.pass.Pass.{Pass}
 

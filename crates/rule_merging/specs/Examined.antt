@@ -16,10 +16,10 @@ use Rattle.rule_document_definitions.specs.Limits.{PassesChainBound}
 use Rattle.rule_field_groups.specs.in_ground.Broken.{brokens_of}
 use Rattle.rule_field_groups.specs.in_ground.Fields.{fields_of}
 use Rattle.rule_field_groups.specs.in_ground.declared.field_selection.FieldSelection.{FieldSelection}
-use Rattle.rule_merging_laws.specs.Contents.{PlainField, PlainSet, PlainBelow, PlainStarts, IsSelected}
-use Rattle.rule_merging_laws.specs.Settled.{StandIn, StandWhere, StartsStand, IsSettledIn, IsUnderWay}
-use Rattle.rule_field_sets.specs.Paired.{ArePairsDone}
-use Rattle.rule_field_sets.specs.Own.{own_fields, spread_sets}
+use Rattle.rule_document_definitions.specs.PlainFields.{PlainField, PlainSet, PlainBelow, PlainStarts, IsSelected}
+use Rattle.rule_document_definitions.specs.Settled.{StandIn, StandWhere, StartsStand, IsSettledIn, IsUnderWay}
+use Rattle.rule_field_groups.specs.Paired.{ArePairsDone}
+use Rattle.rule_field_groups.specs.Own.{own_fields, spread_sets}
 use Rattle.rule_field_groups.specs.Passes.{Together, Agree, Conflict}
 pub use Rattle.rule_field_groups.specs.Under.{Sets, all_sets, sets_in, AreOf, IsAmong, HaveBoth}
 use Rattle.rule_field_groups.specs.Below.{contents_of, plain_sets, IsMergedIn}

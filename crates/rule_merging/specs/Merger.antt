@@ -7,8 +7,8 @@ use Rattle.document_typing.specs.DocumentView.{document_meant}
 use Rattle.rule_definitions.specs.Judged.{Judged, judged}
 use Rattle.rule_document_definitions.specs.Merging.{FieldsMerge, SameKey}
 use Rattle.rule_document_definitions.specs.Selected.{operations}
-use Rattle.rule_merging_laws.specs.Contents.{PlainField, PlainStarts, AreShapesStanding}
-use Rattle.rule_merging_laws.specs.Settled.{StandWhere, StartsStand}
+use Rattle.rule_document_definitions.specs.PlainFields.{PlainField, PlainStarts, AreShapesStanding}
+use Rattle.rule_document_definitions.specs.Settled.{StandWhere, StartsStand}
 use Rattle.rule_merging.specs.Counted.{IsCountedBy}
 use Rattle.rule_merging.specs.Verdict.{lists_examined, comparisons_of, OnlyGrow}
 use Rattle.graphql_faults.specs.DetailsTree.{Telling}

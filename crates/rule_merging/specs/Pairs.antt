@@ -3,7 +3,7 @@ use Rattle.std.specs.Prelude.{◌≡◌, ◌++◌, ◌∷◌, ◌⊎◌, List, [
 use Rattle.graphql_names.specs.Placed.{Place}
 use Rattle.document_meaning.specs.MeantTree.{MeantSet}
 use Rattle.rule_number_lists.specs.NumberLists.{HaveSame}
-use Rattle.rule_merging_laws.specs.Contents.{PlainSet}
+use Rattle.rule_document_definitions.specs.PlainFields.{PlainSet}
 use Rattle.rule_field_groups.specs.Below.{plain_sets}
 use Rattle.rule_merging.specs.Remembered.{Kept, HasLooked}
 use Rattle.rule_merging.specs.Examined.{Sets, AreTwosOf}

@@ -7,7 +7,7 @@ use Rattle.rule_cycle_search.specs.Paths.{HasNoRepeat}
 use Rattle.rule_number_lists.specs.Numbered.{at_places}
 use Rattle.rule_number_lists.specs.NumberLists.{HaveSame}
 use Rattle.rule_number_lists.specs.ListMemory.{items_of, numbers_kept}
-use Rattle.rule_merging_laws.specs.Contents.{PlainField, PlainSet}
+use Rattle.rule_document_definitions.specs.PlainFields.{PlainField, PlainSet}
 use Rattle.rule_field_groups.specs.Below.{contents_of, meant_at, meant_sets, plain_sets}
 use Rattle.rule_merging.specs.declared.remembered.Pair.{Pair}
 use Rattle.rule_merging.specs.declared.remembered.Remembered.{Remembered}

@@ -5,8 +5,8 @@ use Rattle.document_meaning.specs.MeantTree.{MeantDocument}
 use Rattle.rule_definitions.specs.Judged.{Judged}
 use Rattle.rule_document_definitions.specs.DocumentFaults.{Broken}
 use Rattle.rule_document_definitions.specs.Selected.{StandingField}
-use Rattle.rule_merging_laws.specs.Contents.{PlainField}
-use Rattle.rule_merging_laws.specs.Settled.{StandIn}
+use Rattle.rule_document_definitions.specs.PlainFields.{PlainField}
+use Rattle.rule_document_definitions.specs.Settled.{StandIn}
 use Rattle.rule_field_groups.specs.in_ground.Broken.{brokens_of}
 use Rattle.rule_field_groups.specs.in_ground.Fields.{field_of, content_of}
 use Rattle.rule_field_groups.specs.in_ground.declared.field_selection.FieldSelection.{FieldSelection}

@@ -7,8 +7,8 @@ use Rattle.rule_document_definitions.specs.DocumentFaults.{Broken}
 use Rattle.rule_document_definitions.specs.Merging.{FieldsMerge, MergingBreaks}
 use Rattle.rule_document_definitions.specs.Limits.{PassesChainBound}
 use Rattle.rule_field_groups.specs.in_ground.Broken.{brokens_of}
-use Rattle.rule_merging_laws.specs.Contents.{PlainField, PlainStarts}
-use Rattle.rule_merging_laws.specs.Settled.{StartsStand}
+use Rattle.rule_document_definitions.specs.PlainFields.{PlainField, PlainStarts}
+use Rattle.rule_document_definitions.specs.Settled.{StartsStand}
 use Rattle.rule_number_lists.specs.Numbered.{Grows}
 use Rattle.rule_merging.specs.Counted.{IsCountedBy}
 use Rattle.rule_merging.specs.Remembered.{remembered, kept_of}

@@ -25,7 +25,11 @@ pub struct Examined<'doc> {
 
 impl Drop for Examined<'_> {
     fn drop(self) {
-        let Examined { shapes: _, selections: _, comparisons: _ } = self;
+        let Examined {
+            shapes: _,
+            selections: _,
+            comparisons: _,
+        } = self;
     }
 }
 

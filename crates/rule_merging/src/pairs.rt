@@ -1,14 +1,13 @@
 //! Pairs of sets that are looked at together: each pair once, whichever operations it is in, by what the two sets say.
 ghost use Rattle.std.specs.Prelude.{◌≡◌, ◌∷◌, [], OnOk};
 ghost use Rattle.rule_field_groups.specs.Below.{meant_at, meant_sets};
-ghost use Rattle.rule_field_sets.specs.Laws.{meant_spread};
+ghost use Rattle.rule_field_groups.specs.Laws.{meant_spread};
 ghost use Rattle.rule_merging.specs.Remembered.{remembered, kept_of};
 ghost use Rattle.rule_merging.specs.Examined.{with_each};
 ghost use Rattle.rule_merging.specs.Pairs.{Looks, LooksAtTwos, each_with};
 
 use crate::remembered::{Pair, Remembered};
-use rule_field_groups::SelectedSet;
-use rule_field_sets::SpreadSet;
+use rule_field_groups::{SelectedSet, SpreadSet};
 use std::alloc::AllocError;
 
 impl<'doc> Remembered<'doc> {

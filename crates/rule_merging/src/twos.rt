@@ -10,8 +10,7 @@ ghost use Rattle.rule_merging.specs.Examined.{ExaminesPair, ExaminesPairs, Exami
 
 use crate::examination::Examination;
 use crate::remembered::{Pair, Remembered};
-use rule_field_groups::{Breach, FieldSelection, SelectedSet};
-use rule_field_sets::{own_fields_of, spread_sets_of};
+use rule_field_groups::{Breach, FieldSelection, SelectedSet, own_fields_of, spread_sets_of};
 use std::alloc::{AllocError, Global};
 
 /// Whether two fields are answered under one key.

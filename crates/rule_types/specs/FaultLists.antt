@@ -19,6 +19,7 @@ use Rattle.tree_type_members.specs.declared.enum_value.EnumValueDefinition.{Enum
 use Rattle.schema_components.specs.Lists.{is_among, each_place}
 use Rattle.schema_components.specs.Given.{Given, component_name_tree}
 use Rattle.schema_components.specs.declared.component.Component.{Component}
+use Rattle.schema_components.specs.declared.component_name.ComponentName.{ComponentName}
 use Rattle.schema_types.specs.SchemaTree.{SchemaType, SchemaRoots, SchemaTree, kind_words, is_input_kind, is_output_kind, same_kind}
 use Rattle.schema_types.specs.Addresses.{type_at}
 use Rattle.schema_types.specs.TypeView.{name_text, extended_type}
@@ -26,11 +27,14 @@ use Rattle.schema_types.specs.declared.extended_type.ExtendedType.{ExtendedType}
 use Rattle.schema_types.specs.declared.extended_type.ExtendedType.TheVariants as rust
 use Rattle.schema_types.specs.declared.type_kind.TypeKind.{TypeKind}
 use Rattle.schema_types.specs.declared.type_kind.TypeKind.TheVariants as kind
+use Rattle.graphql_schema.specs.SchemaOf.{schema_tree}
+use Rattle.graphql_schema.specs.declared.schema.Schema.{Schema}
 use Rattle.fault_data.specs.in_rule_definitions.Diagnostics.{QueryRootOperationType, UndefinedDefinition, RootOperationObjectType, DuplicateRootOperationType, ReservedName, OutputType, InputType, EmptyFieldSet, EmptyValueSet, EmptyMemberSet, EmptyInputValueSet, UnionMemberObjectType, UniqueInputValue}
 use Rattle.fault_data.specs.in_rule_definitions.Faults.{wrong}
 use Rattle.fault_data.specs.in_rule_definitions.Names.{is_reserved, scalar_names}
 use Rattle.fault_data.specs.in_rule_definitions.Rules.{extension_places}
 use Rattle.fault_data.specs.in_rule_definitions.Told.{PlacedFault}
+use Rattle.rule_types.specs.Trees.{root_tree}
 
 -- y where there are none
 abbrev pub if_none : {X Y : Type 0} → List X → Y → List Y
@@ -106,6 +110,9 @@ same_root o None p root = []
 same_root o (Some f) p None = []
 same_root o (Some f) p (Some g) = if bytes_eq g.it.it f.it.it then wrong g.it.place (DuplicateRootOperationType g.it.it o f.it.place p g.it.place) ∷ [] else []
 
+abbrev pub duplicate_root_operation_type : OperationType → Option ComponentName → OperationType → Option ComponentName → List PlacedFault
+duplicate_root_operation_type o root p again = same_root o (root_tree root) p (root_tree again)
+
 -- these, or else those
 abbrev pub or_else : {Y : Type 0} → List Y → List Y → List Y
 or_else [] ys = ys
@@ -114,6 +121,10 @@ or_else (x ∷ xs) ys = x ∷ xs
 -- of the third root, where the first or else the second is the same type
 abbrev pub subscription_again : SchemaRoots Place → List PlacedFault
 subscription_again r = or_else (same_root operation.Query r.query operation.Subscription r.subscription) (same_root operation.Mutation r.mutation operation.Subscription r.subscription)
+
+-- of each root of which an earlier one is the same type
+abbrev pub repeated_roots : SchemaRoots Place → List PlacedFault
+repeated_roots r = same_root operation.Query r.query operation.Mutation r.mutation ++ subscription_again r
 
 -- ---- all rules of each kind of place
 
@@ -153,6 +164,9 @@ module _ (s : SchemaTree Place) where
   abbrev pub members_faults : List ℕ → SchemaType Place → List (Given Place (Text Place)) → List PlacedFault
   members_faults n t gs = empty_member_set n t gs ++ flat_map (λ g. member_faults g.it) gs
 
+  abbrev pub union_faults : List ℕ → SchemaType Place → List ComponentName → List PlacedFault
+  union_faults n t members = members_faults n t (map component_name_tree members)
+
   abbrev pub each_input_faults : List (NameValue × Component InputValueDefinition) → List PlacedFault
   each_input_faults es = flat_map (λ (e : NameValue × Component InputValueDefinition). input_faults (name_text e.0) (node_tree input_value_tree e.1.node)) es
 
@@ -164,7 +178,7 @@ module _ (s : SchemaTree Place) where
   parts_faults n (rust.Scalar t) = []
   parts_faults n (rust.Object t) = fields_faults n (extended_type (rust.Object t)) (content t).fields.entries
   parts_faults n (rust.Interface t) = fields_faults n (extended_type (rust.Interface t)) (content t).fields.entries
-  parts_faults n (rust.Union t) = members_faults n (extended_type (rust.Union t)) (map component_name_tree (content t).members.keys)
+  parts_faults n (rust.Union t) = union_faults n (extended_type (rust.Union t)) (content t).members.keys
   parts_faults n (rust.Enum t) = values_faults n (extended_type (rust.Enum t)) (content t).values.entries
   parts_faults n (rust.InputObject t) = inputs_faults n (extended_type (rust.InputObject t)) (content t).fields.entries
 
@@ -181,8 +195,7 @@ module _ (s : SchemaTree Place) where
   abbrev pub roots_faults : List PlacedFault
   roots_faults =
       query_root_operation_type s.definition
-      ++ (root_faults s.definition.query ++ (root_faults s.definition.mutation ++ (root_faults s.definition.subscription
-      ++ (same_root operation.Query s.definition.query operation.Mutation s.definition.mutation ++ subscription_again s.definition))))
+      ++ (root_faults s.definition.query ++ (root_faults s.definition.mutation ++ (root_faults s.definition.subscription ++ repeated_roots s.definition)))
 
   abbrev pub types_faults : List (NameValue × ExtendedType) → List PlacedFault
   types_faults es = flat_map (λ (e : NameValue × ExtendedType). type_faults (name_text e.0) e.1) es
@@ -193,3 +206,6 @@ module _ (s : SchemaTree Place) where
 -- of a schema with these types and directive definitions
 abbrev pub all_faults : SchemaTree Place → List (NameValue × ExtendedType) → List (NameValue × Node DirectiveDefinition) → List PlacedFault
 all_faults s types directives = roots_faults s ++ (types_faults s types ++ directives_faults s directives)
+
+abbrev pub faults_in : Schema → List PlacedFault
+faults_in s = all_faults (schema_tree s) s.types.entries s.directive_definitions.entries

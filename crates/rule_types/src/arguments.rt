@@ -1,13 +1,12 @@
 //! Rules on argument definitions and input fields (sections 3.6, 3.10 and 3.13).
-ghost use Rattle.std.specs.Prelude.{◌≡◌, ◌++◌, [], ◌∷◌, map, OnOk, flat_map};
-ghost use Rattle.graphql_names.specs.Placed.{node_tree};
-ghost use Rattle.tree_directives.specs.DirectiveTree.{input_value_tree};
+ghost use Rattle.std.specs.Prelude.{◌++◌, [], ◌∷◌, OnOk, flat_map};
 ghost use Rattle.schema_components.specs.Lists.{each_place};
 ghost use Rattle.graphql_schema.specs.SchemaOf.{schema_tree};
-ghost use Rattle.fault_data.specs.FaultView.{faults_of};
-ghost use Rattle.rule_types.specs.FaultLists.{unique_input_value, input_value_faults, argument_faults, arguments_faults};
+ghost use Rattle.rule_types.specs.Adds.{AddsThese};
 ghost use Rattle.rule_types.specs.NamedWords.{named_words};
 ghost use Rattle.rule_types.specs.Seen.{AreSeen};
+ghost use Rattle.rule_types.specs.FaultLists.{unique_input_value, input_value_faults, argument_faults, arguments_faults};
+ghost use Rattle.rule_types.specs.Trees.{input_tree, input_trees};
 
 use crate::look_ups::kind_inside;
 use crate::reserved::{Named, reserved_name};
@@ -26,7 +25,7 @@ pub(crate) fn check_arguments(
     arguments: &[Node<InputValueDefinition>],
     faults: &mut Vec<Fault>,
 ) -> Result<(), AllocError>
-    ensures { OnOk result (faults_of faults.new ≡ faults_of faults.old ++ arguments_faults (schema_tree schema.now) (map (node_tree input_value_tree) arguments.now)) }
+    ensures { OnOk result (AddsThese faults.old faults.new (arguments_faults (schema_tree schema.now) (input_trees arguments.now))) }
 {
     check_each_argument(schema, arguments, faults)?;
     check_repeats(alloc, arguments, faults)
@@ -38,7 +37,7 @@ fn check_each_argument(
     arguments: &[Node<InputValueDefinition>],
     faults: &mut Vec<Fault>,
 ) -> Result<(), AllocError>
-    ensures { OnOk result (faults_of faults.new ≡ faults_of faults.old ++ flat_map (argument_faults (schema_tree schema.now)) (map (node_tree input_value_tree) arguments.now)) }
+    ensures { OnOk result (AddsThese faults.old faults.new (flat_map (argument_faults (schema_tree schema.now)) (input_trees arguments.now))) }
 {
     for argument in arguments {
         check_argument(schema, argument, faults)?;
@@ -52,7 +51,7 @@ fn check_argument(
     argument: &Node<InputValueDefinition>,
     faults: &mut Vec<Fault>,
 ) -> Result<(), AllocError>
-    ensures { OnOk result (faults_of faults.new ≡ faults_of faults.old ++ argument_faults (schema_tree schema.now) (node_tree input_value_tree argument.now)) }
+    ensures { OnOk result (AddsThese faults.old faults.new (argument_faults (schema_tree schema.now) (input_tree argument.now))) }
 {
     let name = &argument.content().name;
     check_input_value(schema, name, argument, Named::Argument, faults)
@@ -66,7 +65,7 @@ pub(crate) fn check_input_value(
     named: Named,
     faults: &mut Vec<Fault>,
 ) -> Result<(), AllocError>
-    ensures { OnOk result (faults_of faults.new ≡ faults_of faults.old ++ input_value_faults (schema_tree schema.now) name.now.text (named_words named) (node_tree input_value_tree input.now)) }
+    ensures { OnOk result (AddsThese faults.old faults.new (input_value_faults (schema_tree schema.now) name.now.text (named_words named) (input_tree input.now))) }
 {
     let content = input.content();
     let ty = content.ty.content();
@@ -88,7 +87,7 @@ fn check_repeats(
     arguments: &[Node<InputValueDefinition>],
     faults: &mut Vec<Fault>,
 ) -> Result<(), AllocError>
-    ensures { OnOk result (faults_of faults.new ≡ faults_of faults.old ++ each_place unique_input_value (map (node_tree input_value_tree) arguments.now)) }
+    ensures { OnOk result (AddsThese faults.old faults.new (each_place unique_input_value (input_trees arguments.now))) }
 {
     let mut seen = IndexMap::new(alloc);
     for argument in arguments {
@@ -105,7 +104,7 @@ fn unique_input_value(
     argument: &Node<InputValueDefinition>,
     faults: &mut Vec<Fault>,
 ) -> Result<(), AllocError>
-    ensures { (before : _) → AreSeen seen.now before → OnOk result (faults_of faults.new ≡ faults_of faults.old ++ unique_input_value before (node_tree input_value_tree argument.now)) }
+    ensures { (before : _) → AreSeen seen.now before → OnOk result (AddsThese faults.old faults.new (unique_input_value before (input_tree argument.now))) }
 {
     let name = &argument.content().name;
     match seen.get(name) {
@@ -132,7 +131,7 @@ fn see(
     seen: &mut IndexMap<Name, Option<SourceSpan>>,
     argument: &Node<InputValueDefinition>,
 ) -> Result<(), AllocError>
-    ensures { (before : _) → AreSeen seen.old before → OnOk result (AreSeen seen.new (before ++ node_tree input_value_tree argument.now ∷ [])) }
+    ensures { (before : _) → AreSeen seen.old before → OnOk result (AreSeen seen.new (before ++ input_tree argument.now ∷ [])) }
 {
     let name = &argument.content().name;
     if seen.get(name).is_some() {

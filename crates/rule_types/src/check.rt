@@ -1,14 +1,13 @@
 //! Tells which rules a schema breaks on its roots, names, the types that are named, and what a type must have.
-ghost use Rattle.std.specs.Prelude.{◌≡◌, ◌++◌, OnOk};
-ghost use Rattle.graphql_names.specs.Placed.{node_tree};
-ghost use Rattle.tree_directives.specs.DirectiveTree.{directive_definition_tree};
+ghost use Rattle.std.specs.Prelude.{OnOk};
 ghost use Rattle.graphql_schema.specs.SchemaOf.{schema_tree};
 ghost use Rattle.fault_data.specs.Adds.{Adds};
-ghost use Rattle.fault_data.specs.FaultView.{faults_of};
+ghost use Rattle.rule_types.specs.Adds.{AddsThese};
 ghost use Rattle.schema_types.specs.Distinct.{AreAllDistinct};
 ghost use Rattle.fault_data.specs.in_rule_definitions.Told.{Told};
 ghost use Rattle.rule_types.specs.TypesBreak.{TypesBreak};
-ghost use Rattle.rule_types.specs.FaultLists.{parts_faults, type_faults, types_faults, directive_faults, directives_faults, all_faults};
+ghost use Rattle.rule_types.specs.FaultLists.{parts_faults, type_faults, directive_faults, types_faults, directives_faults, faults_in};
+ghost use Rattle.rule_types.specs.Trees.{directive_tree};
 
 use crate::arguments::check_arguments;
 use crate::members::{check_fields, check_input_fields, check_members, check_values};
@@ -36,7 +35,7 @@ pub fn check_types(
 
 /// Tells the faults of the roots, then those of each type, then those of each directive definition.
 fn check_all(alloc: Global, schema: &Schema, faults: &mut Vec<Fault>) -> Result<(), AllocError>
-    ensures { OnOk result (faults_of faults.new ≡ faults_of faults.old ++ all_faults (schema_tree schema.now) schema.now.types.entries schema.now.directive_definitions.entries) }
+    ensures { OnOk result (AddsThese faults.old faults.new (faults_in schema.now)) }
 {
     check_roots(schema, faults)?;
     check_each_type(alloc, schema, faults)?;
@@ -49,7 +48,7 @@ fn check_each_type(
     schema: &Schema,
     faults: &mut Vec<Fault>,
 ) -> Result<(), AllocError>
-    ensures { OnOk result (faults_of faults.new ≡ faults_of faults.old ++ types_faults (schema_tree schema.now) schema.now.types.entries) }
+    ensures { OnOk result (AddsThese faults.old faults.new (types_faults (schema_tree schema.now) schema.now.types.entries)) }
 {
     for (name, ty) in &schema.types {
         check_type(alloc, schema, name, ty, faults)?;
@@ -65,7 +64,7 @@ fn check_type(
     ty: &ExtendedType,
     faults: &mut Vec<Fault>,
 ) -> Result<(), AllocError>
-    ensures { OnOk result (faults_of faults.new ≡ faults_of faults.old ++ type_faults (schema_tree schema.now) name.now.text ty.now) }
+    ensures { OnOk result (AddsThese faults.old faults.new (type_faults (schema_tree schema.now) name.now.text ty.now)) }
 {
     let location = ty.name().location();
     reserved_name(ty.is_built_in(), name, location, ty.describe(), faults)?;
@@ -80,7 +79,7 @@ fn check_parts(
     ty: &ExtendedType,
     faults: &mut Vec<Fault>,
 ) -> Result<(), AllocError>
-    ensures { OnOk result (faults_of faults.new ≡ faults_of faults.old ++ parts_faults (schema_tree schema.now) name.now.text ty.now) }
+    ensures { OnOk result (AddsThese faults.old faults.new (parts_faults (schema_tree schema.now) name.now.text ty.now)) }
 {
     match ty {
         ExtendedType::Scalar(_) => Ok(()),
@@ -106,7 +105,7 @@ fn check_each_directive(
     schema: &Schema,
     faults: &mut Vec<Fault>,
 ) -> Result<(), AllocError>
-    ensures { OnOk result (faults_of faults.new ≡ faults_of faults.old ++ directives_faults (schema_tree schema.now) schema.now.directive_definitions.entries) }
+    ensures { OnOk result (AddsThese faults.old faults.new (directives_faults (schema_tree schema.now) schema.now.directive_definitions.entries)) }
 {
     for (name, directive) in &schema.directive_definitions {
         check_directive(alloc, schema, name, directive, faults)?;
@@ -122,7 +121,7 @@ fn check_directive(
     directive: &Node<DirectiveDefinition>,
     faults: &mut Vec<Fault>,
 ) -> Result<(), AllocError>
-    ensures { OnOk result (faults_of faults.new ≡ faults_of faults.old ++ directive_faults (schema_tree schema.now) name.now.text (node_tree directive_definition_tree directive.now)) }
+    ensures { OnOk result (AddsThese faults.old faults.new (directive_faults (schema_tree schema.now) name.now.text (directive_tree directive.now))) }
 {
     let content = directive.content();
     reserved_name(

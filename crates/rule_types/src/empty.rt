@@ -1,6 +1,6 @@
 //! A type must have something (sections 3.6 to 3.10).
-ghost use Rattle.std.specs.Prelude.{◌≡◌, ◌++◌, map, IfOk, OnOk};
-ghost use Rattle.fault_data.specs.FaultView.{faults_of};
+ghost use Rattle.std.specs.Prelude.{◌≡◌, map, IfOk, OnOk};
+ghost use Rattle.rule_types.specs.Adds.{AddsThese};
 ghost use Rattle.fault_data.specs.in_rule_definitions.Rules.{extension_places};
 ghost use Rattle.schema_types.specs.TypeView.{extended_type};
 ghost use Rattle.schema_components.specs.Given.{place_of};
@@ -23,7 +23,7 @@ pub(crate) fn empty_field_set(
     fields: &IndexMap<Name, Component<FieldDefinition>>,
     faults: &mut Vec<Fault>,
 ) -> Result<(), AllocError>
-    ensures { OnOk result (faults_of faults.new ≡ faults_of faults.old ++ empty_field_set name.now.text (extended_type ty.now) fields.now.entries) }
+    ensures { OnOk result (AddsThese faults.old faults.new (empty_field_set name.now.text (extended_type ty.now) fields.now.entries)) }
 {
     if !fields.is_empty() {
         return Ok(());
@@ -51,7 +51,7 @@ pub(crate) fn empty_member_set(
     members: &IndexSet<ComponentName>,
     faults: &mut Vec<Fault>,
 ) -> Result<(), AllocError>
-    ensures { OnOk result (faults_of faults.new ≡ faults_of faults.old ++ empty_member_set name.now.text (extended_type ty.now) members.now.keys) }
+    ensures { OnOk result (AddsThese faults.old faults.new (empty_member_set name.now.text (extended_type ty.now) members.now.keys)) }
 {
     if !members.is_empty() {
         return Ok(());
@@ -79,7 +79,7 @@ pub(crate) fn empty_value_set(
     values: &IndexMap<Name, Component<EnumValueDefinition>>,
     faults: &mut Vec<Fault>,
 ) -> Result<(), AllocError>
-    ensures { OnOk result (faults_of faults.new ≡ faults_of faults.old ++ empty_value_set name.now.text (extended_type ty.now) values.now.entries) }
+    ensures { OnOk result (AddsThese faults.old faults.new (empty_value_set name.now.text (extended_type ty.now) values.now.entries)) }
 {
     if !values.is_empty() {
         return Ok(());
@@ -107,7 +107,7 @@ pub(crate) fn empty_input_value_set(
     fields: &IndexMap<Name, Component<InputValueDefinition>>,
     faults: &mut Vec<Fault>,
 ) -> Result<(), AllocError>
-    ensures { OnOk result (faults_of faults.new ≡ faults_of faults.old ++ empty_input_value_set name.now.text (extended_type ty.now) fields.now.entries) }
+    ensures { OnOk result (AddsThese faults.old faults.new (empty_input_value_set name.now.text (extended_type ty.now) fields.now.entries)) }
 {
     if !fields.is_empty() {
         return Ok(());

@@ -1,13 +1,12 @@
 //! The rules on what a type has: fields, members, values or input fields.
-ghost use Rattle.std.specs.Prelude.{◌≡◌, ◌++◌, map, OnOk};
+ghost use Rattle.std.specs.Prelude.{OnOk};
 ghost use Rattle.graphql_names.specs.Placed.{name_tree, node_tree};
-ghost use Rattle.tree_directives.specs.DirectiveTree.{input_value_tree};
-ghost use Rattle.tree_type_members.specs.TypeSystemTree.{field_definition_tree, enum_value_tree};
-ghost use Rattle.schema_components.specs.Given.{component_name_tree};
+ghost use Rattle.tree_type_members.specs.TypeSystemTree.{enum_value_tree};
 ghost use Rattle.schema_types.specs.TypeView.{extended_type};
 ghost use Rattle.graphql_schema.specs.SchemaOf.{schema_tree};
-ghost use Rattle.fault_data.specs.FaultView.{faults_of};
-ghost use Rattle.rule_types.specs.FaultLists.{field_type_faults, field_faults, each_input_faults, member_faults, value_faults, input_faults, fields_faults, members_faults, values_faults, inputs_faults};
+ghost use Rattle.rule_types.specs.Adds.{AddsThese};
+ghost use Rattle.rule_types.specs.FaultLists.{value_faults, values_faults, field_type_faults, field_faults, member_faults, input_faults, fields_faults, union_faults, each_input_faults, inputs_faults};
+ghost use Rattle.rule_types.specs.Trees.{input_tree, field_tree};
 
 use crate::arguments::{check_arguments, check_input_value};
 use crate::empty::{empty_field_set, empty_input_value_set, empty_member_set, empty_value_set};
@@ -33,7 +32,7 @@ pub(crate) fn check_fields(
     fields: &IndexMap<Name, Component<FieldDefinition>>,
     faults: &mut Vec<Fault>,
 ) -> Result<(), AllocError>
-    ensures { OnOk result (faults_of faults.new ≡ faults_of faults.old ++ fields_faults (schema_tree schema.now) name.now.text (extended_type ty.now) fields.now.entries) }
+    ensures { OnOk result (AddsThese faults.old faults.new (fields_faults (schema_tree schema.now) name.now.text (extended_type ty.now) fields.now.entries)) }
 {
     empty_field_set(alloc, name, ty, fields, faults)?;
     for (field_name, field) in fields {
@@ -50,7 +49,7 @@ fn check_field(
     field: &Node<FieldDefinition>,
     faults: &mut Vec<Fault>,
 ) -> Result<(), AllocError>
-    ensures { OnOk result (faults_of faults.new ≡ faults_of faults.old ++ field_faults (schema_tree schema.now) name.now.text (node_tree field_definition_tree field.now)) }
+    ensures { OnOk result (AddsThese faults.old faults.new (field_faults (schema_tree schema.now) name.now.text (field_tree field.now))) }
 {
     check_field_type(schema, name, field, faults)?;
     check_arguments(alloc, schema, &field.content().arguments, faults)
@@ -63,7 +62,7 @@ fn check_field_type(
     field: &Node<FieldDefinition>,
     faults: &mut Vec<Fault>,
 ) -> Result<(), AllocError>
-    ensures { OnOk result (faults_of faults.new ≡ faults_of faults.old ++ field_type_faults (schema_tree schema.now) name.now.text (node_tree field_definition_tree field.now)) }
+    ensures { OnOk result (AddsThese faults.old faults.new (field_type_faults (schema_tree schema.now) name.now.text (field_tree field.now))) }
 {
     let content = field.content();
     let kind = kind_inside(schema, &content.ty);
@@ -87,7 +86,7 @@ pub(crate) fn check_members(
     members: &IndexSet<ComponentName>,
     faults: &mut Vec<Fault>,
 ) -> Result<(), AllocError>
-    ensures { OnOk result (faults_of faults.new ≡ faults_of faults.old ++ members_faults (schema_tree schema.now) name.now.text (extended_type ty.now) (map component_name_tree members.now.keys)) }
+    ensures { OnOk result (AddsThese faults.old faults.new (union_faults (schema_tree schema.now) name.now.text (extended_type ty.now) members.now.keys)) }
 {
     empty_member_set(alloc, name, ty, members, faults)?;
     for member in members.as_slice() {
@@ -98,7 +97,7 @@ pub(crate) fn check_members(
 
 /// Tells the faults of a member of a union.
 fn check_member(schema: &Schema, member: &Name, faults: &mut Vec<Fault>) -> Result<(), AllocError>
-    ensures { OnOk result (faults_of faults.new ≡ faults_of faults.old ++ member_faults (schema_tree schema.now) (name_tree member.now)) }
+    ensures { OnOk result (AddsThese faults.old faults.new (member_faults (schema_tree schema.now) (name_tree member.now))) }
 {
     let kind = kind_named(schema, member);
     undefined_name(member, kind, faults)?;
@@ -113,7 +112,7 @@ pub(crate) fn check_values(
     values: &IndexMap<Name, Component<EnumValueDefinition>>,
     faults: &mut Vec<Fault>,
 ) -> Result<(), AllocError>
-    ensures { OnOk result (faults_of faults.new ≡ faults_of faults.old ++ values_faults name.now.text (extended_type ty.now) values.now.entries) }
+    ensures { OnOk result (AddsThese faults.old faults.new (values_faults name.now.text (extended_type ty.now) values.now.entries)) }
 {
     empty_value_set(alloc, name, ty, values, faults)?;
     for (value_name, value) in values {
@@ -128,7 +127,7 @@ fn check_value(
     value: &Node<EnumValueDefinition>,
     faults: &mut Vec<Fault>,
 ) -> Result<(), AllocError>
-    ensures { OnOk result (faults_of faults.new ≡ faults_of faults.old ++ value_faults name.now.text (node_tree enum_value_tree value.now)) }
+    ensures { OnOk result (AddsThese faults.old faults.new (value_faults name.now.text (node_tree enum_value_tree value.now))) }
 {
     let location = value.content().value.location();
     reserved_name(
@@ -149,7 +148,7 @@ pub(crate) fn check_input_fields(
     fields: &IndexMap<Name, Component<InputValueDefinition>>,
     faults: &mut Vec<Fault>,
 ) -> Result<(), AllocError>
-    ensures { OnOk result (faults_of faults.new ≡ faults_of faults.old ++ inputs_faults (schema_tree schema.now) name.now.text (extended_type ty.now) fields.now.entries) }
+    ensures { OnOk result (AddsThese faults.old faults.new (inputs_faults (schema_tree schema.now) name.now.text (extended_type ty.now) fields.now.entries)) }
 {
     empty_input_value_set(alloc, name, ty, fields, faults)?;
     check_each_input_field(schema, fields, faults)
@@ -161,7 +160,7 @@ fn check_each_input_field(
     fields: &IndexMap<Name, Component<InputValueDefinition>>,
     faults: &mut Vec<Fault>,
 ) -> Result<(), AllocError>
-    ensures { OnOk result (faults_of faults.new ≡ faults_of faults.old ++ each_input_faults (schema_tree schema.now) fields.now.entries) }
+    ensures { OnOk result (AddsThese faults.old faults.new (each_input_faults (schema_tree schema.now) fields.now.entries)) }
 {
     for (field_name, field) in fields {
         check_input_field(schema, field_name, &field.node, faults)?;
@@ -176,7 +175,7 @@ fn check_input_field(
     field: &Node<InputValueDefinition>,
     faults: &mut Vec<Fault>,
 ) -> Result<(), AllocError>
-    ensures { OnOk result (faults_of faults.new ≡ faults_of faults.old ++ input_faults (schema_tree schema.now) name.now.text (node_tree input_value_tree field.now)) }
+    ensures { OnOk result (AddsThese faults.old faults.new (input_faults (schema_tree schema.now) name.now.text (input_tree field.now))) }
 {
     check_input_value(schema, name, field, Named::InputField, faults)
 }

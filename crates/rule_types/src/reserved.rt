@@ -1,9 +1,9 @@
 //! Names that begin with `__` are reserved for introspection (section 2.1.9).
-ghost use Rattle.std.specs.Prelude.{◌≡◌, ◌++◌, OnOk};
-ghost use Rattle.fault_data.specs.FaultView.{faults_of};
+ghost use Rattle.std.specs.Prelude.{◌≡◌, OnOk};
+ghost use Rattle.rule_types.specs.Adds.{AddsThese};
 ghost use Rattle.fault_data.specs.in_rule_definitions.Names.{is_reserved};
-ghost use Rattle.rule_types.specs.FaultLists.{reserved_name};
 ghost use Rattle.rule_types.specs.NamedWords.{named_words};
+ghost use Rattle.rule_types.specs.FaultLists.{reserved_name};
 
 use fault_data::{DiagnosticData, Fault, tell};
 use graphql_names::{Name, SourceSpan};
@@ -43,7 +43,7 @@ pub(crate) fn reserved_name(
     describe: &'static str,
     faults: &mut Vec<Fault>,
 ) -> Result<(), AllocError>
-    ensures { OnOk result (faults_of faults.new ≡ faults_of faults.old ++ reserved_name built_in name.now.text location describe.now) }
+    ensures { OnOk result (AddsThese faults.old faults.new (reserved_name built_in name.now.text location describe.now)) }
 {
     if built_in {
         return Ok(());

@@ -1,13 +1,12 @@
 //! Rules on the root operations (section 3.3.1).
-ghost use Rattle.std.specs.Prelude.{◌≡◌, ◌++◌, map, IfOk, OnOk, option_to_list};
-ghost use Rattle.std.specs.Option.{option_map};
+ghost use Rattle.std.specs.Prelude.{◌≡◌, map, IfOk, OnOk, option_to_list};
 ghost use Rattle.graphql_names.specs.Placed.{name_tree};
-ghost use Rattle.tree_directives.specs.declared.operation_type.OperationType.TheVariants as operation;
-ghost use Rattle.schema_components.specs.Given.{component_name_tree};
 ghost use Rattle.schema_types.specs.TypeView.{schema_roots};
 ghost use Rattle.graphql_schema.specs.SchemaOf.{schema_tree};
-ghost use Rattle.fault_data.specs.FaultView.{fault_of, faults_of};
-ghost use Rattle.rule_types.specs.FaultLists.{query_root_operation_type, root_operation_object_type, same_root, subscription_again, root_faults, roots_faults};
+ghost use Rattle.fault_data.specs.FaultView.{fault_of};
+ghost use Rattle.rule_types.specs.Adds.{AddsThese};
+ghost use Rattle.rule_types.specs.FaultLists.{query_root_operation_type, root_operation_object_type, duplicate_root_operation_type, subscription_again, repeated_roots, root_faults, roots_faults};
+ghost use Rattle.rule_types.specs.Trees.{root_tree};
 
 use crate::look_ups::kind_named;
 use crate::types_used::undefined_name;
@@ -21,7 +20,7 @@ use tree_operations::OperationType;
 
 /// Tells the faults of the roots.
 pub(crate) fn check_roots(schema: &Schema, faults: &mut Vec<Fault>) -> Result<(), AllocError>
-    ensures { OnOk result (faults_of faults.new ≡ faults_of faults.old ++ roots_faults (schema_tree schema.now)) }
+    ensures { OnOk result (AddsThese faults.old faults.new (roots_faults (schema_tree schema.now))) }
 {
     let definition = schema.schema_definition.content();
     query_root_operation_type(&schema.schema_definition, faults)?;
@@ -37,7 +36,7 @@ fn check_root(
     root: &Option<ComponentName>,
     faults: &mut Vec<Fault>,
 ) -> Result<(), AllocError>
-    ensures { OnOk result (faults_of faults.new ≡ faults_of faults.old ++ root_faults (schema_tree schema.now) (option_map component_name_tree root.now)) }
+    ensures { OnOk result (AddsThese faults.old faults.new (root_faults (schema_tree schema.now) (root_tree root.now))) }
 {
     match root {
         None => Ok(()),
@@ -54,7 +53,7 @@ fn check_repeats(
     definition: &Node<SchemaDefinition>,
     faults: &mut Vec<Fault>,
 ) -> Result<(), AllocError>
-    ensures { OnOk result (faults_of faults.new ≡ faults_of faults.old ++ (same_root operation.Query (schema_roots definition.now).query operation.Mutation (schema_roots definition.now).mutation ++ subscription_again (schema_roots definition.now))) }
+    ensures { OnOk result (AddsThese faults.old faults.new (repeated_roots (schema_roots definition.now))) }
 {
     let roots = definition.content();
     tell(
@@ -74,7 +73,7 @@ fn query_root_operation_type(
     definition: &Node<SchemaDefinition>,
     faults: &mut Vec<Fault>,
 ) -> Result<(), AllocError>
-    ensures { OnOk result (faults_of faults.new ≡ faults_of faults.old ++ query_root_operation_type (schema_roots definition.now)) }
+    ensures { OnOk result (AddsThese faults.old faults.new (query_root_operation_type (schema_roots definition.now))) }
 {
     match &definition.content().query {
         Some(_) => Ok(()),
@@ -94,7 +93,7 @@ fn root_operation_object_type(
     kind: Option<TypeKind>,
     faults: &mut Vec<Fault>,
 ) -> Result<(), AllocError>
-    ensures { OnOk result (faults_of faults.new ≡ faults_of faults.old ++ root_operation_object_type (name_tree root.now) kind) }
+    ensures { OnOk result (AddsThese faults.old faults.new (root_operation_object_type (name_tree root.now) kind)) }
 {
     match kind {
         None => Ok(()),
@@ -124,7 +123,7 @@ fn duplicate_root_operation_type(
     redefined_operation: OperationType,
     redefined: &Option<ComponentName>,
 ) -> Result<Option<Fault>, AllocError>
-    ensures { IfOk result (λ r. map fault_of (option_to_list r) ≡ same_root original_operation (option_map component_name_tree original.now) redefined_operation (option_map component_name_tree redefined.now)) }
+    ensures { IfOk result (λ r. map fault_of (option_to_list r) ≡ duplicate_root_operation_type original_operation original.now redefined_operation redefined.now) }
 {
     match (original, redefined) {
         (Some(original), Some(redefined)) => {

@@ -1,13 +1,12 @@
 //! Rules on the types that are named (sections 3.4.2, 3.6, 3.8 and 3.10). Each is given the kind of that type, if it is there.
-ghost use Rattle.std.specs.Prelude.{◌≡◌, ◌++◌, OnOk};
-ghost use Rattle.graphql_names.specs.Placed.{name_tree, node_tree};
+ghost use Rattle.std.specs.Prelude.{◌≡◌, OnOk};
+ghost use Rattle.graphql_names.specs.Placed.{name_tree};
 ghost use Rattle.tree_literals.specs.TypeTree.{type_tree};
-ghost use Rattle.tree_directives.specs.DirectiveTree.{input_value_tree};
-ghost use Rattle.tree_type_members.specs.TypeSystemTree.{field_definition_tree};
 ghost use Rattle.schema_components.specs.Lists.{is_among};
-ghost use Rattle.fault_data.specs.FaultView.{faults_of};
+ghost use Rattle.rule_types.specs.Adds.{AddsThese};
 ghost use Rattle.fault_data.specs.in_rule_definitions.Names.{scalar_names};
 ghost use Rattle.rule_types.specs.FaultLists.{undefined_name, undefined_type, output_type, input_type, union_member_object_type};
+ghost use Rattle.rule_types.specs.Trees.{input_tree, field_tree};
 
 use fault_data::{DiagnosticData, Fault, tell};
 use graphql_names::{Name, Node};
@@ -24,7 +23,7 @@ pub(crate) fn undefined_name(
     kind: Option<TypeKind>,
     faults: &mut Vec<Fault>,
 ) -> Result<(), AllocError>
-    ensures { OnOk result (faults_of faults.new ≡ faults_of faults.old ++ undefined_name (name_tree name.now) kind) }
+    ensures { OnOk result (AddsThese faults.old faults.new (undefined_name (name_tree name.now) kind)) }
 {
     match kind {
         Some(_) => Ok(()),
@@ -47,7 +46,7 @@ pub(crate) fn undefined_type(
     kind: Option<TypeKind>,
     faults: &mut Vec<Fault>,
 ) -> Result<(), AllocError>
-    ensures { OnOk result (faults_of faults.new ≡ faults_of faults.old ++ undefined_type (type_tree ty.now) kind) }
+    ensures { OnOk result (AddsThese faults.old faults.new (undefined_type (type_tree ty.now) kind)) }
 {
     match kind {
         Some(_) => Ok(()),
@@ -75,7 +74,7 @@ pub(crate) fn output_type(
     kind: Option<TypeKind>,
     faults: &mut Vec<Fault>,
 ) -> Result<(), AllocError>
-    ensures { OnOk result (faults_of faults.new ≡ faults_of faults.old ++ output_type name.now.text (node_tree field_definition_tree field.now) kind) }
+    ensures { OnOk result (AddsThese faults.old faults.new (output_type name.now.text (field_tree field.now) kind)) }
 {
     match kind {
         None => Ok(()),
@@ -104,7 +103,7 @@ pub(crate) fn input_type(
     kind: Option<TypeKind>,
     faults: &mut Vec<Fault>,
 ) -> Result<(), AllocError>
-    ensures { OnOk result (faults_of faults.new ≡ faults_of faults.old ++ input_type (node_tree input_value_tree input.now) kind) }
+    ensures { OnOk result (AddsThese faults.old faults.new (input_type (input_tree input.now) kind)) }
 {
     match kind {
         None => Ok(()),
@@ -133,7 +132,7 @@ pub(crate) fn union_member_object_type(
     kind: Option<TypeKind>,
     faults: &mut Vec<Fault>,
 ) -> Result<(), AllocError>
-    ensures { OnOk result (faults_of faults.new ≡ faults_of faults.old ++ union_member_object_type (name_tree member.now) kind) }
+    ensures { OnOk result (AddsThese faults.old faults.new (union_member_object_type (name_tree member.now) kind)) }
 {
     match kind {
         None => Ok(()),

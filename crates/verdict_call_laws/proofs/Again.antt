@@ -17,10 +17,10 @@ use Rattle.verdict_definitions.specs.Out.{Out, OutDoc, Layout, layout_text, as_l
 use Rattle.verdict_definitions.specs.Answer.{WritesDocument, AcceptedBytes}
 use Rattle.verdict_laws.proofs.AnyNumber.{one_tree}
 use Rattle.verdict_laws.proofs.Rearranged.{all_one}
-use Rattle.verdict_road_back_laws.specs.RoadBack.{SchemaLeadsBack, DocumentLeadsBack, PairLeadsBack}
-use Rattle.verdict_road_back_laws.proofs.SchemaBack.{schema_road_back}
-use Rattle.verdict_road_back_laws.proofs.DocumentBack.{document_road_back}
-use Rattle.verdict_road_back_laws.proofs.PairBack.{pair_road_back, put_out_leads_back, one_answer}
+use Rattle.verdict_laws.specs.RoadBack.{SchemaLeadsBack, DocumentLeadsBack, PairLeadsBack}
+use Rattle.verdict_laws.proofs.SchemaBack.{schema_road_back}
+use Rattle.verdict_laws.proofs.DocumentBack.{document_road_back}
+use Rattle.verdict_laws.proofs.PairBack.{pair_road_back, put_out_leads_back, one_answer}
 use Rattle.checker_answers.specs.declared.run_fault.Outcome.{Outcome}
 use Rattle.checker_answers.specs.declared.run_fault.Outcome.TheVariants as outcome
 use Rattle.checker_answers.specs.declared.run_fault.RunFault.{RunFault}

@@ -2,7 +2,7 @@
 use Rattle.std.proofs.Common.{◌≡◌, ◌↔◌, ◌⊎◌, List, Result, Ok, Err, inl, inr, sym, ap, subst, ◌∙◌}
 use Rattle.std.specs.Prelude.{IfOk, IfErr}
 use Rattle.rule_definitions.specs.Laws.{AreEqual}
-use Rattle.verdict_rearranging_laws.specs.Permuting.{IsPermuted}
+use Rattle.verdict_laws.specs.Permuting.{IsPermuted}
 use Rattle.verdict_definitions.specs.Texts.{SourceText, Terms}
 use Rattle.verdict_definitions.specs.Meaning.{schema_at_hand}
 use Rattle.verdict_definitions.specs.Judge.{AreSchemasCertain, IsAccepted, IsCertain, IsDocumentAccepted}
@@ -12,7 +12,7 @@ use Rattle.verdict_laws.proofs.AnyNumber.{equal_accept}
 use Rattle.verdict_laws.proofs.Rearranged.{all_one, rearranging, cutting}
 use Rattle.checker_schemas.specs.CheckedSchemaValue.{CheckedSchemaValue, IsCheckedSchemaOf}
 use Rattle.graphql_checked.specs.CheckerValue.{CheckerValue}
-use Rattle.book_laws.proofs.AcceptedFacts.{accepted_by_the_book}
+use Rattle.book_validity.proofs.AcceptedFacts.{accepted_by_the_book}
 use Rattle.graphql_checked.specs.Verdicts.{IsVerdict}
 use Rattle.graphql_faults.specs.declared.diagnostic_list.DiagnosticList.{DiagnosticList}
 use Rattle.checker_texts.specs.declared.refusal.Refusal.{Refusal}

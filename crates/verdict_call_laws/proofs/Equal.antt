@@ -4,7 +4,7 @@ use Rattle.document_meaning.specs.Unplaced.{unplaced_document}
 use Rattle.rule_definitions.specs.Laws.{AreEqual}
 use Rattle.verdict_definitions.specs.Meaning.{schema_at_hand}
 use Rattle.verdict_definitions.specs.Out.{layout_text}
-use Rattle.verdict_road_back_laws.proofs.EqualTexts.{equal_schema_texts, equal_document_texts}
+use Rattle.verdict_laws.proofs.EqualTexts.{equal_schema_texts, equal_document_texts}
 use Rattle.verdict_call_laws.specs.Equal.{SchemasOfOneText, DocumentsOfOneText}
 use Rattle.verdict_call_laws.proofs.Again.{written_of}
 

@@ -10,7 +10,7 @@ use Rattle.verdict_definitions.specs.Judge.{AreSchemasCertain, IsDocumentCertain
 use Rattle.verdict_definitions.specs.Out.{Layout, layout_text, as_lines}
 use Rattle.verdict_definitions.specs.Answer.{WritesDocument}
 use Rattle.verdict_laws.specs.AnyNumber.{IsNumber}
-use Rattle.verdict_road_back_laws.specs.RoadBack.{IsPlainLayout}
+use Rattle.verdict_laws.specs.RoadBack.{IsPlainLayout}
 use Rattle.checker_answers.specs.declared.run_fault.Outcome.{Outcome}
 use Rattle.checker_answers.specs.declared.run_fault.Outcome.TheVariants as outcome
 use Rattle.checker_answers.specs.declared.run_fault.RunFault.{RunFault}

@@ -2,7 +2,7 @@
 -- October 2021, sections 2.2, 3 and 5).
 use Rattle.std.specs.Prelude.{◌≡◌, false, List, Result, IfOk, IfErr}
 use Rattle.rule_definitions.specs.Laws.{AreEqual}
-use Rattle.verdict_rearranging_laws.specs.Permuting.{IsPermuted}
+use Rattle.verdict_laws.specs.Permuting.{IsPermuted}
 use Rattle.verdict_definitions.specs.Texts.{SourceText, Terms}
 use Rattle.verdict_definitions.specs.Judge.{IsAccepted, IsCertain, AreSchemasCertain, IsDocumentAccepted, IsDocumentCertain}
 use Rattle.verdict_definitions.specs.Out.{Layout, layout_text}

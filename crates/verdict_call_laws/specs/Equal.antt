@@ -8,7 +8,7 @@ use Rattle.rule_definitions.specs.Laws.{AreEqual}
 use Rattle.verdict_definitions.specs.Texts.{SourceText, Terms}
 use Rattle.verdict_definitions.specs.Out.{Layout, layout_text}
 use Rattle.verdict_definitions.specs.Answer.{WritesDocument}
-use Rattle.verdict_road_back_laws.specs.RoadBack.{IsPlainLayout}
+use Rattle.verdict_laws.specs.RoadBack.{IsPlainLayout}
 use Rattle.checker_schemas.specs.CheckedSchemaValue.{CheckedSchemaValue, IsCheckedSchemaOf}
 use Rattle.graphql_checked.specs.CheckerValue.{IsCheckedDocumentOf}
 

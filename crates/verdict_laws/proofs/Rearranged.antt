@@ -28,18 +28,18 @@ use Rattle.read_depth_laws.specs.TreeDepth.{deepest, definition_depth, document_
 use Rattle.read_depth_laws.proofs.Documents.{derived_depth}
 use Rattle.read_depth_laws.proofs.Unplaced.{document_unplaced}
 use Rattle.rule_schema_laws.specs.ReadTexts.{Texts, AreReadElsewhere}
-use Rattle.verdict_rearranging_laws.specs.Rearranged.{IsRearranged}
-use Rattle.verdict_rearranging_laws.specs.Permuting.{IsPermuted, nothing, next}
-use Rattle.verdict_rearranging_laws.specs.Elsewhere.{AreAllElsewhere}
-use Rattle.verdict_rearranging_laws.specs.ReadTexts.{all_of}
-use Rattle.verdict_rearranging_laws.proofs.Rearranged.{cut, turned}
-use Rattle.verdict_rearranging_laws.proofs.Faults.{keep_the_rules}
-use Rattle.verdict_rearranging_laws.proofs.Marks.{are_equal, rearranged_same_verdict}
-use Rattle.verdict_rearranging_laws.proofs.Distinct.{left_equal}
-use Rattle.verdict_rearranging_laws.proofs.Cut.{writes_alike}
-use Rattle.verdict_rearranging_laws.proofs.WrittenSorts.{writes_permuted}
-use Rattle.verdict_rearranging_laws.proofs.Permuting.{rearranged_permuted}
-use Rattle.verdict_rearranging_laws.proofs.ReadTexts.{texts_elsewhere, is_own_list}
+use Rattle.verdict_laws.specs.RearrangedLists.{IsRearranged}
+use Rattle.verdict_laws.specs.Permuting.{IsPermuted, nothing, next}
+use Rattle.verdict_laws.specs.Elsewhere.{AreAllElsewhere}
+use Rattle.verdict_laws.specs.ReadTexts.{all_of}
+use Rattle.verdict_laws.proofs.RearrangedLists.{cut, turned}
+use Rattle.verdict_laws.proofs.Faults.{keep_the_rules}
+use Rattle.verdict_laws.proofs.Marks.{are_equal, rearranged_same_verdict}
+use Rattle.verdict_laws.proofs.Distinct.{left_equal}
+use Rattle.verdict_laws.proofs.Cut.{writes_alike}
+use Rattle.verdict_laws.proofs.WrittenSorts.{writes_permuted}
+use Rattle.verdict_laws.proofs.Permuting.{rearranged_permuted}
+use Rattle.verdict_laws.proofs.ReadTexts.{texts_elsewhere, is_own_list}
 use Rattle.verdict_definitions.specs.Texts.{SourceText, Tree, Terms, ReadsText, ReadsAll, document_number, AreWithin}
 use Rattle.verdict_definitions.specs.Meaning.{all_definitions, schema_of, schema_at_hand}
 use Rattle.verdict_definitions.specs.Judge.{Folds, JudgeSchemas, Judge, AreSchemasAccepted, IsAccepted, PassesNoReferenceBound, AreSchemasCertain, IsCertain}

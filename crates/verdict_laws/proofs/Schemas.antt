@@ -12,8 +12,8 @@ use Rattle.rule_definitions.specs.Diagnostics.{QueryRootOperationType}
 use Rattle.schema_types.specs.Addresses.{SchemaAt}
 use Rattle.verdict_definitions.specs.Meaning.{all_definitions}
 use Rattle.verdict_laws.specs.Written.{AcceptedSchemasCanBeWritten}
-use Rattle.verdict_written_laws.proofs.OutSome.{written_writable}
-use Rattle.verdict_written_laws.proofs.RealTable.{real_table, real_table_has_no_query}
+use Rattle.verdict_laws.proofs.OutSome.{written_writable}
+use Rattle.verdict_laws.proofs.RealTable.{real_table, real_table_has_no_query}
 use Rattle.verdict_laws.proofs.Sound.{fine_all, are_own}
 
 -- ---- a schema that is neither defined nor implied has no query root

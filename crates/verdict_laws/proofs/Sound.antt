@@ -15,7 +15,7 @@ use Rattle.graphql_read.specs.Sound.{is_own}
 use Rattle.graphql_read.proofs.Soundness.{document_sound}
 use Rattle.verdict_definitions.specs.Texts.{SourceText, Tree, ReadsText, ReadsAll}
 use Rattle.verdict_definitions.specs.Meaning.{all_definitions}
-use Rattle.verdict_written_laws.specs.Table.{AreOwn}
+use Rattle.verdict_laws.specs.Table.{AreOwn}
 
 pub both : (a b : Bool) → (a && b) ≡ true → (a ≡ true) × (b ≡ true)
 both true true h = (refl, refl)

@@ -3,8 +3,8 @@
 use Rattle.std.specs.Prelude.{◌≡◌, ◌≢◌, ℕ, ◌<◌, ◌^◌, List, ◌↔◌}
 use Rattle.tree_definitions.specs.DefinitionTree.{unplaced_document}
 use Rattle.rule_definitions.specs.Laws.{AreEqual}
-use Rattle.verdict_rearranging_laws.specs.Rearranged.{IsRearranged}
-use Rattle.verdict_rearranging_laws.specs.Permuting.{IsPermuted}
+use Rattle.verdict_laws.specs.RearrangedLists.{IsRearranged}
+use Rattle.verdict_laws.specs.Permuting.{IsPermuted}
 use Rattle.verdict_definitions.specs.Texts.{SourceText, Tree, Terms, ReadsAll, document_number}
 use Rattle.verdict_definitions.specs.Meaning.{all_definitions, schema_at_hand}
 use Rattle.verdict_definitions.specs.Judge.{JudgeSchemas, Judge, AreSchemasAccepted, AreSchemasCertain, IsAccepted, IsCertain}

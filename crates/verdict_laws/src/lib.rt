@@ -1,48 +1,25 @@
-//! Laws of the verdict, each the contract of a function that does nothing.
+//! Laws of the verdict and of what is written, each the contract of a function that does nothing.
 //!
-//! What an accepted pair is written from can be written (`specs/Written.antt`): the laws of `verdict_written_laws` over texts that
-//! are read.
-//!
-//! The number of a text plays no part, and over equal schemas each document gets the same verdict (`specs/AnyNumber.antt`). So schema
-//! texts with the same definitions, in an order that is the same for each sort, get the same verdict, and so does each document
-//! over them; and of one list that is cut in two ways the same texts are written (`specs/Rearranged.antt`): the laws of
-//! `verdict_rearranging_laws`, carried to verdicts.
+//! - `written.rt`: what is written of a schema, folded and written again. Where no folding rule is broken, what is written is a
+//!   list of whole definitions and extensions of the texts (`specs/Whole.antt`, `specs/WholeSchema.antt`), and at most an
+//!   implicit schema definition. So it can be written, breaks no folding rule, folds to an equal schema, is written unchanged,
+//!   and nests no deeper. Begin with `specs/Twice.antt`.
+//! - `rearranging.rt`: lists of definitions that differ in order and places alone. How they differ is said in
+//!   `specs/RearrangedLists.antt`, and what permutations they come of in `specs/Permuting.antt`. They fold to equal schemas and
+//!   break the same folding rules (`specs/Folding.antt`), keep the same rules, on documents too (`specs/Judging.antt`), and what
+//!   is written of them is rearranged again (`specs/Writing.antt`), as is what the settings of a builder make of them
+//!   (`specs/Adopting.antt`). One list from texts that are cut in two ways is a case of it, in which the same is written
+//!   (`specs/Cutting.antt`). What all of it comes to for texts that are read is in `specs/ReadTexts.antt`: begin there.
+//! - `verdicts.rt`: what an accepted pair is written from can be written (`specs/Written.antt`): the laws of `written.rt` over
+//!   texts that are read. The number of a text plays no part, and over equal schemas each document gets the same verdict
+//!   (`specs/AnyNumber.antt`). So schema texts with the same definitions, in an order that is the same for each sort, get the
+//!   same verdict, and so does each document over them; and of one list that is cut in two ways the same texts are written
+//!   (`specs/Rearranged.antt`): the laws of `rearranging.rt`, carried to verdicts.
+//! - `road_back.rt`: what is written of an accepted pair of texts is read back equal, accepted on the same terms, and written as
+//!   it was (`specs/RoadBack.antt`). So equal written texts are of equal definitions (`specs/EqualTexts.antt`).
 #![tactic(auto)]
 
-ghost use Rattle.verdict_laws.specs.Written.{AcceptedSchemasCanBeWritten, TypedDocumentsCanBeWritten};
-ghost use Rattle.verdict_laws.specs.AnyNumber.{TextsHaveOneTree, TextsAreReadAlike, DocumentsAreWrittenAlike, EqualSchemasJudgeAlike, EqualSchemasAcceptAlike, EqualSchemasAcceptForSureAlike};
-ghost use Rattle.verdict_laws.specs.Rearranged.{LawOfRearranging, LawOfCutting};
-
-/// What is written of accepted schema texts, and of a document of which no rule of typing is broken, is a document that the
-/// grammar can write.
-pub fn accepted_texts_can_be_written()
-    ensures schemas { AcceptedSchemasCanBeWritten }
-    ensures documents { TypedDocumentsCanBeWritten }
-{}
-
-/// A text has one tree under each number, under any two the same apart from places; and the same is written of it as a
-/// document.
-pub fn texts_are_read_alike_under_each_number()
-    ensures one { TextsHaveOneTree }
-    ensures alike { TextsAreReadAlike }
-    ensures written { DocumentsAreWrittenAlike }
-{}
-
-/// Over schemas that are equal, with the same built in, a document gets the same verdict, whatever its number, and is accepted
-/// over both or over neither.
-pub fn equal_schemas_judge_alike()
-    ensures verdict { EqualSchemasJudgeAlike }
-    ensures accepted { EqualSchemasAcceptAlike }
-    ensures certain { EqualSchemasAcceptForSureAlike }
-{}
-
-/// Schema texts that are read, with the same definitions in an order that is the same for each sort, get the same verdict, and so
-/// does each document over them; and the same definitions are written of both, in some order.
-pub fn rearranged_texts_get_the_same_verdict()
-    ensures { LawOfRearranging }
-{}
-
-/// So do schema texts that are one list of definitions, cut in two ways; and the same texts are written of both.
-pub fn cut_texts_get_the_same_verdict()
-    ensures { LawOfCutting }
-{}
+pub mod rearranging;
+pub mod road_back;
+pub mod verdicts;
+pub mod written;

@@ -6,7 +6,6 @@ use Rattle.document_typing.specs.MeaningView.{schema_under, meanings_under, mean
 use Rattle.document_typing.specs.MeantTree.{set_on}
 use Rattle.document_typing.proofs.MeantSets.{meant-set}
 use Rattle.document_typing.proofs.DefinedPlaces.{set-defined}
-use Rattle.document_typing.proofs.Outcomes.{on-ok}
 use Rattle.document_typing.proofs.selections.+typing.Goals as goal
 
 pub type_set-returns-clause-kept : goal.type_set-returns-clause-kept
@@ -24,9 +23,3 @@ type_set-returns-clause-kept size c =
 
 pub type_set-returns-clause-defined : goal.type_set-returns-clause-defined
 type_set-returns-clause-defined size c = set-defined (schema_under c.args.schema) _ c.args.type_name.now.text (ap (λ n. n.text) c.in_ok-clone.ensures.same) c.loop-selection.invariant.2
-
-pub type_inline-returns-in-None-clause-defined : goal.type_inline-returns-in-None-clause-defined
-type_inline-returns-in-None-clause-defined size c = on-ok c.type_inline_on.result (λ h. h c.args.parent.now.text) c.type_inline_on.ensures.defined
-
-pub type_inline-returns-else-not-has_type-clause-defined : goal.type_inline-returns-else-not-has_type-clause-defined
-type_inline-returns-else-not-has_type-clause-defined size c = on-ok c.type_inline_on-in-Some.result (λ h. h c.args.parent.now.text) c.type_inline_on-in-Some.ensures.defined

@@ -3,7 +3,7 @@ use Rattle.std.specs.Prelude.{IsUtf8}
 use Rattle.std.specs.List.{All}
 use Rattle.std.proofs.lemmas.Result.{err_from_is_err_and}
 use Rattle.std.proofs.lemmas.Str.{IsUtf8-string_bytes}
-use Rattle.checker_layouts.specs.Layouts.{prefix_of}
+use Rattle.checker_settings.specs.Layouts.{prefix_of}
 use Rattle.checker_answers.specs.Devices.{AreTextsOf, IsTextOf}
 use Rattle.graphql_checked.specs.Run.{BytesOf}
 use Rattle.graphql_checked.specs.Verdicts.{first_terms}

@@ -1,4 +1,4 @@
-use Rattle.checker_layouts.specs.Layouts.{prefix_of}
+use Rattle.checker_settings.specs.Layouts.{prefix_of}
 use Rattle.graphql_checked.specs.Verdicts.{first_terms}
 use Rattle.verdict_call_laws.proofs.Seen.{run_answers}
 use Rattle.verdict_call_laws.proofs.calls.run.Goals as goal

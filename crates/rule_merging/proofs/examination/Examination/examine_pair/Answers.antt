@@ -2,8 +2,8 @@ use Rattle.std.proofs.Common.{◌∙◌, ap, subst}
 use Rattle.std.proofs.lemmas.Result.{on_ok_weaker}
 use Rattle.rule_field_groups.specs.in_ground.Fields.{fields_of}
 use Rattle.rule_field_groups.specs.Below.{meant_at}
-use Rattle.rule_field_sets.specs.Own.{spread_sets}
-use Rattle.rule_field_sets.specs.Laws.{meant_spread}
+use Rattle.rule_field_groups.specs.Own.{spread_sets}
+use Rattle.rule_field_groups.specs.Laws.{meant_spread}
 use Rattle.rule_merging.specs.Remembered.{remembered, kept_of}
 use Rattle.rule_merging.specs.Examined.{with_each, schema_of, document_of}
 use Rattle.rule_merging.specs.Pairs.{Looks, each_with}

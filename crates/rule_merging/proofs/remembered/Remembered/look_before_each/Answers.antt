@@ -4,8 +4,8 @@ use Rattle.graphql_names.specs.Placed.{Place}
 use Rattle.document_typed_selections.specs.TypedTree.{typed_set_tree}
 use Rattle.document_meaning.specs.MeantTree.{MeantSet, meant_of_set}
 use Rattle.rule_field_groups.specs.Below.{meant_at}
-use Rattle.rule_field_sets.specs.Laws.{meant_spread}
-use Rattle.rule_field_sets.specs.declared.own.SpreadSet.{SpreadSet}
+use Rattle.rule_field_groups.specs.Laws.{meant_spread}
+use Rattle.rule_field_groups.specs.declared.own.SpreadSet.{SpreadSet}
 use Rattle.rule_merging.specs.Remembered.{kept_of}
 use Rattle.rule_merging.specs.Examined.{with_each}
 use Rattle.rule_merging.specs.Pairs.{Looks}

@@ -1,6 +1,6 @@
 use Rattle.std.proofs.Common.{◌≡◌, take}
 use Rattle.rule_field_groups.specs.Below.{meant_at}
-use Rattle.rule_field_sets.specs.Laws.{meant_spread}
+use Rattle.rule_field_groups.specs.Laws.{meant_spread}
 use Rattle.rule_merging.specs.Remembered.{remembered, kept_of}
 use Rattle.rule_merging.specs.Examined.{with_each}
 use Rattle.rule_merging.specs.Pairs.{Looks}

@@ -1,5 +1,0 @@
-use Rattle.book_laws.proofs.SchemaFacts.{schema_rules_hold}
-use Rattle.book_laws.proofs.laws.schema_rules_hold_by_the_book.Goals as goal
-
-pub returns : goal.returns
-returns c = schema_rules_hold

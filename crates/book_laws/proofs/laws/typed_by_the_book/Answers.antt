@@ -1,5 +1,0 @@
-use Rattle.book_laws.proofs.DocumentTyped.{typed_by_the_book}
-use Rattle.book_laws.proofs.laws.typed_by_the_book.Goals as goal
-
-pub returns : goal.returns
-returns c = typed_by_the_book

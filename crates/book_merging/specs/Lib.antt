@@ -1,2 +1,0 @@
-pub mod OfDifferent
-pub mod Laws

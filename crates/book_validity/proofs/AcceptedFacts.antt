@@ -1,0 +1,92 @@
+-- Texts are accepted exactly where the book says yes.
+use Rattle.std.proofs.Common.{ℕ, List}
+use Rattle.schema_built_in.specs.Table.{built_in_definitions}
+use Rattle.rule_definitions.specs.Judged.{judged}
+use Rattle.rule_definitions.specs.Rules.{SchemaRules}
+use Rattle.verdict_definitions.specs.Texts.{SourceText, Tree, Terms}
+use Rattle.verdict_definitions.specs.Meaning.{all_definitions, schema_of, schema_at_hand, meanings_over}
+use Rattle.verdict_definitions.specs.Judge.{AreSchemasAccepted, IsDocumentAccepted}
+use Rattle.book_validity.specs.Yes.{meaning_over, AreValidSchemas, IsValidOver}
+use Rattle.book_validity.proofs.Folded.{accepted}
+use Rattle.book_validity.specs.Laws.{SchemasAcceptedByTheBook, DocumentsAcceptedByTheBook, AcceptedByTheBook}
+use Rattle.book_validity.proofs.SchemaFacts.{schema_rules_hold}
+use Rattle.book_validity.proofs.DocumentFacts.{rules_hold}
+use Rattle.book_validity.proofs.DocumentTyped.{typed_by_the_book}
+use Rattle.book_validity.proofs.FoldingFacts.{folded_by_the_book}
+use Rattle.book_validity.proofs.ByName.{meaning_by_name}
+
+-- ---- schema texts
+
+module _ (terms : Terms) (schemas : List SourceText) where
+  abbrev valid_schemas : AreSchemasAccepted terms schemas → AreValidSchemas terms schemas
+  valid_schemas a =
+      let s = a.judged in
+      record {
+        trees = s.trees;
+        read = s.read;
+        within = a.within;
+        folds = (folded_by_the_book built_in_definitions terms.first_extension (all_definitions s.trees)).1 s.folds;
+        numbered = a.numbered;
+        valid = (schema_rules_hold (judged (schema_of terms s.trees))).1 s.holds;
+      }
+
+  abbrev accepted_schemas : AreValidSchemas terms schemas → AreSchemasAccepted terms schemas
+  accepted_schemas s = record {
+    judged = record {
+      trees = s.trees;
+      read = s.read;
+      folds = (folded_by_the_book built_in_definitions terms.first_extension (all_definitions s.trees)).0 s.folds;
+      holds = (schema_rules_hold (judged (schema_of terms s.trees))).0 s.valid;
+    };
+    within = s.within;
+    numbered = s.numbered;
+  }
+
+pub schemas_by_the_book : SchemasAcceptedByTheBook
+schemas_by_the_book terms schemas = (valid_schemas terms schemas, accepted_schemas terms schemas)
+
+-- ---- a document over the schema of such texts
+
+module _ (terms : Terms) (trees : List Tree) (rules : SchemaRules (judged (schema_of terms trees))) (nesting number : ℕ) (document : SourceText) where
+  abbrev valid_over : IsDocumentAccepted (schema_at_hand terms trees) nesting number document → IsValidOver (schema_at_hand terms trees) nesting number document
+  valid_over a =
+      let j = a.judged in
+      record {
+        tree = j.tree;
+        read = j.read;
+        within = a.within;
+        typed = (typed_by_the_book (meanings_over (schema_at_hand terms trees)) j.tree).1 j.typed;
+        valid = (rules_hold (judged (schema_at_hand terms trees)) (meaning_over (schema_at_hand terms trees) j.tree) (meaning_by_name (meanings_over (schema_at_hand terms trees)) j.tree)).1 j.holds.0;
+        merges = (accepted terms.first_extension (all_definitions trees) j.tree rules).0 j.holds.1;
+      }
+
+  abbrev accepted_over : IsValidOver (schema_at_hand terms trees) nesting number document → IsDocumentAccepted (schema_at_hand terms trees) nesting number document
+  accepted_over o = record {
+    judged = record {
+      tree = o.tree;
+      read = o.read;
+      typed = (typed_by_the_book (meanings_over (schema_at_hand terms trees)) o.tree).0 o.typed;
+      holds = (
+        (rules_hold (judged (schema_at_hand terms trees)) (meaning_over (schema_at_hand terms trees) o.tree) (meaning_by_name (meanings_over (schema_at_hand terms trees)) o.tree)).0 o.valid,
+        (accepted terms.first_extension (all_definitions trees) o.tree rules).1 o.merges,
+      );
+    };
+    within = o.within;
+  }
+
+pub documents_by_the_book : DocumentsAcceptedByTheBook
+documents_by_the_book terms trees rules nesting number document = (valid_over terms trees rules nesting number document, accepted_over terms trees rules nesting number document)
+
+-- ---- both
+
+pub accepted_by_the_book : AcceptedByTheBook
+accepted_by_the_book terms schemas document = (
+  λ a. record {
+    schema = valid_schemas terms schemas a.schema;
+    over = valid_over terms a.schema.judged.trees a.schema.judged.holds _ _ document a.over;
+  },
+  λ y. record {
+    schema = accepted_schemas terms schemas y.schema;
+    over = accepted_over terms y.schema.trees (accepted_schemas terms schemas y.schema).judged.holds _ _ document y.over;
+  },
+)

@@ -1,4 +1,0 @@
-pub mod Reaching
-pub mod Plain
-pub mod Selected
-pub mod PairedFacts

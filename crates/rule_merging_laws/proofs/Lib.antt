@@ -1,7 +1,0 @@
-pub mod SettledFacts
-pub mod GoingFacts
-pub mod SharingFacts
-pub mod Reflexive
-pub mod Elsewhere
-pub mod PlainFacts
-pub mod Merges

@@ -1,5 +1,0 @@
-use Rattle.rule_merging_laws.proofs.Merges.{standing_fields_merge}
-use Rattle.rule_merging_laws.proofs.laws.standing_fields_merge.Goals as goal
-
-pub returns : goal.returns
-returns c = standing_fields_merge

@@ -1,5 +1,0 @@
-use Rattle.verdict_laws.proofs.Rearranged.{cutting}
-use Rattle.verdict_laws.proofs.cut_texts_get_the_same_verdict.Goals as goal
-
-pub returns : goal.returns
-returns c = cutting

@@ -1,0 +1,41 @@
+-- Equal written texts are of equal trees: under a plain layout one text is written of two accepted lists of schema texts, or of two
+-- accepted documents, exactly where the same definitions are written, places aside; and then the schemas are equal, and over equal
+-- schemas the documents (GraphQL, October 2021, sections 2 and 3 and appendix B).
+use Rattle.std.specs.Prelude.{◌≡◌, ◌≢◌, ◌↔◌, ℕ, List}
+use Rattle.graphql_names.specs.Placed.{Place}
+use Rattle.schema_types.specs.SchemaTree.{SchemaTree}
+use Rattle.rule_definitions.specs.Laws.{AreEqual}
+use Rattle.verdict_definitions.specs.Texts.{SourceText, Tree, Terms}
+use Rattle.verdict_definitions.specs.Meaning.{schema_of, schema_at_hand, document_over}
+use Rattle.verdict_definitions.specs.Judge.{AreSchemasAccepted, IsDocumentAccepted}
+use Rattle.verdict_definitions.specs.Out.{Out, OutDoc, Layout, layout_text}
+use Rattle.verdict_laws.specs.RoadBack.{IsPlainLayout, IsSameTree, IsSameDocument}
+
+-- under each plain layout the two have one text exactly where they are the same, places aside
+abbrev pub TextsTellTrees : Tree → Tree → Type 0
+TextsTellTrees a b = (layout : Layout) → IsPlainLayout layout → (layout_text layout a ≡ layout_text layout b) ↔ IsSameTree a b
+
+-- ---- schemas
+
+-- Where the same definitions are written, the schemas are equal, with the same built in, and so are those at hand.
+pub record SchemasAreToldByTexts (terms next : Terms) (trees others : List Tree) : Type 0 where
+  pub texts : TextsTellTrees (Out terms trees) (Out next others)
+  pub equal : IsSameTree (Out terms trees) (Out next others) → AreEqual (schema_of terms trees) (schema_of next others)
+  pub at_hand : IsSameTree (Out terms trees) (Out next others) → AreEqual (schema_at_hand terms trees) (schema_at_hand next others)
+
+-- no schema text has the number of what is built in
+abbrev pub EqualSchemaTexts : Type 0
+EqualSchemaTexts = (terms next : Terms) (schemas others : List SourceText) → terms.first_text ≢ 0 → next.first_text ≢ 0
+    → (a : AreSchemasAccepted terms schemas) (b : AreSchemasAccepted next others) → SchemasAreToldByTexts terms next a.judged.trees b.judged.trees
+
+-- ---- documents
+
+-- Where the same definitions are written, the documents are equal over schemas that are.
+pub record DocumentsAreToldByTexts (schema other : SchemaTree Place) (tree next : Tree) : Type 0 where
+  pub texts : TextsTellTrees (OutDoc tree) (OutDoc next)
+  pub equal : AreEqual schema other → IsSameTree (OutDoc tree) (OutDoc next) → IsSameDocument (document_over schema tree) (document_over other next)
+
+-- each under a limit on brackets and a number of its own
+abbrev pub EqualDocumentTexts : Type 0
+EqualDocumentTexts = (schema other : SchemaTree Place) (nesting limit number next : ℕ) (document text : SourceText)
+    → (a : IsDocumentAccepted schema nesting number document) (b : IsDocumentAccepted other limit next text) → DocumentsAreToldByTexts schema other a.judged.tree b.judged.tree

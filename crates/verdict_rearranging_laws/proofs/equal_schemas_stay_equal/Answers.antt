@@ -1,5 +1,0 @@
-use Rattle.verdict_rearranging_laws.proofs.EqualAfter.{equal_after}
-use Rattle.verdict_rearranging_laws.proofs.equal_schemas_stay_equal.Goals as goal
-
-pub returns : goal.returns
-returns c = equal_after

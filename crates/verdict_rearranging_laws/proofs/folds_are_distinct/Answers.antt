@@ -1,5 +1,0 @@
-use Rattle.rule_schema_laws.proofs.Distinct.{folds_distinct}
-use Rattle.verdict_rearranging_laws.proofs.folds_are_distinct.Goals as goal
-
-pub returns : goal.returns
-returns c = folds_distinct

@@ -1,9 +1,0 @@
-pub mod Rearranged
-pub mod Folding
-pub mod Elsewhere
-pub mod Judging
-pub mod Cutting
-pub mod Writing
-pub mod Adopting
-pub mod Permuting
-pub mod ReadTexts

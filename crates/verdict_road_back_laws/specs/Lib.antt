@@ -1,2 +1,0 @@
-pub mod RoadBack
-pub mod EqualTexts

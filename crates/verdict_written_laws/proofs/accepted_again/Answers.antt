@@ -1,5 +1,0 @@
-use Rattle.verdict_written_laws.proofs.AcceptedAgain.{accepted_again}
-use Rattle.verdict_written_laws.proofs.accepted_again.Goals as goal
-
-pub returns : goal.returns
-returns c built_in first again_first texts table own rules = accepted_again built_in first again_first texts table own rules

@@ -1,5 +1,0 @@
-use Rattle.verdict_written_laws.proofs.Twice.{written_twice}
-use Rattle.verdict_written_laws.proofs.written_twice.Goals as goal
-
-pub returns : goal.returns
-returns c built_in first again_first texts table own rules = written_twice built_in first again_first texts table own rules
