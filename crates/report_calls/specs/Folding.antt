@@ -4,7 +4,7 @@ use Rattle.std.specs.Borrow.{Bor}
 use Rattle.std.specs.Option.{unwrap_or}
 use Rattle.std.specs.Str.{bytes_eq}
 use Rattle.std.specs.HashMap.{HashMap, get_by}
-use Rattle.report_lines.specs.declared.position.Position.{Position}
+use Rattle.report_forms.specs.declared.position.Position.{Position}
 use Rattle.report_forms.specs.declared.entry.Place.{Place}
 use Rattle.report_forms.specs.declared.entry.Entry.{Entry}
 use Rattle.report_calls.specs.declared.folding.Printed.{Printed}

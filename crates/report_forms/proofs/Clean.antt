@@ -4,7 +4,7 @@ use Rattle.std.proofs.lemmas.List.Elements.{All-append}
 use Rattle.std.proofs.lemmas.Str.{chars-append, chars-nil, IsUtf8-append}
 use Rattle.std.specs.Prelude.{◌==◌}
 use Rattle.std.specs.Str.{chars, IsUtf8}
-use Rattle.report_lines.specs.Shown.{is_control, HasNoControl, HasOnlyLineFeeds}
+use Rattle.report_forms.specs.Shown.{is_control, HasNoControl, HasOnlyLineFeeds}
 
 none : (bs : List ℕ) → bs ≡ [] → All (λ c. (is_control c && not (c == 10)) ≡ false) bs
 none bs e k d less = absurd (omega (arith, ap length e))

@@ -1,3 +1,7 @@
+pub mod Counting
+pub mod LineStarts
+pub mod PlacesBack
+pub mod ShownTexts
 pub mod Clean
 pub mod OneLine
 pub mod EscapedTexts

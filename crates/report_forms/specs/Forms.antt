@@ -2,8 +2,8 @@
 use Rattle.std.specs.Prelude.{◌≡◌, ℕ, Bool, true, nat_le, List, [], ◌∷◌, ◌++◌, false, codes, decimal, length, max, replicate, Option, Some, None, option_map, string_bytes, chars}
 use Rattle.std.specs.List.{list_all}
 use Rattle.report_forms.specs.Escapes.{escaped_text}
-use Rattle.report_lines.specs.declared.position.Position.{Position}
-use Rattle.report_lines.specs.Shown.{shown_text}
+use Rattle.report_forms.specs.declared.position.Position.{Position}
+use Rattle.report_forms.specs.Shown.{shown_text}
 use Rattle.unicode_width.specs.Width.{str_width}
 use Rattle.report_forms.specs.declared.entry.Place.{Place}
 use Rattle.report_forms.specs.declared.entry.Excerpt.{Excerpt}

@@ -1,3 +1,8 @@
+pub mod Ends
+pub mod Positions
+pub mod LineTexts
+pub mod Starts
+pub mod Shown
 pub mod Escapes
 pub mod Forms
 pub mod Places

@@ -1,7 +1,7 @@
 -- The places that belong to a fault beside its own.
 use Rattle.std.specs.Prelude.{◌≡◌, ℕ, Bool, true, false, ◌++◌, not, ◌&&◌, ◌==◌, List, [], ◌∷◌, Option, None, Some, string_bytes, filter, option_map, ⊤}
 use Rattle.graphql_names.specs.declared.span.SourceSpan.{SourceSpan}
-use Rattle.report_lines.specs.declared.position.Position.{Position}
+use Rattle.report_forms.specs.declared.position.Position.{Position}
 use Rattle.report_forms.specs.declared.entry.Place.{Place}
 use Rattle.report_forms.specs.declared.entry.Related.{Related}
 use Rattle.report_forms.specs.declared.noted.Noted.{Noted}

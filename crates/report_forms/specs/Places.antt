@@ -1,7 +1,7 @@
 -- Where faults are: the text that a place is in, and its lines and columns.
 use Rattle.std.specs.Prelude.{◌≡◌, ℕ, ◌+◌, ◌-◌, ◌==◌, List, codes, string_bytes, Option, None, Some, slice_get, if◌then◌else◌, ⊤}
 use Rattle.graphql_names.specs.declared.span.SourceSpan.{SourceSpan}
-use Rattle.report_lines.specs.Positions.{IsPosition}
+use Rattle.report_forms.specs.Positions.{IsPosition}
 use Rattle.report_forms.specs.declared.entry.Entry.{Entry}
 use Rattle.report_forms.specs.declared.entry.Place.{Place}
 use Rattle.report_forms.specs.declared.source.Source.{Source}

@@ -1,6 +1,6 @@
 //! What is told of a fault.
 
-use report_lines::Position;
+use crate::position::Position;
 
 /// Where in a text a fault stands.
 #[derive(Clone, Copy)]
@@ -27,7 +27,11 @@ pub struct Excerpt {
 
 impl Drop for Excerpt {
     fn drop(self) {
-        let Excerpt { before: _, marked: _, after: _ } = self;
+        let Excerpt {
+            before: _,
+            marked: _,
+            after: _,
+        } = self;
     }
 }
 
@@ -43,7 +47,11 @@ pub struct Related {
 
 impl Drop for Related {
     fn drop(self) {
-        let Related { path: _, start: _, words: _ } = self;
+        let Related {
+            path: _,
+            start: _,
+            words: _,
+        } = self;
     }
 }
 

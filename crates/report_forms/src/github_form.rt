@@ -1,7 +1,7 @@
 //! A fault as a workflow command.
 
 ghost use Rattle.std.specs.Prelude.{◌≡◌, ◌++◌, ◌∷◌, [], true, false, codes, OnOk, IfOk, string_bytes};
-ghost use Rattle.report_lines.specs.Shown.{shown_text, HasOnlyLineFeeds};
+ghost use Rattle.report_forms.specs.Shown.{shown_text, HasOnlyLineFeeds};
 ghost use Rattle.report_forms.specs.Escapes.{escaped_text};
 ghost use Rattle.report_forms.specs.Forms.{command, properties};
 

@@ -5,7 +5,7 @@ ghost use Rattle.json.specs.Print.{quoted};
 ghost use Rattle.report_forms.specs.Forms.{one_line, IsOneLine};
 
 use crate::entry::{Entry, Field, Place, Related};
-use report_lines::Position;
+use crate::position::Position;
 use serde_json::Value;
 use std::alloc::{AllocError, Global};
 
@@ -69,7 +69,7 @@ fn push_text(alloc: Global, out: &mut String, head: &str, text: &str) -> Result<
 }
 
 /// The text as JSON.
-fn quoted(alloc: Global, text: &str) -> Result<String, AllocError>
+pub fn quoted(alloc: Global, text: &str) -> Result<String, AllocError>
     ensures { IfOk result (λ json. string_bytes json ≡ quoted text.now) }
 {
     Value::String(String::from_str(alloc, text)?).to_string(alloc)

@@ -1,9 +1,9 @@
 //! A line of a form.
 
 ghost use Rattle.std.specs.Prelude.{◌≡◌, ◌++◌, ◌∷◌, [], ◌<◌, OnOk, string_bytes, decimal, replicate};
-ghost use Rattle.report_lines.specs.Shown.{shown_text, HasOnlyLineFeeds};
+ghost use Rattle.report_forms.specs.Shown.{shown_text, HasOnlyLineFeeds};
 
-use report_lines::shown;
+use crate::showing::shown;
 use std::alloc::{AllocError, Global};
 
 /// Adds a line: what is shown of the text, and a line feed.

@@ -1,12 +1,12 @@
 //! A fault in a line.
 
 ghost use Rattle.std.specs.Prelude.{◌≡◌, ◌++◌, ◌∷◌, [], OnOk, IfOk, string_bytes};
-ghost use Rattle.report_lines.specs.Shown.{shown_text, HasOnlyLineFeeds};
+ghost use Rattle.report_forms.specs.Shown.{shown_text, HasOnlyLineFeeds};
 ghost use Rattle.report_forms.specs.Forms.{start_of, position_text, heading};
 
 use crate::entry::Entry;
+use crate::position::Position;
 use crate::push_line::{push_line, push_number};
-use report_lines::Position;
 use std::alloc::{AllocError, Global};
 
 impl Entry {

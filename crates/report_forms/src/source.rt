@@ -4,8 +4,8 @@ ghost use Rattle.std.specs.Prelude.{◌≡◌, IfSome, IfNone, option_map};
 ghost use Rattle.report_forms.specs.Places.{source_at, path_of, path_at, IsPlaceIn, IsPlaceAt};
 
 use crate::entry::Place;
+use crate::lines::Lines;
 use graphql_names::{FileId, SourceSpan};
-use report_lines::Lines;
 
 /// The name of what is in no text.
 const BUILT_IN: &str = "<built in>";

@@ -1,13 +1,13 @@
 //! A fault with its line.
 
 ghost use Rattle.std.specs.Prelude.{◌≡◌, ◌++◌, ◌∷◌, [], codes, OnOk, IfOk, string_bytes};
-ghost use Rattle.report_lines.specs.Shown.{shown_text, HasOnlyLineFeeds};
+ghost use Rattle.report_forms.specs.Shown.{shown_text, HasOnlyLineFeeds};
 ghost use Rattle.report_forms.specs.Forms.{width_of, numbered_line, marks, excerpt_text};
 
 use crate::entry::{Entry, Excerpt, Related};
 use crate::push_line::{push_line, push_times};
 use crate::short_form::push_position;
-use report_lines::shown;
+use crate::showing::shown;
 use std::alloc::{AllocError, Global};
 use unicode_width::UnicodeWidthStr;
 

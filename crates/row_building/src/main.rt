@@ -1,8 +1,10 @@
 //! Rows of texts that are read and trees that are printed, of schemas that are built and coordinates in them, and of documents
-//! that get a meaning under a schema, with the walks over these, and fields that sets make. No rule is judged. Its words name
-//! the files of its `data/`.
+//! that get a meaning under a schema, with the walks over these, and fields that sets make; and of the forms of a fault,
+//! positions in texts and what is shown of texts. No rule is judged. Its words name the files of its `data/`.
 #![tactic(auto)]
 
+mod by_form;
+mod by_text;
 mod coordinates;
 mod copies;
 mod documents;
@@ -20,6 +22,8 @@ mod trees;
 mod walks;
 mod words;
 
+use crate::by_form::by_form;
+use crate::by_text::by_text;
 use crate::layouts::by_layouts;
 use crate::over_schemas::by_schema_texts;
 use crate::read::by_read;
@@ -29,7 +33,7 @@ use std::alloc::Global;
 use std::process::ExitCode;
 
 /// The calls that read texts and print trees, build schemas and find what coordinates name, and give documents, sets and
-/// fields a meaning.
+/// fields a meaning; and those of reports.
 struct Building;
 
 impl Calls for Building {
@@ -48,6 +52,10 @@ impl Calls for Building {
                 Some(&["schema", "standalone", "document"])
             }
             "field_set" | "new_field" => Some(&["schema", "type", "input"]),
+            "text" | "short" | "json" | "github" => {
+                Some(&["at", "column", "length", "offset", "input"])
+            }
+            "positions" | "shown" => Some(&["input"]),
             _ => None,
         }
     }
@@ -61,6 +69,8 @@ impl Calls for Building {
             | "parse_selections"
             | "argument_by_name"
             | "next_token" => by_read(alloc, case, tally),
+            "text" | "short" | "json" | "github" => by_form(alloc, case, tally),
+            "positions" | "shown" => by_text(alloc, case, tally),
             _ => by_schema_texts(alloc, case, tally),
         }
     }

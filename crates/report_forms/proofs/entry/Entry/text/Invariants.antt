@@ -1,5 +1,5 @@
 use Rattle.std.proofs.Common.{string_bytes}
-use Rattle.report_lines.specs.Shown.{HasOnlyLineFeeds}
+use Rattle.report_forms.specs.Shown.{HasOnlyLineFeeds}
 use Rattle.report_forms.proofs.entry.Entry.text.Given as goal
 
 abbrev pub invariant-loop-related : goal.invariant-loop-related

@@ -1,0 +1,174 @@
+//! The lines of a text.
+
+ghost use Rattle.std.specs.Prelude.{◌≡◌, ℕ, ◌+◌, ◌<◌, ◌≤◌, ◌↔◌, true, false, nat_le, List, length, drop, IfOk, IfSome, IfNone, IsSome};
+ghost use Rattle.std.specs.List.Sorted.{IsPartitionedBy, IsPartitionPoint};
+ghost use Rattle.report_forms.specs.Ends.{ends_line, how_many};
+ghost use Rattle.report_forms.specs.Positions.{IsLineStart, IsPosition, IsFirstPlace, IsColumn, IsFirstInLine};
+ghost use Rattle.report_forms.specs.LineTexts.{IsNumberedStart, IsFirstLine, IsLineText};
+ghost use Rattle.report_forms.specs.Starts.{starts_up_to};
+
+use crate::ends::{characters_between, ends_character, ends_line};
+use crate::position::Position;
+use std::alloc::{AllocError, Global};
+use std::marker::Model;
+
+/// A text, with the places at which its lines begin, so that positions are found in time logarithmic in the lines and linear
+/// in the length of one.
+///
+/// A contract sees it as the text.
+pub struct Lines<'a> {
+    text: &'a str,
+    starts: Vec<usize>,
+}
+
+impl Drop for Lines<'_> {
+    fn drop(self) {
+        let Lines { text: _, starts: _ } = self;
+    }
+}
+
+impl<'a> Model for Lines<'a> {
+    ghost Value = { List ℕ };
+
+    ghost view = { λ l. l.text.now };
+
+    ghost invariant = { λ l. l.starts.items ≡ starts_up_to l.text.now (length l.text.now) };
+}
+
+impl<'a> Lines<'a> {
+    /// The lines of the text.
+    pub fn new(alloc: Global, text: &'a str) -> Result<Lines<'a>, AllocError>
+        ensures { IfOk result (λ lines. lines ≡ text.now) }
+    {
+        let starts = starts_of(alloc, text.as_bytes())?;
+        Ok(Lines { text, starts })
+    }
+
+    /// The text.
+    pub fn text(&self) -> &'a str
+        ensures { result.now ≡ self.now }
+    {
+        self.text
+    }
+
+    /// The position of the place with so many bytes before it. One past the end is at the end.
+    pub fn position(&self, offset: usize) -> Position
+        ensures { IsPosition self.now offset result }
+    {
+        let text = self.text.as_bytes();
+        let place = offset.min(text.len());
+        let (line, start) = self.line_of(place);
+        Position {
+            line,
+            column: characters_between(text, start, place) + 1,
+        }
+    }
+
+    /// The first place with this position: how many bytes of the text stand before it. None where no place has it.
+    pub fn offset(&self, position: Position) -> Option<usize>
+        ensures found { IfSome result (λ place. IsFirstPlace self.now position place) }
+        ensures none { IfNone result ((place : ℕ) → ¬ IsPosition self.now place position) }
+    {
+        let start = self.start_of(position.line)?;
+        place_in_line(self.text.as_bytes(), start, position.column)
+    }
+
+    /// The text of the line of this number, without its line terminator. None where the text has no such line.
+    pub fn line(&self, number: usize) -> Option<&'a str>
+        ensures found { IsSome result ↔ ((0 < number) × (number ≤ 1 + how_many (ends_line self.now) 0 (length self.now))) }
+        ensures text { IfSome result (λ line. IsLineText self.now number line.now) }
+    {
+        let start = self.start_of(number)?;
+        Some(line_from(self.text, start))
+    }
+
+    /// Where the line of this number begins.
+    fn start_of(&self, number: usize) -> Option<usize>
+        ensures found { IsSome result ↔ ((0 < number) × (number ≤ 1 + how_many (ends_line self.now) 0 (length self.now))) }
+        ensures start { IfSome result (λ start. IsNumberedStart self.now number start) }
+    {
+        if number == 0 || number > self.starts.len() {
+            return None;
+        }
+        Some(self.starts[number - 1])
+    }
+
+    /// The number of the line that the place is in, and where that line begins.
+    fn line_of(&self, place: usize) -> (usize, usize)
+        requires { place ≤ length self.now }
+        ensures number { result.0 ≡ 1 + how_many (ends_line self.now) 0 place }
+        ensures start { IsLineStart self.now place result.1 }
+    {
+        let line = count_up_to(&self.starts, place);
+        (line, self.starts[line - 1])
+    }
+}
+
+/// The first place of this column in the line that begins at `start`.
+fn place_in_line(text: &[u8], start: usize, column: usize) -> Option<usize>
+    requires within { start ≤ length text.now }
+    requires begins { IsLineStart text.now start start }
+    ensures found { IfSome result (λ place. IsFirstInLine text.now start column place) }
+    ensures none { IfNone result ((place : ℕ) → ¬ IsColumn text.now start column place) }
+{
+    let mut reached = 1usize;
+    for last in start..text.len() {
+        if reached == column {
+            return Some(last);
+        }
+        if ends_line(text, last) {
+            return None;
+        }
+        if ends_character(text, last) {
+            reached += 1;
+        }
+    }
+    if reached == column {
+        Some(text.len())
+    } else {
+        None
+    }
+}
+
+/// The text from there up to the next line terminator.
+fn line_from(text: &str, start: usize) -> &str
+    requires within { start ≤ length text.now }
+    requires begins { IsLineStart text.now start start }
+    ensures { IsFirstLine (drop start text.now) result.now }
+{
+    before_terminator(&text[start..])
+}
+
+/// What stands before the first line terminator, or the whole text where there is none.
+fn before_terminator(text: &str) -> &str
+    ensures { IsFirstLine text.now result.now }
+{
+    for (index, byte) in text.as_bytes().iter().enumerate() {
+        if *byte == b'\n' || *byte == b'\r' {
+            return &text[..index];
+        }
+    }
+    text
+}
+
+/// How many of these places, which rise, are at or before this one.
+fn count_up_to(starts: &[usize], place: usize) -> usize
+    requires { IsPartitionedBy (λ y. nat_le y place) starts.now }
+    ensures bound { result ≤ length starts.now }
+    ensures point { IsPartitionPoint (λ y. nat_le y place ≡ true) (λ y. nat_le y place ≡ false) starts.now result }
+{
+    starts.partition_point(|start| *start <= place)
+}
+
+/// The places at which lines begin.
+fn starts_of(alloc: Global, text: &[u8]) -> Result<Vec<usize>, AllocError>
+    ensures { IfOk result (λ starts. starts.items ≡ starts_up_to text.now (length text.now)) }
+{
+    let mut starts: Vec<usize> = vec![in alloc; 0]?;
+    for last in 0..text.len() {
+        if ends_line(text, last) {
+            starts.push(last + 1)?;
+        }
+    }
+    Ok(starts)
+}

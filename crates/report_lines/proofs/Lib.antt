@@ -1,4 +1,0 @@
-pub mod Counting
-pub mod LineStarts
-pub mod PlacesBack
-pub mod ShownTexts

@@ -1,6 +1,0 @@
-use Rattle.std.proofs.Common.{◌≡◌}
-use Rattle.report_lines.specs.Starts.{starts_up_to}
-use Rattle.report_lines.proofs.lines.starts_of.Given as goal
-
-abbrev pub invariant-loop-last : goal.invariant-loop-last
-invariant-loop-last l = l.starts.items ≡ starts_up_to l.text l.last

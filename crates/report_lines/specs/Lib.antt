@@ -1,5 +1,0 @@
-pub mod Ends
-pub mod Positions
-pub mod LineTexts
-pub mod Starts
-pub mod Shown
