@@ -4,8 +4,7 @@ ghost use Rattle.graphql_schema.specs.SchemaOf.{schema_tree};
 ghost use Rattle.schema_types.specs.Distinct.{AreAllDistinct};
 ghost use Rattle.fault_data.specs.FaultView.{fault_of, faults_of};
 ghost use Rattle.rule_cycles.specs.UseGraph.{AreUseReferences};
-ghost use Rattle.rule_cycles.specs.DirectiveFaults.{TellsDirective, TellsDeepDirective};
-ghost use Rattle.rule_cycles.specs.Telling.{TellsFound};
+ghost use Rattle.rule_cycles.specs.DirectiveFaults.{TellsFoundDirective};
 ghost use Rattle.rule_cycles.specs.Told.{DirectivesTold};
 
 use crate::directive_faults::{deeply_nested_directive, recursive_directive_definition};
@@ -24,7 +23,7 @@ fn directive_fault(
     found: &Found,
 ) -> Result<Option<Fault>, AllocError>
     requires { AreUseReferences (schema_tree schema.now) references.now }
-    ensures { IfOk result (λ r. TellsFound (TellsDirective (schema_tree schema.now)) (TellsDeepDirective (schema_tree schema.now)) root found.now (map fault_of (option_to_list r))) }
+    ensures { IfOk result (λ r. TellsFoundDirective (schema_tree schema.now) root found.now (map fault_of (option_to_list r))) }
 {
     match found {
         Found::Nothing => Ok(None),

@@ -4,8 +4,7 @@ ghost use Rattle.graphql_schema.specs.SchemaOf.{schema_tree};
 ghost use Rattle.schema_types.specs.Distinct.{AreAllDistinct};
 ghost use Rattle.fault_data.specs.FaultView.{fault_of, faults_of};
 ghost use Rattle.rule_cycles.specs.InputGraph.{AreInputReferences};
-ghost use Rattle.rule_cycles.specs.FaultLists.{TellsInput, TellsDeepInput};
-ghost use Rattle.rule_cycles.specs.Telling.{TellsFound};
+ghost use Rattle.rule_cycles.specs.FaultLists.{TellsFoundInput};
 ghost use Rattle.rule_cycles.specs.Told.{InputsTold};
 
 use crate::input_faults::{deeply_nested_input_object, recursive_input_object_definition};
@@ -24,7 +23,7 @@ fn input_object_fault(
     found: &Found,
 ) -> Result<Option<Fault>, AllocError>
     requires { AreInputReferences (schema_tree schema.now) references.now }
-    ensures { IfOk result (λ r. TellsFound (TellsInput (schema_tree schema.now)) (TellsDeepInput (schema_tree schema.now)) root found.now (map fault_of (option_to_list r))) }
+    ensures { IfOk result (λ r. TellsFoundInput (schema_tree schema.now) root found.now (map fault_of (option_to_list r))) }
 {
     match found {
         Found::Nothing => Ok(None),

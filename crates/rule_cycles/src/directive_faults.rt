@@ -1,12 +1,12 @@
 //! The faults of directives that reach themselves (section 3.13).
-ghost use Rattle.std.specs.Prelude.{◌≡◌, ◌++◌, map, reverse, IfOk, OnOk, option_to_list, option_and_then};
+ghost use Rattle.std.specs.Prelude.{◌≡◌, map, reverse, IfOk, OnOk, option_to_list};
 ghost use Rattle.graphql_names.specs.Placed.{node_tree};
 ghost use Rattle.graphql_names.specs.Places.{Recomposes};
 ghost use Rattle.tree_directives.specs.DirectiveTree.{directive_tree, directive_definition_tree};
 ghost use Rattle.graphql_schema.specs.SchemaOf.{schema_tree};
 ghost use Rattle.fault_data.specs.FaultView.{fault_of};
 ghost use Rattle.rule_cycles.specs.Labels.{along};
-ghost use Rattle.rule_cycles.specs.UseViews.{use_between};
+ghost use Rattle.rule_cycles.specs.UseViews.{use_between, AddsDirective};
 ghost use Rattle.rule_cycles.specs.UseGraph.{AreUseReferences};
 ghost use Rattle.rule_cycles.specs.DirectiveFaults.{directives_of, TellsDirective, TellsDeepDirective};
 
@@ -31,7 +31,7 @@ fn add_use_between(
     to: usize,
     trace: &mut Vec<Node<Directive>>,
 ) -> Result<(), AllocError>
-    ensures { OnOk result (map (node_tree directive_tree) trace.new.items ≡ map (node_tree directive_tree) trace.old.items ++ option_to_list (option_and_then (λ by. by) (use_between references.now from to))) }
+    ensures { OnOk result (AddsDirective trace.old trace.new (use_between references.now from to)) }
 {
     match references.first(from, to) {
         Some(Some(directive)) => {

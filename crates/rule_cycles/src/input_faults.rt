@@ -1,11 +1,11 @@
 //! The faults of input objects that lead back to themselves (section 3.10).
-ghost use Rattle.std.specs.Prelude.{◌≡◌, ◌++◌, map, reverse, IfOk, OnOk, option_to_list};
+ghost use Rattle.std.specs.Prelude.{◌≡◌, map, reverse, IfOk, OnOk, option_to_list};
 ghost use Rattle.graphql_names.specs.Placed.{node_tree};
 ghost use Rattle.tree_directives.specs.DirectiveTree.{input_value_tree};
 ghost use Rattle.graphql_schema.specs.SchemaOf.{schema_tree};
 ghost use Rattle.fault_data.specs.FaultView.{fault_of};
 ghost use Rattle.rule_cycles.specs.Labels.{along};
-ghost use Rattle.rule_cycles.specs.ReferenceViews.{field_between};
+ghost use Rattle.rule_cycles.specs.ReferenceViews.{field_between, AddsField};
 ghost use Rattle.rule_cycles.specs.InputGraph.{AreInputReferences};
 ghost use Rattle.rule_cycles.specs.FaultLists.{recursive_input_object_definition, deeply_nested_input_object};
 
@@ -23,7 +23,7 @@ fn add_field_between(
     to: usize,
     trace: &mut Vec<Node<InputValueDefinition>>,
 ) -> Result<(), AllocError>
-    ensures { OnOk result (map (node_tree input_value_tree) trace.new.items ≡ map (node_tree input_value_tree) trace.old.items ++ option_to_list (field_between references.now from to)) }
+    ensures { OnOk result (AddsField trace.old trace.new (field_between references.now from to)) }
 {
     match references.first(from, to) {
         None => Ok(()),

@@ -1,13 +1,14 @@
 //! What input objects refer to (section 3.10).
-ghost use Rattle.std.specs.Prelude.{◌≡◌, ◌++◌, map, IfOk, OnOk};
+ghost use Rattle.std.specs.Prelude.{◌≡◌, map, IfOk, OnOk};
 ghost use Rattle.graphql_names.specs.Placed.{node_tree};
 ghost use Rattle.tree_literals.specs.TypeTree.{type_tree};
 ghost use Rattle.tree_directives.specs.DirectiveTree.{input_value_tree};
 ghost use Rattle.schema_types.specs.TypeView.{extended_type};
 ghost use Rattle.graphql_schema.specs.SchemaOf.{schema_tree};
-ghost use Rattle.rule_cycles.specs.Numbers.{required_input, field_references, input_references, each_value, at_number};
+ghost use Rattle.rule_cycles.specs.Numbers.{required_input, field_references, input_references, each_value};
 ghost use Rattle.rule_cycles.specs.InputGraph.{AreInputReferences};
-ghost use Rattle.rule_cycles.specs.ReferenceViews.{field_tree, input_reference_view};
+ghost use Rattle.rule_cycles.specs.ReferenceViews.{input_reference_view, AddsInputs, references_of_field};
+ghost use Rattle.rule_cycles.specs.FaultLists.{input_fields_at};
 
 use crate::numbers::input_object_number;
 use crate::references::{BOUND, Reference, References};
@@ -44,7 +45,7 @@ fn add_field(
     field: &Node<InputValueDefinition>,
     references: &mut Vec<InputReference>,
 ) -> Result<(), AllocError>
-    ensures { OnOk result (map input_reference_view references.new.items ≡ map input_reference_view references.old.items ++ field_references (schema_tree schema.now).types (node_tree input_value_tree field.now)) }
+    ensures { OnOk result (AddsInputs references.old references.new (field_references (schema_tree schema.now).types (node_tree input_value_tree field.now))) }
 {
     match required_input(schema, field.content().ty.content()) {
         None => Ok(()),
@@ -62,7 +63,7 @@ fn references_of_fields(
     schema: &Schema,
     fields: &IndexMap<Name, Component<InputValueDefinition>>,
 ) -> Result<Vec<InputReference>, AllocError>
-    ensures { IfOk result (λ r. map input_reference_view r.items ≡ each_value (λ c. field_references (schema_tree schema.now).types (field_tree c)) fields.now.entries) }
+    ensures { IfOk result (λ r. map input_reference_view r.items ≡ each_value (references_of_field (schema_tree schema.now)) fields.now.entries) }
 {
     let mut references = Vec::new(alloc);
     for (_, field) in fields {
@@ -93,7 +94,7 @@ fn input_references(
     schema: &Schema,
     number: usize,
 ) -> Result<Vec<InputReference>, AllocError>
-    ensures { IfOk result (λ r. map input_reference_view r.items ≡ at_number (input_references (schema_tree schema.now).types) (schema_tree schema.now).types number) }
+    ensures { IfOk result (λ r. map input_reference_view r.items ≡ input_fields_at (schema_tree schema.now) number) }
 {
     match schema.types.get_index(number) {
         None => Ok(Vec::new(alloc)),

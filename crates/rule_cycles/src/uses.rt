@@ -1,16 +1,14 @@
 //! What directives and types refer to (section 3.13).
-ghost use Rattle.std.specs.Prelude.{◌≡◌, ◌++◌, map, IfOk, OnOk};
+ghost use Rattle.std.specs.Prelude.{◌≡◌, map, IfOk, OnOk};
 ghost use Rattle.graphql_names.specs.Placed.{node_tree};
 ghost use Rattle.tree_literals.specs.TypeTree.{type_tree};
 ghost use Rattle.tree_directives.specs.DirectiveTree.{directive_tree, directives_tree, input_value_tree};
-ghost use Rattle.schema_components.specs.Applied.{applied_tree};
-ghost use Rattle.schema_types.specs.Addresses.{applied};
 ghost use Rattle.schema_types.specs.TypeView.{extended_type};
 ghost use Rattle.graphql_schema.specs.SchemaOf.{schema_tree};
-ghost use Rattle.rule_cycles.specs.Numbers.{each_value, at_number};
-ghost use Rattle.rule_cycles.specs.UseNumbers.{use_references, uses_references, type_reference, input_uses, arguments_uses, definition_uses, part_uses, type_uses, uses_at};
+ghost use Rattle.rule_cycles.specs.Numbers.{each_value};
+ghost use Rattle.rule_cycles.specs.UseNumbers.{use_references, uses_references, type_reference, input_uses, arguments_uses, part_uses, uses_at};
 ghost use Rattle.rule_cycles.specs.UseGraph.{AreUseReferences};
-ghost use Rattle.rule_cycles.specs.UseViews.{use_view, value_uses, field_uses};
+ghost use Rattle.rule_cycles.specs.UseViews.{use_view, value_uses, field_uses, AddsUses, applied_uses, numbered_type_uses, numbered_definition_uses};
 
 use crate::numbers::type_node;
 use crate::references::{BOUND, Reference, References};
@@ -36,7 +34,7 @@ fn add_use(
     directive: &Node<Directive>,
     references: &mut Vec<UseReference>,
 ) -> Result<(), AllocError>
-    ensures { OnOk result (map use_view references.new.items ≡ map use_view references.old.items ++ use_references (schema_tree schema.now) (node_tree directive_tree directive.now)) }
+    ensures { OnOk result (AddsUses references.old references.new (use_references (schema_tree schema.now) (node_tree directive_tree directive.now))) }
 {
     match schema
         .directive_definitions
@@ -57,7 +55,7 @@ fn add_uses(
     directives: &DirectiveList,
     references: &mut Vec<UseReference>,
 ) -> Result<(), AllocError>
-    ensures { OnOk result (map use_view references.new.items ≡ map use_view references.old.items ++ uses_references (schema_tree schema.now) (directives_tree directives.now)) }
+    ensures { OnOk result (AddsUses references.old references.new (uses_references (schema_tree schema.now) (directives_tree directives.now))) }
 {
     for directive in &directives.0 {
         add_use(schema, directive, references)?;
@@ -71,7 +69,7 @@ fn add_type(
     ty: &Type,
     references: &mut Vec<UseReference>,
 ) -> Result<(), AllocError>
-    ensures { OnOk result (map use_view references.new.items ≡ map use_view references.old.items ++ type_reference (schema_tree schema.now) (type_tree ty.now)) }
+    ensures { OnOk result (AddsUses references.old references.new (type_reference (schema_tree schema.now) (type_tree ty.now))) }
 {
     match type_node(schema, ty.inner_named_type()) {
         None => Ok(()),
@@ -88,7 +86,7 @@ fn add_input_value(
     value: &InputValueDefinition,
     references: &mut Vec<UseReference>,
 ) -> Result<(), AllocError>
-    ensures { OnOk result (map use_view references.new.items ≡ map use_view references.old.items ++ input_uses (schema_tree schema.now) (input_value_tree value.now)) }
+    ensures { OnOk result (AddsUses references.old references.new (input_uses (schema_tree schema.now) (input_value_tree value.now))) }
 {
     add_uses(schema, &value.directives, references)?;
     add_type(schema, value.ty.content(), references)
@@ -100,7 +98,7 @@ fn add_arguments(
     arguments: &[Node<InputValueDefinition>],
     references: &mut Vec<UseReference>,
 ) -> Result<(), AllocError>
-    ensures { OnOk result (map use_view references.new.items ≡ map use_view references.old.items ++ arguments_uses (schema_tree schema.now) (map (node_tree input_value_tree) arguments.now)) }
+    ensures { OnOk result (AddsUses references.old references.new (arguments_uses (schema_tree schema.now) (map (node_tree input_value_tree) arguments.now))) }
 {
     for argument in arguments {
         add_input_value(schema, argument.content(), references)?;
@@ -114,7 +112,7 @@ fn add_component_uses(
     directives: &schema_components::DirectiveList,
     references: &mut Vec<UseReference>,
 ) -> Result<(), AllocError>
-    ensures { OnOk result (map use_view references.new.items ≡ map use_view references.old.items ++ uses_references (schema_tree schema.now) (applied (schema_tree schema.now) (applied_tree directives.now))) }
+    ensures { OnOk result (AddsUses references.old references.new (applied_uses (schema_tree schema.now) directives.now)) }
 {
     for directive in &directives.0 {
         add_use(schema, &directive.node, references)?;
@@ -128,7 +126,7 @@ fn add_values(
     values: &IndexMap<Name, Component<EnumValueDefinition>>,
     references: &mut Vec<UseReference>,
 ) -> Result<(), AllocError>
-    ensures { OnOk result (map use_view references.new.items ≡ map use_view references.old.items ++ each_value (value_uses (schema_tree schema.now)) values.now.entries) }
+    ensures { OnOk result (AddsUses references.old references.new (each_value (value_uses (schema_tree schema.now)) values.now.entries)) }
 {
     for (_, value) in values {
         add_uses(schema, &value.node.content().directives, references)?;
@@ -142,7 +140,7 @@ fn add_fields(
     fields: &IndexMap<Name, Component<InputValueDefinition>>,
     references: &mut Vec<UseReference>,
 ) -> Result<(), AllocError>
-    ensures { OnOk result (map use_view references.new.items ≡ map use_view references.old.items ++ each_value (field_uses (schema_tree schema.now)) fields.now.entries) }
+    ensures { OnOk result (AddsUses references.old references.new (each_value (field_uses (schema_tree schema.now)) fields.now.entries)) }
 {
     for (_, field) in fields {
         add_input_value(schema, field.node.content(), references)?;
@@ -156,7 +154,7 @@ fn add_parts(
     ty: &ExtendedType,
     references: &mut Vec<UseReference>,
 ) -> Result<(), AllocError>
-    ensures { OnOk result (map use_view references.new.items ≡ map use_view references.old.items ++ part_uses (schema_tree schema.now) (extended_type ty.now)) }
+    ensures { OnOk result (AddsUses references.old references.new (part_uses (schema_tree schema.now) (extended_type ty.now))) }
 {
     match ty {
         ExtendedType::Enum(own) => add_values(schema, &own.content().values, references),
@@ -171,7 +169,7 @@ fn add_type_uses(
     number: usize,
     references: &mut Vec<UseReference>,
 ) -> Result<(), AllocError>
-    ensures { OnOk result (map use_view references.new.items ≡ map use_view references.old.items ++ at_number (type_uses (schema_tree schema.now)) (schema_tree schema.now).types number) }
+    ensures { OnOk result (AddsUses references.old references.new (numbered_type_uses (schema_tree schema.now) number)) }
 {
     match schema.types.get_index(number) {
         None => Ok(()),
@@ -188,7 +186,7 @@ fn add_directive_uses(
     number: usize,
     references: &mut Vec<UseReference>,
 ) -> Result<(), AllocError>
-    ensures { OnOk result (map use_view references.new.items ≡ map use_view references.old.items ++ at_number (definition_uses (schema_tree schema.now)) (schema_tree schema.now).directives number) }
+    ensures { OnOk result (AddsUses references.old references.new (numbered_definition_uses (schema_tree schema.now) number)) }
 {
     match schema.directive_definitions.get_index(number) {
         None => Ok(()),
@@ -206,7 +204,7 @@ fn add_node_uses(
     node: usize,
     references: &mut Vec<UseReference>,
 ) -> Result<(), AllocError>
-    ensures { OnOk result (map use_view references.new.items ≡ map use_view references.old.items ++ uses_at (schema_tree schema.now) node) }
+    ensures { OnOk result (AddsUses references.old references.new (uses_at (schema_tree schema.now) node)) }
 {
     let directives = schema.directive_definitions.len();
     if node < directives {

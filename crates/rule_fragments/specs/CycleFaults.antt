@@ -10,8 +10,9 @@ use Rattle.document_meaning.specs.MeantTree.{MeantFragment}
 use Rattle.rule_definitions.specs.Diagnostics.{RecursiveFragmentDefinition, DeeplyNestedType}
 use Rattle.rule_definitions.specs.Faults.{wrong}
 use Rattle.rule_definitions.specs.Told.{PlacedFault}
+use Rattle.rule_cycle_search.specs.declared.found.Found.{Found}
 use Rattle.rule_cycles.specs.Labels.{along}
-use Rattle.rule_cycles.specs.Telling.{TellsRoots}
+use Rattle.rule_cycles.specs.Telling.{TellsFound, TellsRoots}
 use Rattle.rule_fragments.specs.SpreadNumbers.{Spread}
 use Rattle.rule_fragments.specs.SpreadViews.{spread_between}
 use Rattle.rule_cycles.specs.declared.references.References.{References}
@@ -45,6 +46,10 @@ module _ (r : References (Node FragmentSpread)) (o : ℕ → Option (MeantFragme
 
   abbrev pub TellsDeep : ℕ → List PlacedFault → Type 0
   TellsDeep root l = Tells IsDeepFault (o root) l
+
+  -- the same of what was found of the root
+  abbrev pub TellsFoundSpread : ℕ → Found → List PlacedFault → Type 0
+  TellsFoundSpread root found l = TellsFound TellsRecursive TellsDeep root found l
 
 -- what is told of all fragments that are used, in order
 abbrev pub TellsSpreads : References (Node FragmentSpread) → Entries (MeantFragment Place) → List (List ℕ) → List PlacedFault → List PlacedFault → Type 0

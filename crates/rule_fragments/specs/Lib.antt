@@ -4,6 +4,7 @@ pub mod Noting
 pub mod Applied
 pub mod Used
 pub mod Unused
+pub mod Telling
 pub mod SpreadNumbers
 pub mod SpreadViews
 pub mod SpreadGraph

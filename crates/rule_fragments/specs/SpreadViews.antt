@@ -1,5 +1,6 @@
 -- Private: leads to `Told`. What contracts see of fragments, and of references by spreads.
-use Rattle.std.specs.Prelude.{ℕ, Option}
+use Rattle.std.specs.Prelude.{◌≡◌, ◌++◌, ℕ, map, Vec, Option}
+use Rattle.std.specs.Global.{Global}
 use Rattle.std.specs.Borrow.{Bor}
 use Rattle.std.specs.Option.{option_map}
 use Rattle.graphql_names.specs.NameValue.{NameValue}
@@ -14,6 +15,7 @@ use Rattle.document_meaning.specs.MeantTree.{MeantFragment}
 use Rattle.document_typing.specs.DocumentView.{meant_by_fragment}
 use Rattle.fault_data.specs.DiagnosticView.{plain_spread}
 use Rattle.indexmap.specs.IndexMap.{IndexMap}
+use Rattle.rule_cycles.specs.Labels.{Labelled}
 use Rattle.rule_cycles.specs.References.{between}
 use Rattle.rule_fragments.specs.SpreadNumbers.{Spread}
 use Rattle.rule_cycles.specs.declared.references.Reference.{Reference}
@@ -35,6 +37,10 @@ spread_tree n = node_tree plain_spread n
 
 abbrev pub spread_view : Reference (Node FragmentSpread) → ℕ × Spread
 spread_view r = (r.to, spread_tree r.by)
+
+-- the references that were there, and after them these
+abbrev pub AddsSpreads : Vec (Reference (Node FragmentSpread)) Global → Vec (Reference (Node FragmentSpread)) Global → Labelled Spread → Type 0
+AddsSpreads old new references = map spread_view new.items ≡ map spread_view old.items ++ references
 
 -- the spread by which a fragment first refers to another
 abbrev pub spread_between : References (Node FragmentSpread) → ℕ → ℕ → Option Spread

@@ -1,5 +1,5 @@
 //! Fragments where they stand, and the rules on the types that they are on.
-ghost use Rattle.std.specs.Prelude.{◌≡◌, [], ◌++◌, ◌⊎◌, true, Some, map, flat_map, IfOk, OnOk, IfSome, option_to_list};
+ghost use Rattle.std.specs.Prelude.{◌≡◌, [], ◌++◌, ◌⊎◌, true, Some, map, IfOk, OnOk, IfSome, option_to_list};
 ghost use Rattle.std.specs.Option.{option_map};
 ghost use Rattle.graphql_names.specs.Placed.{Place};
 ghost use Rattle.schema_types.specs.Addresses.{TypeAt, place_at};
@@ -14,7 +14,8 @@ ghost use Rattle.rule_document_definitions.specs.Fragments.{InvalidFragmentTarge
 ghost use Rattle.rule_document_definitions.specs.Told.{places_in};
 ghost use Rattle.rule_document_ground.specs.Reach.{IsReachOf, meant_fragments, reached_members};
 ghost use Rattle.rule_fragments.specs.Possible.{ArePossible, ArePossibleIfFound};
-ghost use Rattle.rule_fragments.specs.Applied.{application_tree, application_in, stands_on_its_type, all_stand_on_their_types, invalid_fragment_spread, spread_told};
+ghost use Rattle.rule_fragments.specs.Applied.{application_tree, application_in, stands_on_its_type, all_stand_on_their_types, spread_told};
+ghost use Rattle.rule_fragments.specs.Telling.{invalid_spread, invalid_spreads};
 
 use crate::names::copied_name;
 use crate::possible_types::PossibleTypes;
@@ -147,7 +148,7 @@ fn invalid_fragment_spread(
     parent: &Name,
     selection: &Selection,
 ) -> Result<Option<Fault>, AllocError>
-    ensures { IfOk result (λ r. map fault_of (option_to_list r) ≡ invalid_fragment_spread (schema_tree schema.now) possible.now (meant_fragments fragments.now) (parent.now.text, meant (typed_selection_tree selection.now))) }
+    ensures { IfOk result (λ r. map fault_of (option_to_list r) ≡ invalid_spread (schema_tree schema.now) possible.now fragments.now parent.now selection.now) }
 {
     let Some(application) = application_of(selection, fragments) else {
         return Ok(None);
@@ -166,7 +167,7 @@ fn check_fragment_spreads(
     reach: &Reach<'_>,
     faults: &mut Vec<Fault>,
 ) -> Result<(), AllocError>
-    ensures { OnOk result (faults_of faults.new ≡ faults_of faults.old ++ flat_map (invalid_fragment_spread (schema_tree schema.now) possible.now (meant_fragments fragments.now)) (reached_members reach.now)) }
+    ensures { OnOk result (faults_of faults.new ≡ faults_of faults.old ++ invalid_spreads (schema_tree schema.now) possible.now fragments.now reach.now) }
 {
     for (parent, selection) in &reach.selections {
         let fault = invalid_fragment_spread(schema, possible, fragments, parent, selection)?;

@@ -4,12 +4,11 @@ ghost use Rattle.graphql_names.specs.Placed.{Place};
 ghost use Rattle.document_meaning.specs.MeantTree.{MeantDocument};
 ghost use Rattle.fault_data.specs.FaultView.{fault_of, faults_of};
 ghost use Rattle.rule_cycle_search.specs.Found.{AreFound};
-ghost use Rattle.rule_cycles.specs.Telling.{TellsFound};
 ghost use Rattle.rule_document_ground.specs.Reach.{meant_fragments};
 ghost use Rattle.rule_document_ground.specs.NotedNames.{noted_names};
 ghost use Rattle.rule_fragments.specs.Used.{AreUnderOwnNames, AreUsed};
 ghost use Rattle.rule_fragments.specs.SpreadViews.{fragment_entries, lent_at};
-ghost use Rattle.rule_fragments.specs.CycleFaults.{used_at, TellsRecursive, TellsDeep, TellsSpreads};
+ghost use Rattle.rule_fragments.specs.CycleFaults.{used_at, TellsSpreads, TellsFoundSpread};
 ghost use Rattle.rule_fragments.specs.Told.{TellsFragmentCycles};
 
 use crate::cycle_faults::{deeply_nested_fragment, recursive_fragment_definition};
@@ -46,7 +45,7 @@ fn fragment_fault(
     root: usize,
     found: &Found,
 ) -> Result<Option<Fault>, AllocError>
-    ensures { IfOk result (λ r. TellsFound (TellsRecursive references.now (lent_at fragment.entry)) (TellsDeep references.now (lent_at fragment.entry)) root found.now (map fault_of (option_to_list r))) }
+    ensures { IfOk result (λ r. TellsFoundSpread references.now (lent_at fragment.entry) root found.now (map fault_of (option_to_list r))) }
 {
     let Some(fragment) = fragment else {
         return Ok(None);

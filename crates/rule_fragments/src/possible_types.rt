@@ -6,6 +6,7 @@ ghost use Rattle.graphql_schema.specs.SchemaOf.{schema_tree};
 ghost use Rattle.rule_definitions.specs.Judged.{judged};
 ghost use Rattle.rule_fragments.specs.Possible.{ArePossible, AddsNotes, may_apply, share_one};
 ghost use Rattle.rule_fragments.specs.Noting.{object_notes, own_notes, is_object, member_note, member_notes, type_notes};
+ghost use Rattle.rule_fragments.specs.Telling.{component_names};
 
 use graphql_names::Name;
 use graphql_schema::Schema;
@@ -147,7 +148,7 @@ fn note_members(
     name: &Name,
     members: &[ComponentName],
 ) -> Result<(), AllocError>
-    ensures { OnOk result (AddsNotes noted.old noted.new (member_notes (schema_tree schema.now) name.now.text (map given_name (map component_name_tree members.now)))) }
+    ensures { OnOk result (AddsNotes noted.old noted.new (member_notes (schema_tree schema.now) name.now.text (component_names members.now))) }
 {
     for member in members {
         note_member(schema, noted, name, &member.name)?;

@@ -1,10 +1,11 @@
 //! What fragments refer to by spreads (section 5.5.2.2).
-ghost use Rattle.std.specs.Prelude.{◌≡◌, ◌++◌, map, IfOk, OnOk};
-ghost use Rattle.document_meaning.specs.MeantTree.{meant, meant_of_set};
-ghost use Rattle.document_typed_selections.specs.TypedTree.{typed_selection_tree, typed_set_tree};
+ghost use Rattle.std.specs.Prelude.{◌≡◌, map, IfOk, OnOk};
+ghost use Rattle.document_meaning.specs.MeantTree.{meant_of_set};
+ghost use Rattle.document_typed_selections.specs.TypedTree.{typed_set_tree};
 ghost use Rattle.rule_cycles.specs.Numbers.{number_of};
 ghost use Rattle.rule_fragments.specs.SpreadNumbers.{spread_references, references_in, references_of, references_at};
-ghost use Rattle.rule_fragments.specs.SpreadViews.{fragment_entries, spread_tree, spread_view};
+ghost use Rattle.rule_fragments.specs.SpreadViews.{fragment_entries, spread_tree, spread_view, AddsSpreads};
+ghost use Rattle.rule_fragments.specs.Telling.{meant_selection};
 ghost use Rattle.rule_fragments.specs.SpreadGraph.{AreSpreadReferences};
 
 use document_typed_operations::FragmentMap;
@@ -35,7 +36,7 @@ fn add_spread(
     spread: &Node<FragmentSpread>,
     references: &mut Vec<SpreadReference>,
 ) -> Result<(), AllocError>
-    ensures { OnOk result (map spread_view references.new.items ≡ map spread_view references.old.items ++ spread_references (fragment_entries fragments.now) (spread_tree spread.now)) }
+    ensures { OnOk result (AddsSpreads references.old references.new (spread_references (fragment_entries fragments.now) (spread_tree spread.now))) }
 {
     match fragment_number(fragments, &spread.content().fragment_name) {
         None => Ok(()),
@@ -54,7 +55,7 @@ fn add_spreads(
     set: &SelectionSet,
     references: &mut Vec<SpreadReference>,
 ) -> Result<(), AllocError>
-    ensures { OnOk result (map spread_view references.new.items ≡ map spread_view references.old.items ++ references_in (fragment_entries fragments.now) (meant_of_set (typed_set_tree set.now))) }
+    ensures { OnOk result (AddsSpreads references.old references.new (references_in (fragment_entries fragments.now) (meant_of_set (typed_set_tree set.now)))) }
 {
     for selection in &set.selections {
         add_spreads_of(fragments, selection, references)?;
@@ -69,7 +70,7 @@ fn add_spreads_of(
     selection: &Selection,
     references: &mut Vec<SpreadReference>,
 ) -> Result<(), AllocError>
-    ensures { OnOk result (map spread_view references.new.items ≡ map spread_view references.old.items ++ references_of (fragment_entries fragments.now) (meant (typed_selection_tree selection.now))) }
+    ensures { OnOk result (AddsSpreads references.old references.new (references_of (fragment_entries fragments.now) (meant_selection selection.now))) }
 {
     match selection {
         Selection::Field(field) => {
@@ -88,7 +89,7 @@ fn add_spreads_at(
     number: usize,
     references: &mut Vec<SpreadReference>,
 ) -> Result<(), AllocError>
-    ensures { OnOk result (map spread_view references.new.items ≡ map spread_view references.old.items ++ references_at (fragment_entries fragments.now) number) }
+    ensures { OnOk result (AddsSpreads references.old references.new (references_at (fragment_entries fragments.now) number)) }
 {
     match fragments.get_index(number) {
         None => Ok(()),

@@ -1,13 +1,12 @@
 //! Spreads of fragments that are not there.
 ghost use Rattle.std.specs.Prelude.{◌≡◌, map, IfOk, OnOk, option_to_list};
 ghost use Rattle.graphql_names.specs.Placed.{Place};
-ghost use Rattle.document_typed_selections.specs.TypedTree.{typed_selection_tree};
-ghost use Rattle.document_meaning.specs.MeantTree.{MeantOperation, MeantDocument, meant};
+ghost use Rattle.document_meaning.specs.MeantTree.{MeantOperation, MeantDocument};
 ghost use Rattle.fault_data.specs.FaultView.{fault_of};
 ghost use Rattle.fault_data.specs.Adds.{Adds};
 ghost use Rattle.rule_document_definitions.specs.Fragments.{UndefinedFragmentAt};
 ghost use Rattle.rule_document_ground.specs.Reach.{IsReachOf, meant_fragments};
-ghost use Rattle.rule_fragments.specs.Listed.{undefined_fragment};
+ghost use Rattle.rule_fragments.specs.Telling.{undefined_spread};
 
 use document_typed_operations::FragmentMap;
 use document_typed_selections::Selection;
@@ -20,7 +19,7 @@ fn undefined_fragment(
     fragments: &FragmentMap,
     selection: &Selection,
 ) -> Result<Option<Fault>, AllocError>
-    ensures { IfOk result (λ r. map fault_of (option_to_list r) ≡ undefined_fragment (meant_fragments fragments.now) (meant (typed_selection_tree selection.now))) }
+    ensures { IfOk result (λ r. map fault_of (option_to_list r) ≡ undefined_spread fragments.now selection.now) }
 {
     let Some(spread) = selection.as_fragment_spread() else {
         return Ok(None);

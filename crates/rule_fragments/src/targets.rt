@@ -1,18 +1,11 @@
 //! Types that fragments are on.
 ghost use Rattle.std.specs.Prelude.{◌≡◌, ◌++◌, map, flat_map, None, IfOk, OnOk, option_to_list};
-ghost use Rattle.std.specs.Option.{option_map};
-ghost use Rattle.graphql_names.specs.Placed.{Place, node_tree};
 ghost use Rattle.graphql_schema.specs.SchemaOf.{schema_tree};
-ghost use Rattle.document_typed_operations.specs.TypedDocument.{typed_fragment_tree};
-ghost use Rattle.document_typed_selections.specs.TypedTree.{typed_selection_tree};
-ghost use Rattle.document_meaning.specs.MeantTree.{MeantOperation, MeantDocument, meant};
-ghost use Rattle.document_typing.specs.DocumentView.{meant_by_fragment};
 ghost use Rattle.fault_data.specs.FaultView.{fault_of, faults_of};
-ghost use Rattle.fault_data.specs.Adds.{Adds};
-ghost use Rattle.rule_definitions.specs.Judged.{judged};
-ghost use Rattle.rule_document_definitions.specs.Fragments.{InvalidFragmentTargetAt};
-ghost use Rattle.rule_document_ground.specs.Reach.{IsReachOf, reached_members, reached_fragments_of};
-ghost use Rattle.rule_fragments.specs.Listed.{is_no_composite, invalid_fragment_target, fragment_target, inline_target};
+ghost use Rattle.rule_document_ground.specs.Reach.{reached_fragments_of};
+ghost use Rattle.rule_fragments.specs.Listed.{is_no_composite, fragment_target, inline_target};
+ghost use Rattle.rule_fragments.specs.Telling.{meant_selection, invalid_target, inline_targets, AddsTargets};
+ghost use Rattle.rule_fragments.specs.SpreadViews.{fragment_meant};
 
 use crate::names::copied_name;
 use document_typed_operations::Fragment;
@@ -41,7 +34,7 @@ fn invalid_fragment_target(
     name: Option<&Name>,
     condition: &Name,
 ) -> Result<Option<Fault>, AllocError>
-    ensures { IfOk result (λ r. map fault_of (option_to_list r) ≡ invalid_fragment_target (schema_tree schema.now) location (option_map (λ n. n.now.text) name.entry) condition.now.text) }
+    ensures { IfOk result (λ r. map fault_of (option_to_list r) ≡ invalid_target (schema_tree schema.now) location name.entry condition.now) }
 {
     if !is_no_composite(schema, condition) {
         return Ok(None);
@@ -56,7 +49,7 @@ fn invalid_fragment_target(
 
 /// That rule for a fragment.
 fn fragment_target(schema: &Schema, fragment: &Node<Fragment>) -> Result<Option<Fault>, AllocError>
-    ensures { IfOk result (λ r. map fault_of (option_to_list r) ≡ fragment_target (schema_tree schema.now) (meant_by_fragment (node_tree typed_fragment_tree fragment.now))) }
+    ensures { IfOk result (λ r. map fault_of (option_to_list r) ≡ fragment_target (schema_tree schema.now) (fragment_meant fragment.now)) }
 {
     let defined = fragment.content();
     invalid_fragment_target(
@@ -69,7 +62,7 @@ fn fragment_target(schema: &Schema, fragment: &Node<Fragment>) -> Result<Option<
 
 /// That rule for a selection, if it is an inline fragment with a condition.
 fn inline_target(schema: &Schema, selection: &Selection) -> Result<Option<Fault>, AllocError>
-    ensures { IfOk result (λ r. map fault_of (option_to_list r) ≡ inline_target (schema_tree schema.now) (meant (typed_selection_tree selection.now))) }
+    ensures { IfOk result (λ r. map fault_of (option_to_list r) ≡ inline_target (schema_tree schema.now) (meant_selection selection.now)) }
 {
     let Some(inline) = selection.as_inline_fragment() else {
         return Ok(None);
@@ -100,7 +93,7 @@ fn check_inline_targets(
     reach: &Reach<'_>,
     faults: &mut Vec<Fault>,
 ) -> Result<(), AllocError>
-    ensures { OnOk result (faults_of faults.new ≡ faults_of faults.old ++ flat_map (λ e. inline_target (schema_tree schema.now) e.1) (reached_members reach.now)) }
+    ensures { OnOk result (faults_of faults.new ≡ faults_of faults.old ++ inline_targets (schema_tree schema.now) reach.now) }
 {
     for (_, selection) in &reach.selections {
         tell(faults, inline_target(schema, selection)?)?;
@@ -115,7 +108,7 @@ pub(crate) fn check_targets(
     reach: &Reach<'_>,
     faults: &mut Vec<Fault>,
 ) -> Result<(), AllocError>
-    ensures { OnOk result ((d : MeantDocument Place) (o : MeantOperation Place) → IsReachOf d o reach.now → Adds faults.old faults.new (λ f. InvalidFragmentTargetAt (judged (schema_tree schema.now)) d o f)) }
+    ensures { OnOk result (AddsTargets (schema_tree schema.now) reach.now faults.old faults.new) }
 {
     check_fragment_targets(schema, reach, faults)?;
     check_inline_targets(schema, reach, faults)

@@ -7,10 +7,10 @@ ghost use Rattle.fault_data.specs.Adds.{Adds};
 ghost use Rattle.rule_document_definitions.specs.Fragments.{UnusedFragmentAt};
 ghost use Rattle.rule_document_ground.specs.Reach.{meant_fragments};
 ghost use Rattle.rule_document_ground.specs.NotedNames.{noted_names};
-ghost use Rattle.rule_cycles.specs.Numbers.{each_value};
 ghost use Rattle.rule_fragments.specs.Used.{AreUnderOwnNames, AreUsed};
 ghost use Rattle.rule_fragments.specs.Unused.{unused_fragment};
 ghost use Rattle.rule_fragments.specs.SpreadViews.{fragment_meant};
+ghost use Rattle.rule_fragments.specs.Telling.{unused_fragments};
 
 use document_typed_operations::{Fragment, FragmentMap};
 use fault_data::{DiagnosticData, Fault, tell};
@@ -44,7 +44,7 @@ fn tell_unused(
     used: &IndexSet<Name>,
     faults: &mut Vec<Fault>,
 ) -> Result<(), AllocError>
-    ensures { OnOk result (faults_of faults.new ≡ faults_of faults.old ++ each_value (λ n. unused_fragment (noted_names used.now) (fragment_meant n)) fragments.now.entries) }
+    ensures { OnOk result (faults_of faults.new ≡ faults_of faults.old ++ unused_fragments (noted_names used.now) fragments.now) }
 {
     for (_, fragment) in fragments {
         tell(faults, unused_fragment(used, fragment)?)?;

@@ -6,5 +6,6 @@ pub mod Alone
 pub mod UseFaults
 pub mod AddedFaults
 pub mod Steps
+pub mod Telling
 -- The crates beneath, for those above.
 pub use Rattle.rule_values.specs.in_rule_definitions as in_rule_definitions

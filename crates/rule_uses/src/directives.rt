@@ -1,26 +1,23 @@
 //! Directives that are used at one place.
-ghost use Rattle.std.specs.Prelude.{Bool, ◌≡◌, ◌++◌, ◌⊎◌, ◌↔◌, ◌∷◌, [], map, IfOk, IsTrue, OnOk, option_to_list, Some, Contains};
+ghost use Rattle.std.specs.Prelude.{◌≡◌, ◌⊎◌, ◌↔◌, ◌∷◌, [], IfOk, IsTrue, OnOk, Some, Contains};
 ghost use Rattle.std.specs.Option.{option_map};
 ghost use Rattle.graphql_names.specs.Node.{content, place};
 ghost use Rattle.graphql_names.specs.Placed.{node_tree};
-ghost use Rattle.tree_directives.specs.DirectiveTree.{directive_tree, directive_definition_tree, input_value_trees};
+ghost use Rattle.tree_directives.specs.DirectiveTree.{directive_tree, directive_definition_tree};
 ghost use Rattle.tree_directives.specs.declared.directive_location.DirectiveLocation.{DirectiveLocation};
-ghost use Rattle.schema_components.specs.Lists.{each_place};
-ghost use Rattle.rule_values.specs.in_schema.in_schema_types.Addresses.{place_at, directive_definition_at};
+ghost use Rattle.rule_values.specs.in_schema.in_schema_types.Addresses.{directive_definition_at};
 ghost use Rattle.rule_values.specs.in_schema.SchemaOf.{schema_tree};
-ghost use Rattle.rule_values.specs.in_fault_data.FaultView.{fault_of, faults_of};
-ghost use Rattle.rule_values.specs.in_rule_definitions.Words.{AtSomeIndex};
-ghost use Rattle.rule_values.specs.in_rule_definitions.Judged.{judged};
+ghost use Rattle.rule_values.specs.in_fault_data.FaultView.{fault_of};
 ghost use Rattle.rule_values.specs.in_rule_definitions.Names.{directive_name};
-ghost use Rattle.rule_values.specs.in_rule_definitions.Uses.{UseBreaks};
 ghost use Rattle.rule_values.specs.in_fault_data.Adds.{Adds};
 ghost use Rattle.rule_values.specs.Firsts.{AreFirsts};
 ghost use Rattle.rule_values.specs.Wanting.{variables_of};
+ghost use Rattle.rule_values.specs.Telling.{Tells};
 ghost use Rattle.rule_uses.specs.AddedFaults.{AddsUsesFaults};
-ghost use Rattle.rule_uses.specs.Trees.{directives_of, no_schema_tree, tree_of};
-ghost use Rattle.rule_uses.specs.UseFaults.{undefined_directive, unsupported_location, directive_again, repeated_directive};
+ghost use Rattle.rule_uses.specs.Trees.{directives_of, tree_of};
+ghost use Rattle.rule_uses.specs.UseFaults.{undefined_directive};
 ghost use Rattle.rule_uses.specs.Alone.{DirectiveAloneBreaks, DirectivesAloneBreak};
-ghost use Rattle.rule_uses.specs.Steps.{DefinedUseBreaks};
+ghost use Rattle.rule_uses.specs.Telling.{fault_list, TellsUnsupported, directive_used_again, repeated_directives_of, BreaksItsDefinition, OneUseBreaks, SomeUseBreaks, UndefinedUseBreaks, AddsUndefinedUses};
 
 use crate::given::{check_arguments_alone, check_given, check_variables_given};
 use crate::taken::check_taken;
@@ -61,7 +58,7 @@ fn unsupported_location(
     definition: &Node<DirectiveDefinition>,
     location: DirectiveLocation,
 ) -> Result<Option<Fault>, AllocError>
-    ensures { IfOk result (λ r. (b : Bool) × ((IsTrue b ↔ Contains (content definition.now).locations.items location) × (map fault_of (option_to_list r) ≡ unsupported_location b (node_tree directive_definition_tree definition.now) location (node_tree directive_tree directive.now)))) }
+    ensures { IfOk result (λ r. TellsUnsupported definition.now location directive.now (fault_list r)) }
 {
     let supported = &definition.content().locations;
     if has_location(supported, location) {
@@ -87,7 +84,7 @@ fn unique_directive(
     first: Option<Option<SourceSpan>>,
     later: &Node<Directive>,
 ) -> Result<Option<Fault>, AllocError>
-    ensures { IfOk result (λ r. map fault_of (option_to_list r) ≡ directive_again (directive_definition_at (schema_tree schema.now) (content later.now).name.text) first (node_tree directive_tree later.now)) }
+    ensures { IfOk result (λ r. fault_list r ≡ directive_used_again schema.now first later.now) }
 {
     let name = &later.content().name;
     let Some(definition) = find_definition(schema, name) else {
@@ -113,7 +110,7 @@ fn tell_repeated_directives(
     directives: &[Node<Directive>],
     faults: &mut Vec<Fault>,
 ) -> Result<(), AllocError>
-    ensures { OnOk result (faults_of faults.new ≡ faults_of faults.old ++ each_place (λ before d. repeated_directive (directive_definition_at (schema_tree schema.now) (directive_name d)) before d) (directives_of directives.now)) }
+    ensures { OnOk result (Tells faults.old faults.new (repeated_directives_of schema.now directives.now)) }
 {
     if directives.len() < 2 {
         return Ok(());
@@ -130,7 +127,7 @@ fn tell_directives_again(
     faults: &mut Vec<Fault>,
 ) -> Result<(), AllocError>
     requires { AreFirsts directive_name (λ i a. a.place) places.old (directives_of []) }
-    ensures { OnOk result (faults_of faults.new ≡ faults_of faults.old ++ each_place (λ before d. repeated_directive (directive_definition_at (schema_tree schema.now) (directive_name d)) before d) (directives_of directives.now)) }
+    ensures { OnOk result (Tells faults.old faults.new (repeated_directives_of schema.now directives.now)) }
 {
     for directive in directives {
         let name = &directive.content().name;
@@ -150,7 +147,7 @@ fn check_defined_use(
     faults: &mut Vec<Fault>,
 ) -> Result<(), AllocError>
     requires { directive_definition_at (schema_tree schema.now) (content directive.now).name.text ≡ Some (node_tree directive_definition_tree definition.now) }
-    ensures { OnOk result (Adds faults.old faults.new (DefinedUseBreaks (schema_tree schema.now) (variables_of variables.now) location (node_tree directive_tree directive.now) (input_value_trees (content definition.now).arguments.items))) }
+    ensures { OnOk result (Adds faults.old faults.new (BreaksItsDefinition schema.now variables.now location directive.now definition.now)) }
 {
     let fault = unsupported_location(directive, definition, location)?;
     tell(faults, fault)?;
@@ -174,7 +171,7 @@ fn check_use(
     variables: &DefinedVariables<'_>,
     faults: &mut Vec<Fault>,
 ) -> Result<(), AllocError>
-    ensures { OnOk result (Adds faults.old faults.new (UseBreaks (place_at (schema_tree schema.now)) (judged (schema_tree schema.now)) (variables_of variables.now) location (node_tree directive_tree directive.now))) }
+    ensures { OnOk result (Adds faults.old faults.new (OneUseBreaks schema.now variables.now location directive.now)) }
 {
     let used = directive.content();
     check_given(&used.arguments, variables, faults)?;
@@ -197,7 +194,7 @@ fn check_each_use(
     variables: &DefinedVariables<'_>,
     faults: &mut Vec<Fault>,
 ) -> Result<(), AllocError>
-    ensures { OnOk result (Adds faults.old faults.new (λ f. AtSomeIndex (directives_of directives.now) (λ i d. UseBreaks (place_at (schema_tree schema.now)) (judged (schema_tree schema.now)) (variables_of variables.now) location d f))) }
+    ensures { OnOk result (Adds faults.old faults.new (SomeUseBreaks schema.now variables.now location directives.now)) }
 {
     for directive in directives {
         check_use(schema, directive, location, variables, faults)?;
@@ -252,7 +249,7 @@ fn check_undefined_use(
     variables: &DefinedVariables<'_>,
     faults: &mut Vec<Fault>,
 ) -> Result<(), AllocError>
-    ensures { OnOk result ((location : DirectiveLocation) → Adds faults.old faults.new (UseBreaks (place_at no_schema_tree) (judged no_schema_tree) (variables_of variables.now) location (node_tree directive_tree directive.now))) }
+    ensures { OnOk result ((location : DirectiveLocation) → Adds faults.old faults.new (UndefinedUseBreaks variables.now location directive.now)) }
 {
     check_directive_alone(directive, faults)?;
     check_variables_given(&directive.content().arguments, variables, faults)
@@ -264,7 +261,7 @@ fn check_undefined_uses(
     variables: &DefinedVariables<'_>,
     faults: &mut Vec<Fault>,
 ) -> Result<(), AllocError>
-    ensures { OnOk result ((location : DirectiveLocation) → AddsUsesFaults no_schema_tree (variables_of variables.now) location (directives_of directives.now) faults.old faults.new) }
+    ensures { OnOk result (AddsUndefinedUses variables.now directives.now faults.old faults.new) }
 {
     for directive in directives {
         check_undefined_use(directive, variables, faults)?;

@@ -17,6 +17,7 @@ ghost use Rattle.rule_uses.specs.Trees.{directives_of};
 ghost use Rattle.rule_values.specs.in_rule_definitions.Told.{Told};
 ghost use Rattle.schema_types.specs.Distinct.{AreAllDistinct};
 ghost use Rattle.rule_uses.specs.SchemaUses.{UsesAt, ArgumentUses, FieldUses, FieldsUses, ValuesUses, InputsUses, OwnUses, PartsUses, TypesUses, OwnDefinitionUses, DefinitionsUses};
+ghost use Rattle.rule_uses.specs.Telling.{fields_of, definitions_of};
 
 use crate::directives::check_uses;
 use graphql_names::{Name, Node};
@@ -121,7 +122,7 @@ fn check_fields(
     fields: &IndexMap<Name, Component<FieldDefinition>>,
     faults: &mut Vec<Fault>,
 ) -> Result<(), AllocError>
-    ensures { OnOk result (Adds faults.old faults.new (FieldsUses (schema_tree schema.now) (entries_of name_text (component_tree field_definition_tree) fields.now))) }
+    ensures { OnOk result (Adds faults.old faults.new (FieldsUses (schema_tree schema.now) (fields_of fields.now))) }
 {
     for (_, field) in fields {
         check_field(schema, field.node.content(), faults)?;
@@ -234,7 +235,7 @@ fn check_definitions(
     definitions: &IndexMap<Name, Node<DirectiveDefinition>>,
     faults: &mut Vec<Fault>,
 ) -> Result<(), AllocError>
-    ensures { OnOk result (Adds faults.old faults.new (DefinitionsUses (schema_tree schema.now) (entries_of name_text (node_tree directive_definition_tree) definitions.now))) }
+    ensures { OnOk result (Adds faults.old faults.new (DefinitionsUses (schema_tree schema.now) (definitions_of definitions.now))) }
 {
     for (_, definition) in definitions {
         check_own_definition(schema, definition, faults)?;

@@ -1,30 +1,25 @@
 //! Arguments that are given against those that are defined.
-ghost use Rattle.std.specs.Prelude.{◌≡◌, ◌++◌, ◌⊎◌, ◌↔◌, map, find, is_none, IfOk, IsTrue, OnOk, option_to_list, slice_get, take, ◌<◌, length, Some};
-ghost use Rattle.std.specs.List.{flat_map};
+ghost use Rattle.std.specs.Prelude.{◌≡◌, ◌⊎◌, ◌↔◌, find, is_none, IfOk, IsTrue, OnOk, slice_get, ◌<◌, length, Some};
 ghost use Rattle.std.specs.Option.{option_map};
 ghost use Rattle.indexmap.specs.IndexMap.{get};
-ghost use Rattle.graphql_names.specs.Node.{content, place};
 ghost use Rattle.graphql_names.specs.Placed.{node_tree};
 ghost use Rattle.tree_literals.specs.ValueTree.{value_tree};
-ghost use Rattle.tree_directives.specs.DirectiveTree.{argument_tree, input_value_tree, input_value_trees};
+ghost use Rattle.tree_directives.specs.DirectiveTree.{input_value_tree, input_value_trees};
 ghost use Rattle.tree_directives.specs.DirectiveQueries.{input_value_has_name, given_value};
 ghost use Rattle.schema_components.specs.Names.{same_text};
 ghost use Rattle.rule_values.specs.in_schema.in_schema_types.TypeView.{name_text};
 ghost use Rattle.rule_values.specs.in_schema.SchemaOf.{schema_tree};
-ghost use Rattle.rule_values.specs.in_fault_data.FaultView.{fault_of, faults_of};
-ghost use Rattle.rule_values.specs.in_fault_data.DiagnosticView.{plain_reference};
-ghost use Rattle.rule_values.specs.in_rule_definitions.Diagnostics.{UndefinedArgument, RequiredArgument};
-ghost use Rattle.rule_values.specs.in_rule_definitions.Faults.{wrong};
-ghost use Rattle.rule_values.specs.in_rule_definitions.Words.{AtSomeIndex};
+ghost use Rattle.rule_values.specs.in_fault_data.FaultView.{fault_of};
 ghost use Rattle.rule_values.specs.in_rule_definitions.GivenValues.{is_absent_or_null};
 ghost use Rattle.rule_values.specs.in_rule_definitions.Names.{argument_name, input_name};
 ghost use Rattle.rule_values.specs.in_fault_data.Adds.{Adds};
 ghost use Rattle.rule_values.specs.Firsts.{AreNumbers};
 ghost use Rattle.rule_values.specs.Wanting.{variables_of};
+ghost use Rattle.rule_values.specs.Telling.{Tells};
 ghost use Rattle.rule_uses.specs.AddedFaults.{AddsTakerFaults};
-ghost use Rattle.rule_uses.specs.Trees.{arguments_of, taker_of, coordinate_of, argument_coordinate_of};
-ghost use Rattle.rule_uses.specs.UseFaults.{undefined_argument, required_argument};
-ghost use Rattle.rule_uses.specs.Steps.{GivenArgumentBreaks, DefinedArgumentBreaks, FirstGivenBreaks};
+ghost use Rattle.rule_uses.specs.Trees.{arguments_of, taker_of};
+ghost use Rattle.rule_uses.specs.UseFaults.{required_argument};
+ghost use Rattle.rule_uses.specs.Telling.{fault_list, undefined_argument_of, told_undefined, undefined_arguments_of, told_required, required_arguments_of, BreaksDefinition, BreaksIfDefined, SomeGivenBreaks};
 
 use crate::given::{argument_numbers, find_argument};
 use crate::taker::Taker;
@@ -71,7 +66,7 @@ fn undefined_argument(
     argument: &Node<Argument>,
 ) -> Result<Option<Fault>, AllocError>
     requires { AreNumbers input_name defined.now (input_value_trees taker.now.definitions.now) }
-    ensures { IfOk result (λ r. map fault_of (option_to_list r) ≡ undefined_argument (taker_of taker.now) (input_value_trees taker.now.definitions.now) (node_tree argument_tree argument.now)) }
+    ensures { IfOk result (λ r. fault_list r ≡ undefined_argument_of taker.now argument.now) }
 {
     let name = &argument.content().name;
     match find_definition(taker.definitions, defined, name) {
@@ -82,7 +77,7 @@ fn undefined_argument(
 
 /// What is told of an argument that is not defined.
 fn told_undefined(taker: &Taker<'_>, argument: &Node<Argument>) -> Result<Fault, AllocError>
-    ensures { IfOk result (λ r. fault_of r ≡ wrong (place argument.now) (UndefinedArgument (content argument.now).name.text (coordinate_of taker.now.name) taker.now.definition_location)) }
+    ensures { IfOk result (λ r. fault_of r ≡ told_undefined taker.now argument.now) }
 {
     let name = argument.content().name.clone()?;
     let data = DiagnosticData::UndefinedArgument {
@@ -101,7 +96,7 @@ fn tell_undefined_arguments(
     faults: &mut Vec<Fault>,
 ) -> Result<(), AllocError>
     requires { AreNumbers input_name defined.now (input_value_trees taker.now.definitions.now) }
-    ensures { OnOk result (faults_of faults.new ≡ faults_of faults.old ++ flat_map (undefined_argument (taker_of taker.now) (input_value_trees taker.now.definitions.now)) (arguments_of taker.now.given.now)) }
+    ensures { OnOk result (Tells faults.old faults.new (undefined_arguments_of taker.now)) }
 {
     for argument in taker.given {
         tell(faults, undefined_argument(taker, defined, argument)?)?;
@@ -128,7 +123,7 @@ fn required_argument(
     definition: &Node<InputValueDefinition>,
 ) -> Result<Option<Fault>, AllocError>
     requires { AreNumbers argument_name given.now (arguments_of taker.now.given.now) }
-    ensures { IfOk result (λ r. map fault_of (option_to_list r) ≡ required_argument (taker_of taker.now) (node_tree input_value_tree definition.now)) }
+    ensures { IfOk result (λ r. fault_list r ≡ required_argument (taker_of taker.now) (node_tree input_value_tree definition.now)) }
 {
     let name = &definition.content().name;
     if !(definition.content().is_required() && is_not_given(taker.given, given, name)) {
@@ -142,7 +137,7 @@ fn told_required(
     taker: &Taker<'_>,
     definition: &Node<InputValueDefinition>,
 ) -> Result<Fault, AllocError>
-    ensures { IfOk result (λ r. fault_of r ≡ wrong taker.now.location (RequiredArgument (content definition.now).name.text (argument_coordinate_of taker.now.name (content definition.now).name.text) (plain_reference (content (content definition.now).ty)) (place definition.now))) }
+    ensures { IfOk result (λ r. fault_of r ≡ told_required taker.now definition.now) }
 {
     let defined = definition.content();
     let expected_type = defined.ty.clone()?;
@@ -164,7 +159,7 @@ fn tell_required_arguments(
     faults: &mut Vec<Fault>,
 ) -> Result<(), AllocError>
     requires { AreNumbers argument_name given.now (arguments_of taker.now.given.now) }
-    ensures { OnOk result (faults_of faults.new ≡ faults_of faults.old ++ flat_map (required_argument (taker_of taker.now)) (input_value_trees taker.now.definitions.now)) }
+    ensures { OnOk result (Tells faults.old faults.new (required_arguments_of taker.now)) }
 {
     for definition in taker.definitions {
         tell(faults, required_argument(taker, given, definition)?)?;
@@ -180,7 +175,7 @@ fn check_argument(
     variables: &DefinedVariables<'_>,
     faults: &mut Vec<Fault>,
 ) -> Result<(), AllocError>
-    ensures { OnOk result (Adds faults.old faults.new (GivenArgumentBreaks (schema_tree schema.now) (variables_of variables.now) (input_value_tree (content definition.now)) (node_tree argument_tree argument.now))) }
+    ensures { OnOk result (Adds faults.old faults.new (BreaksDefinition schema.now variables.now definition.now argument.now)) }
 {
     let defined = definition.content();
     let fault = disallowed_variable_usage(argument, defined, variables)?;
@@ -199,7 +194,7 @@ fn check_if_defined(
     faults: &mut Vec<Fault>,
 ) -> Result<(), AllocError>
     requires { AreNumbers input_name defined.now (input_value_trees taker.now.definitions.now) }
-    ensures { OnOk result (Adds faults.old faults.new (DefinedArgumentBreaks (schema_tree schema.now) (variables_of variables.now) (input_value_trees taker.now.definitions.now) (node_tree argument_tree argument.now))) }
+    ensures { OnOk result (Adds faults.old faults.new (BreaksIfDefined schema.now variables.now taker.now argument.now)) }
 {
     let name = &argument.content().name;
     match find_definition(taker.definitions, defined, name) {
@@ -229,7 +224,7 @@ fn check_arguments(
 ) -> Result<(), AllocError>
     requires defined { AreNumbers input_name defined.now (input_value_trees taker.now.definitions.now) }
     requires given { AreNumbers argument_name given.now (arguments_of taker.now.given.now) }
-    ensures { OnOk result (Adds faults.old faults.new (λ f. AtSomeIndex (arguments_of taker.now.given.now) (λ j a. FirstGivenBreaks (schema_tree schema.now) (variables_of variables.now) (input_value_trees taker.now.definitions.now) (take j (arguments_of taker.now.given.now)) a f))) }
+    ensures { OnOk result (Adds faults.old faults.new (SomeGivenBreaks schema.now variables.now taker.now)) }
 {
     for index in 0..taker.given.len() {
         let argument = &taker.given[index];

@@ -1,6 +1,5 @@
 //! Variables that are given for arguments.
 ghost use Rattle.std.specs.Prelude.{◌≡◌, ◌↔◌, map, IfOk, IsTrue, option_to_list};
-ghost use Rattle.graphql_names.specs.Node.{content, place};
 ghost use Rattle.graphql_names.specs.Placed.{node_tree};
 ghost use Rattle.tree_literals.specs.TypeTree.{type_tree};
 ghost use Rattle.tree_literals.specs.TypeQueries.{nullable_type, AreTypesCompatible};
@@ -8,11 +7,10 @@ ghost use Rattle.tree_directives.specs.DirectiveTree.{argument_tree, input_value
 ghost use Rattle.tree_operations.specs.OperationTree.{variable_definition_tree};
 ghost use Rattle.rule_values.specs.in_fault_data.FaultView.{fault_of};
 ghost use Rattle.rule_values.specs.in_fault_data.DiagnosticView.{plain_reference};
-ghost use Rattle.rule_values.specs.in_rule_definitions.Diagnostics.{DisallowedVariableUsage};
-ghost use Rattle.rule_values.specs.in_rule_definitions.Faults.{wrong};
 ghost use Rattle.rule_values.specs.in_rule_definitions.VariableUsage.{IsVariableUsageAllowed};
 ghost use Rattle.rule_values.specs.Wanting.{variables_of};
 ghost use Rattle.rule_uses.specs.Steps.{Lists, FitsWithDefault, DisallowedUsage};
+ghost use Rattle.rule_uses.specs.Telling.{told_usage};
 
 use graphql_names::{Name, Node};
 use rule_values::{DefinedVariables, DiagnosticData, Fault};
@@ -83,7 +81,7 @@ fn told_usage(
     variable: &Node<VariableDefinition>,
     definition: &InputValueDefinition,
 ) -> Result<Fault, AllocError>
-    ensures { IfOk result (λ r. fault_of r ≡ wrong (place argument.now) (DisallowedVariableUsage name.now.text (plain_reference (content (content variable.now).ty)) (place variable.now) (content argument.now).name.text (plain_reference (content definition.now.ty)) (place argument.now))) }
+    ensures { IfOk result (λ r. fault_of r ≡ told_usage argument.now name.now variable.now definition.now) }
 {
     let (variable_type, argument_type) = two_types(
         variable.content().ty.content(),

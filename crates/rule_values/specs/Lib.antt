@@ -1,4 +1,5 @@
 pub mod Wanting
+pub mod Telling
 pub mod ValueFaults
 pub mod VariableFaults
 pub mod KeyFaults

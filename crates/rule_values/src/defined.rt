@@ -6,6 +6,7 @@ ghost use Rattle.tree_operations.specs.OperationTree.{variable_definition_tree};
 ghost use Rattle.fault_data.specs.in_rule_definitions.Names.{defined_name};
 ghost use Rattle.rule_values.specs.Firsts.{AreNumbers};
 ghost use Rattle.rule_values.specs.Wanting.{variables_of};
+ghost use Rattle.rule_values.specs.Telling.{first_defined};
 
 use crate::firsts::note_first;
 use graphql_names::{Name, Node};
@@ -64,7 +65,7 @@ fn find_numbered<'a>(
     name: &Name,
 ) -> Option<&'a Node<VariableDefinition>>
     requires { AreNumbers defined_name numbers.now (variables_of definitions.now) }
-    ensures { option_map (λ v. node_tree variable_definition_tree v.now) result ≡ find (λ v. bytes_eq (defined_name v) name.now.text) (variables_of definitions.now) }
+    ensures { option_map (λ v. node_tree variable_definition_tree v.now) result ≡ first_defined definitions.now name.now }
 {
     match numbers.get(name) {
         None => None,
@@ -77,7 +78,7 @@ fn find_listed<'a>(
     definitions: &'a [Node<VariableDefinition>],
     name: &Name,
 ) -> Option<&'a Node<VariableDefinition>>
-    ensures { option_map (λ v. node_tree variable_definition_tree v.now) result ≡ find (λ v. bytes_eq (defined_name v) name.now.text) (variables_of definitions.now) }
+    ensures { option_map (λ v. node_tree variable_definition_tree v.now) result ≡ first_defined definitions.now name.now }
 {
     for variable in definitions {
         if variable.content().name.as_str() == name.as_str() {

@@ -1,5 +1,5 @@
 //! Rules on the form of one value, apart from what is inside a list or an object.
-ghost use Rattle.std.specs.Prelude.{◌≡◌, ◌&&◌, ◌||◌, ◌++◌, not, IfOk, OnOk};
+ghost use Rattle.std.specs.Prelude.{◌≡◌, ◌&&◌, ◌||◌, not, IfOk, OnOk};
 ghost use Rattle.std.specs.Option.{option_map};
 ghost use Rattle.graphql_names.specs.Node.{content};
 ghost use Rattle.tree_literals.specs.NumberSyntax.{integer_value};
@@ -8,10 +8,10 @@ ghost use Rattle.tree_literals.specs.TypeQueries.{inner_name};
 ghost use Rattle.tree_literals.specs.ValueTree.{value_tree};
 ghost use Rattle.tree_literals.specs.ValueQueries.{integer_text};
 ghost use Rattle.graphql_schema.specs.in_schema_types.TypeView.{extended_type};
-ghost use Rattle.fault_data.specs.FaultView.{faults_of};
 ghost use Rattle.fault_data.specs.in_rule_definitions.Judged.{is_built_in_scalar};
 ghost use Rattle.rule_values.specs.Wanting.{variables_of};
-ghost use Rattle.rule_values.specs.ValueFaults.{fits_32_bits, is_custom_scalar, is_scalar_so, takes_integers, takes_floats, takes_strings, takes_booleans, variable_fits, fits_form, unsupported_value_type, int_coercion_error, undefined_enum_value};
+ghost use Rattle.rule_values.specs.ValueFaults.{fits_32_bits, is_custom_scalar, is_scalar_so, takes_integers, takes_floats, takes_strings, takes_booleans, variable_fits, fits_form};
+ghost use Rattle.rule_values.specs.Telling.{Tells, unsupported_of, integer_faults_of, enum_faults_of};
 
 use crate::defined::DefinedVariables;
 use crate::find::find_value;
@@ -147,7 +147,7 @@ pub(crate) fn unsupported_value_type(
     variables: &DefinedVariables<'_>,
     faults: &mut Vec<Fault>,
 ) -> Result<(), AllocError>
-    ensures { OnOk result (faults_of faults.new ≡ faults_of faults.old ++ unsupported_value_type (variables_of variables.now) (type_tree wanted.now.ty.now) wanted.now.location (extended_type found.now) location (value_tree value.now)) }
+    ensures { OnOk result (Tells faults.old faults.new (unsupported_of variables.now wanted.now found.now location value.now)) }
 {
     if fits_form(wanted.ty, found, value, variables) {
         return Ok(());
@@ -188,7 +188,7 @@ pub(crate) fn int_coercion_error(
     location: Option<SourceSpan>,
     faults: &mut Vec<Fault>,
 ) -> Result<(), AllocError>
-    ensures { OnOk result (faults_of faults.new ≡ faults_of faults.old ++ int_coercion_error name.now.text (extended_type found.now) location (value_tree value.now)) }
+    ensures { OnOk result (Tells faults.old faults.new (integer_faults_of name.now found.now location value.now)) }
 {
     if !(is_built_in_scalar(found) && name.as_str() == "Int") {
         return Ok(());
@@ -212,7 +212,7 @@ pub(crate) fn undefined_enum_value(
     location: Option<SourceSpan>,
     faults: &mut Vec<Fault>,
 ) -> Result<(), AllocError>
-    ensures { OnOk result (faults_of faults.new ≡ faults_of faults.old ++ undefined_enum_value name.now.text (extended_type found.now) location (value_tree value.now)) }
+    ensures { OnOk result (Tells faults.old faults.new (enum_faults_of name.now found.now location value.now)) }
 {
     if !found.is_enum() {
         return Ok(());

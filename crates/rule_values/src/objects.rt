@@ -1,19 +1,13 @@
 //! Rules on the entries of an object.
-ghost use Rattle.std.specs.Prelude.{◌≡◌, ◌++◌, ◌∷◌, [], IfOk, OnOk};
-ghost use Rattle.graphql_names.specs.Node.{place};
-ghost use Rattle.tree_literals.specs.ValueTree.{value_tree, entry_trees};
-ghost use Rattle.tree_directives.specs.DirectiveTree.{input_value_tree};
-ghost use Rattle.schema_components.specs.Given.{component_tree};
-ghost use Rattle.schema_components.specs.Names.{entries_of};
-ghost use Rattle.graphql_schema.specs.in_schema_types.TypeView.{extended_type, name_text};
+ghost use Rattle.std.specs.Prelude.{◌≡◌, IfOk, OnOk};
+ghost use Rattle.tree_literals.specs.ValueTree.{value_tree};
+ghost use Rattle.graphql_schema.specs.in_schema_types.TypeView.{extended_type};
 ghost use Rattle.schema_coordinates.specs.Coordinate.{OfAttribute};
 ghost use Rattle.schema_coordinates.specs.CoordinateView.{attribute_coordinate};
-ghost use Rattle.fault_data.specs.in_rule_definitions.Diagnostics.{UndefinedInputValue};
-ghost use Rattle.fault_data.specs.in_rule_definitions.Faults.{wrong};
-ghost use Rattle.fault_data.specs.FaultView.{faults_of};
-ghost use Rattle.rule_values.specs.ValueFaults.{undefined_key, undefined_input_value, required_if, required_field, required_fields, each_first};
+ghost use Rattle.rule_values.specs.ValueFaults.{undefined_input_value};
 ghost use Rattle.rule_values.specs.Firsts.{AreFirsts};
-ghost use Rattle.rule_values.specs.Wanting.{is_not_provided, nulls_of, required_among};
+ghost use Rattle.rule_values.specs.Wanting.{is_not_provided, nulls_of};
+ghost use Rattle.rule_values.specs.Telling.{Tells, undefined_key_of, told_key, required_fields_of, required_among_entries, required_of_given, required_by_given};
 
 use crate::find::find_input;
 use crate::firsts::note_first;
@@ -34,7 +28,7 @@ pub(crate) fn undefined_input_value(
     value: &Value,
     faults: &mut Vec<Fault>,
 ) -> Result<(), AllocError>
-    ensures { OnOk result (faults_of faults.new ≡ faults_of faults.old ++ undefined_input_value name.now.text (extended_type found.now) (value_tree value.now)) }
+    ensures { OnOk result (Tells faults.old faults.new (undefined_input_value name.now.text (extended_type found.now) (value_tree value.now))) }
 {
     if !found.is_input_object() {
         return Ok(());
@@ -52,7 +46,7 @@ fn undefined_key(
     entries: &[(Name, Node<Value>)],
     faults: &mut Vec<Fault>,
 ) -> Result<(), AllocError>
-    ensures { OnOk result (faults_of faults.new ≡ faults_of faults.old ++ undefined_key name.now.text (extended_type found.now) (entry_trees value_tree entries.now)) }
+    ensures { OnOk result (Tells faults.old faults.new (undefined_key_of name.now found.now entries.now)) }
 {
     for entry in entries {
         if find_input(found, &entry.0).is_none() {
@@ -69,7 +63,7 @@ fn told_key(
     entry: &(Name, Node<Value>),
     faults: &mut Vec<Fault>,
 ) -> Result<(), AllocError>
-    ensures { OnOk result (faults_of faults.new ≡ faults_of faults.old ++ wrong (place entry.now.1) (UndefinedInputValue entry.now.0.text name.now.text (extended_type found.now).place) ∷ []) }
+    ensures { OnOk result (Tells faults.old faults.new (told_key name.now found.now entry.now)) }
 {
     let key = entry.0.clone()?;
     let data = DiagnosticData::UndefinedInputValue {
@@ -127,7 +121,7 @@ fn required_field(
     field: &Component<InputValueDefinition>,
     faults: &mut Vec<Fault>,
 ) -> Result<(), AllocError>
-    ensures { OnOk result (faults_of faults.new ≡ faults_of faults.old ++ required_if (is_not_provided given.now.nulls.now field_name.now) given.now.name.now.text given.now.location field_name.now.text (component_tree input_value_tree field.now)) }
+    ensures { OnOk result (Tells faults.old faults.new (required_of_given given.now field_name.now field.now)) }
 {
     let definition = field.node.content();
     if !(definition.is_required() && is_missing_entry(given.nulls, field_name)) {
@@ -164,7 +158,7 @@ pub(crate) fn tell_required_fields(
     location: Option<SourceSpan>,
     faults: &mut Vec<Fault>,
 ) -> Result<(), AllocError>
-    ensures { OnOk result (faults_of faults.new ≡ faults_of faults.old ++ required_fields name.now.text (extended_type found.now) location (value_tree value.now)) }
+    ensures { OnOk result (Tells faults.old faults.new (required_fields_of name.now found.now location value.now)) }
 {
     let Some(entries) = value.as_object() else {
         return Ok(());
@@ -183,7 +177,7 @@ fn tell_required(
     fields: &IndexMap<Name, Component<InputValueDefinition>>,
     faults: &mut Vec<Fault>,
 ) -> Result<(), AllocError>
-    ensures { OnOk result (faults_of faults.new ≡ faults_of faults.old ++ each_first (required_field name.now.text location (entry_trees value_tree entries.now)) [] (entries_of name_text (component_tree input_value_tree) fields.now)) }
+    ensures { OnOk result (Tells faults.old faults.new (required_among_entries name.now location entries.now fields.now)) }
 {
     if fields.len() == 0 {
         return Ok(());
@@ -203,7 +197,7 @@ fn tell_each_required(
     fields: &IndexMap<Name, Component<InputValueDefinition>>,
     faults: &mut Vec<Fault>,
 ) -> Result<(), AllocError>
-    ensures { OnOk result (faults_of faults.new ≡ faults_of faults.old ++ required_among (is_not_provided given.now.nulls.now) given.now.name.now.text given.now.location fields.now.entries) }
+    ensures { OnOk result (Tells faults.old faults.new (required_by_given given.now fields.now.entries)) }
 {
     for (field_name, field) in fields {
         required_field(given, field_name, field, faults)?;

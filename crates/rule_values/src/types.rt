@@ -1,13 +1,6 @@
 //! Whole values against types.
-ghost use Rattle.std.specs.Prelude.{◌≡◌, ◌++◌, [], OnOk};
-ghost use Rattle.graphql_names.specs.Node.{content, place};
-ghost use Rattle.tree_literals.specs.TypeTree.{type_tree};
-ghost use Rattle.tree_literals.specs.ValueTree.{value_tree, item_trees, entry_trees};
-ghost use Rattle.graphql_schema.specs.SchemaOf.{schema_tree};
-ghost use Rattle.graphql_schema.specs.in_schema_types.TypeView.{extended_type};
-ghost use Rattle.fault_data.specs.FaultView.{faults_of};
-ghost use Rattle.rule_values.specs.Wanting.{variables_of};
-ghost use Rattle.rule_values.specs.ValueFaults.{form_faults, inner_faults, item_faults, entry_faults, type_faults, field_faults};
+ghost use Rattle.std.specs.Prelude.{OnOk};
+ghost use Rattle.rule_values.specs.Telling.{Tells, form_faults_of, faults_for, faults_against, faults_inside, faults_of_items, faults_of_entries, faults_under};
 
 use crate::defined::DefinedVariables;
 use crate::find::find_input;
@@ -33,7 +26,7 @@ pub(crate) fn tell_type_faults(
     variables: &DefinedVariables<'_>,
     faults: &mut Vec<Fault>,
 ) -> Result<(), AllocError>
-    ensures { OnOk result (faults_of faults.new ≡ faults_of faults.old ++ type_faults (schema_tree schema.now) (variables_of variables.now) (type_tree (content ty.now)) (place ty.now) (place value.now) (value_tree (content value.now))) }
+    ensures { OnOk result (Tells faults.old faults.new (faults_for schema.now variables.now ty.now value.now)) }
 {
     let wanted = Wanted {
         ty: ty.content(),
@@ -62,7 +55,7 @@ fn tell_form(
     variables: &DefinedVariables<'_>,
     faults: &mut Vec<Fault>,
 ) -> Result<(), AllocError>
-    ensures { OnOk result (faults_of faults.new ≡ faults_of faults.old ++ form_faults (variables_of variables.now) (type_tree wanted.now.ty.now) wanted.now.location (extended_type found.now) location (value_tree value.now)) }
+    ensures { OnOk result (Tells faults.old faults.new (form_faults_of variables.now wanted.now found.now location value.now)) }
 {
     let name = wanted.ty.inner_named_type();
     unsupported_value_type(wanted, found, value, location, variables, faults)?;
@@ -82,7 +75,7 @@ fn tell_type(
     variables: &DefinedVariables<'_>,
     faults: &mut Vec<Fault>,
 ) -> Result<(), AllocError>
-    ensures { OnOk result (faults_of faults.new ≡ faults_of faults.old ++ type_faults (schema_tree schema.now) (variables_of variables.now) (type_tree wanted.now.ty.now) wanted.now.location location (value_tree value.now)) }
+    ensures { OnOk result (Tells faults.old faults.new (faults_against schema.now variables.now wanted.now location value.now)) }
 {
     match schema.type_named(wanted.ty.inner_named_type()) {
         None => Ok(()),
@@ -104,7 +97,7 @@ fn tell_inside(
     variables: &DefinedVariables<'_>,
     faults: &mut Vec<Fault>,
 ) -> Result<(), AllocError>
-    ensures { OnOk result (faults_of faults.new ≡ faults_of faults.old ++ inner_faults (schema_tree schema.now) (variables_of variables.now) (type_tree wanted.now.ty.now) wanted.now.location (extended_type found.now) (value_tree value.now)) }
+    ensures { OnOk result (Tells faults.old faults.new (faults_inside schema.now variables.now wanted.now found.now value.now)) }
 {
     match value {
         Value::List(items) => {
@@ -142,7 +135,7 @@ fn tell_items(
     variables: &DefinedVariables<'_>,
     faults: &mut Vec<Fault>,
 ) -> Result<(), AllocError>
-    ensures { OnOk result (faults_of faults.new ≡ faults_of faults.old ++ item_faults (schema_tree schema.now) (variables_of variables.now) (type_tree wanted.now.ty.now) wanted.now.location (item_trees value_tree items.now)) }
+    ensures { OnOk result (Tells faults.old faults.new (faults_of_items schema.now variables.now wanted.now items.now)) }
 {
     for item in items {
         let location = item.location();
@@ -160,7 +153,7 @@ fn tell_entries(
     variables: &DefinedVariables<'_>,
     faults: &mut Vec<Fault>,
 ) -> Result<(), AllocError>
-    ensures { OnOk result (faults_of faults.new ≡ faults_of faults.old ++ entry_faults (schema_tree schema.now) (variables_of variables.now) (extended_type found.now) [] (entry_trees value_tree entries.now)) }
+    ensures { OnOk result (Tells faults.old faults.new (faults_of_entries schema.now variables.now found.now entries.now)) }
 {
     let mut keys = IndexMap::new(*faults.allocator());
     for entry in entries {
@@ -191,7 +184,7 @@ fn tell_entry(
     variables: &DefinedVariables<'_>,
     faults: &mut Vec<Fault>,
 ) -> Result<(), AllocError>
-    ensures { OnOk result (faults_of faults.new ≡ faults_of faults.old ++ field_faults (schema_tree schema.now) (variables_of variables.now) (extended_type found.now) key.now.text location (value_tree value.now)) }
+    ensures { OnOk result (Tells faults.old faults.new (faults_under schema.now variables.now found.now key.now location value.now)) }
 {
     match find_input(found, key) {
         None => Ok(()),

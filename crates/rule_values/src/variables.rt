@@ -1,12 +1,12 @@
 //! Variables in values. What tells of one is not inlined, so that it takes no stack at each level of a value.
 ghost use Rattle.std.specs.Prelude.{◌≡◌, ◌++◌, OnOk};
 ghost use Rattle.std.specs.List.{list_any};
-ghost use Rattle.graphql_names.specs.Node.{content, place};
 ghost use Rattle.graphql_names.specs.Placed.{name_tree};
-ghost use Rattle.tree_literals.specs.ValueTree.{value_tree, item_trees, entry_trees};
+ghost use Rattle.tree_literals.specs.ValueTree.{value_tree, item_trees};
 ghost use Rattle.fault_data.specs.FaultView.{faults_of};
 ghost use Rattle.rule_values.specs.Wanting.{variables_of};
-ghost use Rattle.rule_values.specs.VariableFaults.{undefined_variable, variable_faults, variable_faults_items, variable_faults_entries};
+ghost use Rattle.rule_values.specs.VariableFaults.{undefined_variable, variable_faults, variable_faults_items};
+ghost use Rattle.rule_values.specs.Telling.{Tells, variable_faults_of, variable_faults_among};
 
 use crate::defined::DefinedVariables;
 use fault_data::{DiagnosticData, Fault, tell};
@@ -40,7 +40,7 @@ pub(crate) fn tell_variable_faults(
     variables: &DefinedVariables<'_>,
     faults: &mut Vec<Fault>,
 ) -> Result<(), AllocError>
-    ensures { OnOk result (faults_of faults.new ≡ faults_of faults.old ++ variable_faults (variables_of variables.now) (place value.now) (value_tree (content value.now))) }
+    ensures { OnOk result (Tells faults.old faults.new (variable_faults_of variables.now value.now)) }
 {
     tell_variables(value.content(), value.location(), variables, faults)
 }
@@ -89,7 +89,7 @@ fn tell_variables_of_entries(
     variables: &DefinedVariables<'_>,
     faults: &mut Vec<Fault>,
 ) -> Result<(), AllocError>
-    ensures { OnOk result (faults_of faults.new ≡ faults_of faults.old ++ variable_faults_entries (variables_of variables.now) (entry_trees value_tree entries.now)) }
+    ensures { OnOk result (Tells faults.old faults.new (variable_faults_among variables.now entries.now)) }
 {
     for entry in entries {
         tell_variables(entry.1.content(), entry.1.location(), variables, faults)?;
