@@ -31,7 +31,7 @@ use Rattle.fault_data.specs.in_rule_definitions.Told.{PlacedFault}
 use Rattle.schema_types.specs.Distinct.{ArePartsDistinct}
 use Rattle.fault_data.proofs.in_rule_definitions.Tells.{Tells, Says, tells_same, tells_both, tells_nothing, tells_one, tells_when, tells_unless, tells_names, tells_entries, tells_index}
 use Rattle.fault_data.proofs.Judgings.{type_seen, type_look, interface_look, field_look, field_there, listed_there}
-use Rattle.rule_interfaces.specs.InterfaceFaults.{Field, Input, plain, same_type, recursive_interface_definition, undefined_interface, transitive_implemented_interfaces, missing_interface_field, invalid_implementation_field_type, missing_interface_field_argument, extra_required_argument, invalid_implementation_field_argument_type, wanted_argument_faults, own_argument_faults, arguments_faults, implementation_faults, field_faults, fields_faults, over_faults, interface_faults, type_faults}
+use Rattle.rule_interfaces.specs.InterfaceFaults.{Field, Input, plain, same_type, recursive_interface_definition, undefined_interface, transitive_implemented_interfaces, missing_interface_field, invalid_implementation_field_type, missing_interface_field_argument, extra_required_argument, invalid_implementation_field_argument_type, wanted_fault, own_fault, arguments_faults, implementation_faults, field_faults, fields_faults, over_faults, interface_faults, type_faults}
 use Rattle.rule_interfaces.proofs.SameTypes.{same_type-Decides}
 use Rattle.rule_interfaces.proofs.TellsFirst.{tells_first}
 use Rattle.rule_interfaces.proofs.ByPlace.{HasOtherType, LacksArgument, HasOtherArgument, HasExtraArgument, ImplementationBreaks, ImplementsItself, IsNoInterface, LacksInterface, FieldBreaks, OverBreaks, InterfaceBreaks}
@@ -111,7 +111,7 @@ module _ (s : SchemaTree Place) where
     WantedBreaks k w y =
         LacksArgument (judged s) y n i m (unplaced_field_definition wanted.it) (unplaced_field_definition field.it) k w ⊎ HasOtherArgument (judged s) y n i m (unplaced_field_definition wanted.it) (unplaced_field_definition field.it) k w
 
-    says_wanted : (k : ℕ) (w : Input) → slice_get wanted.it.arguments k ≡ Some w → Tells Is (wanted_argument_faults n i m wanted field field.it.arguments w) (WantedBreaks k (unplaced_node unplaced_input_value w))
+    says_wanted : (k : ℕ) (w : Input) → slice_get wanted.it.arguments k ≡ Some w → Tells Is (wanted_fault n i m wanted field field.it.arguments w) (WantedBreaks k (unplaced_node unplaced_input_value w))
     says_wanted k w there =
         tells_first Is (unplaced_node unplaced_input_value) (λ v. v.it.name.it) w.it.name.it field.it.arguments (λ v. invalid_implementation_field_argument_type n i m w v) (missing_interface_field_argument n i m wanted field w)
         (λ j v y. (unplaced_type w.it.ty.it ≢ v.it.ty.it) × (y ≡ told (ArgumentAt (FieldAt n m) j) (InvalidImplementationFieldArgumentType n i m w.it.name.it (unplaced_type w.it.ty.it) v.it.ty.it (ArgumentAt (FieldAt n m) j) (ArgumentAt (FieldAt i m) k))))
@@ -142,9 +142,9 @@ module _ (s : SchemaTree Place) where
 
     -- an argument of the type's field
     says_extra : (j : ℕ) (v : Input) → slice_get field.it.arguments j ≡ Some v
-        → Tells Is (own_argument_faults n i m wanted field wanted.it.arguments v) (λ y. HasExtraArgument (judged s) y n i m (unplaced_field_definition wanted.it) (unplaced_field_definition field.it) j (unplaced_node unplaced_input_value v))
+        → Tells Is (own_fault n i m wanted field wanted.it.arguments v) (λ y. HasExtraArgument (judged s) y n i m (unplaced_field_definition wanted.it) (unplaced_field_definition field.it) j (unplaced_node unplaced_input_value v))
     says_extra j v there =
-        tells_same Is (own_argument_faults n i m wanted field wanted.it.arguments v) (λ y. (Lacks (λ (w : Placed (Unit {0}) (InputValueTree (Unit {0}))). w.it.name.it) ws v.it.name.it × Required y) ⊎ FirstNamed (λ (w : Placed (Unit {0}) (InputValueTree (Unit {0}))). w.it.name.it) ws v.it.name.it (λ k w. ⊥)) _
+        tells_same Is (own_fault n i m wanted field wanted.it.arguments v) (λ y. (Lacks (λ (w : Placed (Unit {0}) (InputValueTree (Unit {0}))). w.it.name.it) ws v.it.name.it × Required y) ⊎ FirstNamed (λ (w : Placed (Unit {0}) (InputValueTree (Unit {0}))). w.it.name.it) ws v.it.name.it (λ k w. ⊥)) _
         (λ y. (λ h. elim h [ inl r ↦ r | inr p ↦ absurd p.1.1.1.1.1 ], inl))
         (tells_first Is (unplaced_node unplaced_input_value) (λ w. w.it.name.it) v.it.name.it wanted.it.arguments (λ w. []) (extra_required_argument n i m wanted field v) (λ k w y. ⊥) Required required
         (λ k w at named. tells_nothing Is (λ y. ⊥) (λ y h. h)))
@@ -168,9 +168,9 @@ module _ (s : SchemaTree Place) where
     says_implementation : Tells Is (implementation_faults s n i m wanted field) (λ y. ImplementationBreaks (judged s) y n i m (unplaced_field_definition wanted.it) (unplaced_field_definition field.it))
     says_implementation =
         tells_both Is (invalid_implementation_field_type n i m wanted field s) (arguments_faults n i m wanted field) _ _ says_type_of_field
-        (tells_both Is (flat_map (wanted_argument_faults n i m wanted field field.it.arguments) wanted.it.arguments) (flat_map (own_argument_faults n i m wanted field wanted.it.arguments) field.it.arguments) _ _
-        (tells_index Is (unplaced_node unplaced_input_value) wanted.it.arguments (wanted_argument_faults n i m wanted field field.it.arguments) WantedBreaks says_wanted)
-        (tells_index Is (unplaced_node unplaced_input_value) field.it.arguments (own_argument_faults n i m wanted field wanted.it.arguments)
+        (tells_both Is (flat_map (wanted_fault n i m wanted field field.it.arguments) wanted.it.arguments) (flat_map (own_fault n i m wanted field wanted.it.arguments) field.it.arguments) _ _
+        (tells_index Is (unplaced_node unplaced_input_value) wanted.it.arguments (wanted_fault n i m wanted field field.it.arguments) WantedBreaks says_wanted)
+        (tells_index Is (unplaced_node unplaced_input_value) field.it.arguments (own_fault n i m wanted field wanted.it.arguments)
         (λ j v y. HasExtraArgument (judged s) y n i m (unplaced_field_definition wanted.it) (unplaced_field_definition field.it) j v) says_extra))
 
   -- ---- a type n over an interface i that it lists

@@ -11,8 +11,9 @@ use Rattle.tree_type_members.specs.TypeSystemTree.{FieldDefinitionTree, field_de
 use Rattle.tree_type_members.specs.declared.field_definition.FieldDefinition.{FieldDefinition}
 use Rattle.schema_components.specs.Lists.{is_among}
 use Rattle.schema_components.specs.Names.{Entries}
-use Rattle.schema_components.specs.Given.{Given, given_name}
+use Rattle.schema_components.specs.Given.{Given, component_name_tree, given_name}
 use Rattle.schema_components.specs.declared.component.Component.{Component}
+use Rattle.schema_components.specs.declared.component_name.ComponentName.{ComponentName}
 use Rattle.schema_types.specs.TypeView.{name_text, extended_type}
 use Rattle.schema_types.specs.declared.extended_type.ExtendedType.{ExtendedType}
 use Rattle.schema_types.specs.SchemaTree.{SchemaType, SchemaTree, same_kind}
@@ -94,16 +95,33 @@ invalid_implementation_field_argument_type n i m w v =
 
 module _ (n i m : List ℕ) (wanted field : Field) where
   -- where these are the arguments of the type's field
-  abbrev pub wanted_argument_faults : InputValues Place → Input → List PlacedFault
-  wanted_argument_faults vs w =
+  abbrev pub wanted_fault : InputValues Place → Input → List PlacedFault
+  wanted_fault vs w =
       option_map_or (λ v. invalid_implementation_field_argument_type n i m w v) (first_named vs w.it.name.it) (missing_interface_field_argument n i m wanted field w)
 
   -- where these are the arguments of the interface's field
-  abbrev pub own_argument_faults : InputValues Place → Input → List PlacedFault
-  own_argument_faults ws v = option_map_or (λ w. []) (first_named ws v.it.name.it) (extra_required_argument n i m wanted field v)
+  abbrev pub own_fault : InputValues Place → Input → List PlacedFault
+  own_fault ws v = option_map_or (λ w. []) (first_named ws v.it.name.it) (extra_required_argument n i m wanted field v)
+
+  -- of all arguments of the one field, where these are those of the other
+  abbrev pub wanted_faults_over : InputValues Place → List PlacedFault
+  wanted_faults_over vs = flat_map (wanted_fault vs) wanted.it.arguments
+
+  abbrev pub own_faults_over : InputValues Place → List PlacedFault
+  own_faults_over ws = flat_map (own_fault ws) field.it.arguments
+
+  abbrev pub wanted_faults : List PlacedFault
+  wanted_faults = wanted_faults_over field.it.arguments
+
+  abbrev pub own_faults : List PlacedFault
+  own_faults = own_faults_over wanted.it.arguments
 
   abbrev pub arguments_faults : List PlacedFault
-  arguments_faults = flat_map (wanted_argument_faults field.it.arguments) wanted.it.arguments ++ flat_map (own_argument_faults wanted.it.arguments) field.it.arguments
+  arguments_faults = wanted_faults ++ own_faults
+
+-- of the interfaces that an interface lists
+abbrev pub each_transitive_faults : List ℕ → SchemaType Place → Text Place → List ComponentName → List PlacedFault
+each_transitive_faults n t i listed = flat_map (λ g. transitive_implemented_interfaces n t i g.it) (map component_name_tree listed)
 
 module _ (s : SchemaTree Place) where
   abbrev pub implementation_faults : List ℕ → List ℕ → List ℕ → Field → Field → List PlacedFault
@@ -122,8 +140,11 @@ module _ (s : SchemaTree Place) where
   abbrev pub listed_faults : List ℕ → SchemaType Place → Text Place → List PlacedFault
   listed_faults n t i = option_map_or (λ over. over_faults n t i over) (type_of_kind s kind.Interface i.it) (undefined_interface i)
 
+  abbrev pub named_faults : List ℕ → SchemaType Place → Text Place → List PlacedFault
+  named_faults n t i = recursive_interface_definition n t i ++ listed_faults n t i
+
   abbrev pub interface_faults : List ℕ → SchemaType Place → Given Place (Text Place) → List PlacedFault
-  interface_faults n t g = recursive_interface_definition n t g.it ++ listed_faults n t g.it
+  interface_faults n t g = named_faults n t g.it
 
   abbrev pub type_faults : List ℕ → SchemaType Place → List PlacedFault
   type_faults n t = flat_map (interface_faults n t) t.interfaces

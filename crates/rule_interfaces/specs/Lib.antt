@@ -1,2 +1,4 @@
 pub mod InterfaceFaults
 pub mod Firsts
+pub mod Adds
+pub mod Trees

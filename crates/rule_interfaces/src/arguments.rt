@@ -1,13 +1,11 @@
 //! Rules on the arguments of fields over an interface's fields (section 3.6, IsValidImplementation).
-ghost use Rattle.std.specs.Prelude.{◌≡◌, ◌++◌, [], ◌∷◌, map, IfOk, OnOk, option_to_list, flat_map};
-ghost use Rattle.std.specs.Option.{option_map, option_map_or};
-ghost use Rattle.graphql_names.specs.Placed.{node_tree};
+ghost use Rattle.std.specs.Prelude.{◌≡◌, ◌++◌, [], ◌∷◌, map, IfOk, OnOk};
+ghost use Rattle.std.specs.Option.{option_map};
 ghost use Rattle.tree_literals.specs.TypeTree.{type_tree, unplaced_type};
-ghost use Rattle.tree_directives.specs.DirectiveTree.{input_value_tree};
-ghost use Rattle.tree_type_members.specs.TypeSystemTree.{field_definition_tree};
-ghost use Rattle.fault_data.specs.FaultView.{fault_of, faults_of};
-ghost use Rattle.rule_interfaces.specs.InterfaceFaults.{first_named, same_type, missing_interface_field_argument, invalid_implementation_field_argument_type, extra_required_argument, wanted_argument_faults, own_argument_faults, arguments_faults};
+ghost use Rattle.rule_interfaces.specs.Adds.{AddsThese};
 ghost use Rattle.rule_interfaces.specs.Firsts.{AreFirsts};
+ghost use Rattle.rule_interfaces.specs.InterfaceFaults.{first_named, missing_interface_field_argument, extra_required_argument, same_type, invalid_implementation_field_argument_type, wanted_fault, own_fault, wanted_faults_over, own_faults_over, wanted_faults, own_faults, arguments_faults};
+ghost use Rattle.rule_interfaces.specs.Trees.{Tells, input_tree, of_implementation, of_names, of_argument};
 
 use crate::copies::copy_arguments;
 use crate::implementation::Implementation;
@@ -27,7 +25,7 @@ pub(crate) fn check_arguments(
     implementation: &Implementation<'_>,
     faults: &mut Vec<Fault>,
 ) -> Result<(), AllocError>
-    ensures { OnOk result (faults_of faults.new ≡ faults_of faults.old ++ arguments_faults implementation.now.name.now.text implementation.now.interface.now.text implementation.now.field_name.now.text (node_tree field_definition_tree implementation.now.wanted.now) (node_tree field_definition_tree implementation.now.field.now)) }
+    ensures { OnOk result (AddsThese faults.old faults.new (of_implementation arguments_faults implementation.now)) }
 {
     check_wanted(alloc, implementation, faults)?;
     check_own(alloc, implementation, faults)
@@ -39,7 +37,7 @@ fn check_wanted(
     implementation: &Implementation<'_>,
     faults: &mut Vec<Fault>,
 ) -> Result<(), AllocError>
-    ensures { OnOk result (faults_of faults.new ≡ faults_of faults.old ++ flat_map (wanted_argument_faults implementation.now.name.now.text implementation.now.interface.now.text implementation.now.field_name.now.text (node_tree field_definition_tree implementation.now.wanted.now) (node_tree field_definition_tree implementation.now.field.now) (node_tree field_definition_tree implementation.now.field.now).it.arguments) (node_tree field_definition_tree implementation.now.wanted.now).it.arguments) }
+    ensures { OnOk result (AddsThese faults.old faults.new (of_implementation wanted_faults implementation.now)) }
 {
     let own = firsts(alloc, &implementation.field.content().arguments)?;
     check_wanted_arguments(implementation, &own, faults)
@@ -51,7 +49,7 @@ fn check_own(
     implementation: &Implementation<'_>,
     faults: &mut Vec<Fault>,
 ) -> Result<(), AllocError>
-    ensures { OnOk result (faults_of faults.new ≡ faults_of faults.old ++ flat_map (own_argument_faults implementation.now.name.now.text implementation.now.interface.now.text implementation.now.field_name.now.text (node_tree field_definition_tree implementation.now.wanted.now) (node_tree field_definition_tree implementation.now.field.now) (node_tree field_definition_tree implementation.now.wanted.now).it.arguments) (node_tree field_definition_tree implementation.now.field.now).it.arguments) }
+    ensures { OnOk result (AddsThese faults.old faults.new (of_implementation own_faults implementation.now)) }
 {
     let of_interface = firsts(alloc, &implementation.wanted.content().arguments)?;
     check_own_arguments(implementation, &of_interface, faults)
@@ -59,7 +57,7 @@ fn check_own(
 
 /// The first argument definition of each name.
 fn firsts(alloc: Global, arguments: &[Node<InputValueDefinition>]) -> Result<Firsts, AllocError>
-    ensures { IfOk result (λ m. AreFirsts m (map (node_tree input_value_tree) arguments.now)) }
+    ensures { IfOk result (λ m. AreFirsts m (map input_tree arguments.now)) }
 {
     let mut firsts = IndexMap::new(alloc);
     for argument in arguments {
@@ -70,7 +68,7 @@ fn firsts(alloc: Global, arguments: &[Node<InputValueDefinition>]) -> Result<Fir
 
 /// Notes an argument definition, if it is the first of its name.
 fn note_first(firsts: &mut Firsts, argument: &Node<InputValueDefinition>) -> Result<(), AllocError>
-    ensures { (before : _) → AreFirsts firsts.old before → OnOk result (AreFirsts firsts.new (before ++ node_tree input_value_tree argument.now ∷ [])) }
+    ensures { (before : _) → AreFirsts firsts.old before → OnOk result (AreFirsts firsts.new (before ++ input_tree argument.now ∷ [])) }
 {
     if first_like(firsts, argument).is_some() {
         return Ok(());
@@ -84,7 +82,7 @@ fn first_like<'a>(
     firsts: &'a Firsts,
     argument: &Node<InputValueDefinition>,
 ) -> Option<&'a Node<InputValueDefinition>>
-    ensures { (vs : _) → AreFirsts firsts.now vs → option_map (λ a. node_tree input_value_tree a.now) result ≡ first_named vs (node_tree input_value_tree argument.now).it.name.it }
+    ensures { (vs : _) → AreFirsts firsts.now vs → option_map (λ a. input_tree a.now) result ≡ first_named vs (input_tree argument.now).it.name.it }
 {
     firsts.get(&argument.content().name)
 }
@@ -95,7 +93,7 @@ fn check_wanted_arguments(
     own: &Firsts,
     faults: &mut Vec<Fault>,
 ) -> Result<(), AllocError>
-    ensures { (vs : _) → AreFirsts own.now vs → OnOk result (faults_of faults.new ≡ faults_of faults.old ++ flat_map (wanted_argument_faults implementation.now.name.now.text implementation.now.interface.now.text implementation.now.field_name.now.text (node_tree field_definition_tree implementation.now.wanted.now) (node_tree field_definition_tree implementation.now.field.now) vs) (node_tree field_definition_tree implementation.now.wanted.now).it.arguments) }
+    ensures { (vs : _) → AreFirsts own.now vs → OnOk result (AddsThese faults.old faults.new (of_implementation wanted_faults_over implementation.now vs)) }
 {
     for argument in &implementation.wanted.content().arguments {
         tell(
@@ -112,7 +110,7 @@ fn wanted_argument_fault(
     own: &Firsts,
     argument: &Node<InputValueDefinition>,
 ) -> Result<Option<Fault>, AllocError>
-    ensures { (vs : _) → AreFirsts own.now vs → IfOk result (λ r. map fault_of (option_to_list r) ≡ wanted_argument_faults implementation.now.name.now.text implementation.now.interface.now.text implementation.now.field_name.now.text (node_tree field_definition_tree implementation.now.wanted.now) (node_tree field_definition_tree implementation.now.field.now) vs (node_tree input_value_tree argument.now)) }
+    ensures { (vs : _) → AreFirsts own.now vs → IfOk result (λ r. Tells r (of_argument wanted_fault implementation.now vs argument.now)) }
 {
     match first_like(own, argument) {
         None => missing_interface_field_argument(implementation, argument),
@@ -128,7 +126,7 @@ fn check_own_arguments(
     of_interface: &Firsts,
     faults: &mut Vec<Fault>,
 ) -> Result<(), AllocError>
-    ensures { (vs : _) → AreFirsts of_interface.now vs → OnOk result (faults_of faults.new ≡ faults_of faults.old ++ flat_map (own_argument_faults implementation.now.name.now.text implementation.now.interface.now.text implementation.now.field_name.now.text (node_tree field_definition_tree implementation.now.wanted.now) (node_tree field_definition_tree implementation.now.field.now) vs) (node_tree field_definition_tree implementation.now.field.now).it.arguments) }
+    ensures { (vs : _) → AreFirsts of_interface.now vs → OnOk result (AddsThese faults.old faults.new (of_implementation own_faults_over implementation.now vs)) }
 {
     for argument in &implementation.field.content().arguments {
         tell(
@@ -145,7 +143,7 @@ fn own_argument_fault(
     of_interface: &Firsts,
     argument: &Node<InputValueDefinition>,
 ) -> Result<Option<Fault>, AllocError>
-    ensures { (ws : _) → AreFirsts of_interface.now ws → IfOk result (λ r. map fault_of (option_to_list r) ≡ own_argument_faults implementation.now.name.now.text implementation.now.interface.now.text implementation.now.field_name.now.text (node_tree field_definition_tree implementation.now.wanted.now) (node_tree field_definition_tree implementation.now.field.now) ws (node_tree input_value_tree argument.now)) }
+    ensures { (ws : _) → AreFirsts of_interface.now ws → IfOk result (λ r. Tells r (of_argument own_fault implementation.now ws argument.now)) }
 {
     match first_like(of_interface, argument) {
         Some(_) => Ok(None),
@@ -159,7 +157,7 @@ fn missing_interface_field_argument(
     implementation: &Implementation<'_>,
     argument: &Node<InputValueDefinition>,
 ) -> Result<Option<Fault>, AllocError>
-    ensures { IfOk result (λ r. map fault_of (option_to_list r) ≡ missing_interface_field_argument implementation.now.name.now.text implementation.now.interface.now.text implementation.now.field_name.now.text (node_tree field_definition_tree implementation.now.wanted.now) (node_tree field_definition_tree implementation.now.field.now) (node_tree input_value_tree argument.now)) }
+    ensures { IfOk result (λ r. Tells r (of_implementation missing_interface_field_argument implementation.now (input_tree argument.now))) }
 {
     let field_location = implementation.field.location();
     let (name, interface, field) = implementation.copy_names()?;
@@ -183,7 +181,7 @@ fn invalid_implementation_field_argument_type(
     wanted: &Node<InputValueDefinition>,
     given: &Node<InputValueDefinition>,
 ) -> Result<Option<Fault>, AllocError>
-    ensures { IfOk result (λ r. map fault_of (option_to_list r) ≡ invalid_implementation_field_argument_type implementation.now.name.now.text implementation.now.interface.now.text implementation.now.field_name.now.text (node_tree input_value_tree wanted.now) (node_tree input_value_tree given.now)) }
+    ensures { IfOk result (λ r. Tells r (of_names invalid_implementation_field_argument_type implementation.now (input_tree wanted.now) (input_tree given.now))) }
 {
     if same_type(wanted.content().ty.content(), given.content().ty.content()) {
         return Ok(None);
@@ -221,7 +219,7 @@ fn extra_required_implementation_field_argument(
     implementation: &Implementation<'_>,
     argument: &Node<InputValueDefinition>,
 ) -> Result<Option<Fault>, AllocError>
-    ensures { IfOk result (λ r. map fault_of (option_to_list r) ≡ extra_required_argument implementation.now.name.now.text implementation.now.interface.now.text implementation.now.field_name.now.text (node_tree field_definition_tree implementation.now.wanted.now) (node_tree field_definition_tree implementation.now.field.now) (node_tree input_value_tree argument.now)) }
+    ensures { IfOk result (λ r. Tells r (of_implementation extra_required_argument implementation.now (input_tree argument.now))) }
 {
     if !argument.content().is_required() {
         return Ok(None);

@@ -1,16 +1,14 @@
 //! Tells which rules on interfaces a schema breaks.
-ghost use Rattle.std.specs.Prelude.{◌≡◌, ◌++◌, OnOk};
-ghost use Rattle.graphql_names.specs.Node.{content, place};
-ghost use Rattle.graphql_names.specs.Placed.{name_tree};
-ghost use Rattle.schema_components.specs.Given.{component_name_tree};
-ghost use Rattle.schema_types.specs.TypeView.{extended_type, interface_type};
+ghost use Rattle.std.specs.Prelude.{OnOk};
+ghost use Rattle.schema_types.specs.TypeView.{extended_type};
 ghost use Rattle.graphql_schema.specs.SchemaOf.{schema_tree};
 ghost use Rattle.fault_data.specs.Adds.{Adds};
-ghost use Rattle.fault_data.specs.FaultView.{faults_of};
+ghost use Rattle.rule_interfaces.specs.Adds.{AddsThese};
 ghost use Rattle.schema_types.specs.Distinct.{AreAllDistinct};
 ghost use Rattle.fault_data.specs.in_rule_definitions.Rules.{InterfacesBreak};
 ghost use Rattle.fault_data.specs.in_rule_definitions.Told.{Told};
-ghost use Rattle.rule_interfaces.specs.InterfaceFaults.{type_faults, interface_faults, listed_faults, over_faults, types_faults};
+ghost use Rattle.rule_interfaces.specs.InterfaceFaults.{over_faults, listed_faults, named_faults, type_faults, types_faults};
+ghost use Rattle.rule_interfaces.specs.Trees.{interface_tree, schema_of, of_implementer};
 
 use crate::fields::check_each_field;
 use crate::implementation::Implementer;
@@ -40,7 +38,7 @@ fn check_each_type(
     schema: &Schema,
     faults: &mut Vec<Fault>,
 ) -> Result<(), AllocError>
-    ensures { OnOk result (faults_of faults.new ≡ faults_of faults.old ++ types_faults (schema_tree schema.now) schema.now.types.entries) }
+    ensures { OnOk result (AddsThese faults.old faults.new (types_faults (schema_tree schema.now) schema.now.types.entries)) }
 {
     for (name, ty) in &schema.types {
         check_type(alloc, schema, name, ty, faults)?;
@@ -56,7 +54,7 @@ fn check_type(
     ty: &ExtendedType,
     faults: &mut Vec<Fault>,
 ) -> Result<(), AllocError>
-    ensures { OnOk result (faults_of faults.new ≡ faults_of faults.old ++ type_faults (schema_tree schema.now) name.now.text (extended_type ty.now)) }
+    ensures { OnOk result (AddsThese faults.old faults.new (type_faults (schema_tree schema.now) name.now.text (extended_type ty.now))) }
 {
     for interface in interfaces_of(ty) {
         let implementer = Implementer {
@@ -76,7 +74,7 @@ fn check_interface(
     implementer: &Implementer<'_>,
     faults: &mut Vec<Fault>,
 ) -> Result<(), AllocError>
-    ensures { OnOk result (faults_of faults.new ≡ faults_of faults.old ++ interface_faults (schema_tree implementer.now.schema.now) implementer.now.name.now.text (extended_type implementer.now.ty.now) (component_name_tree implementer.now.interface.now)) }
+    ensures { OnOk result (AddsThese faults.old faults.new (of_implementer (named_faults (schema_of implementer.now)) implementer.now)) }
 {
     tell(faults, recursive_interface_definition(implementer)?)?;
     check_listed(alloc, implementer, faults)
@@ -88,7 +86,7 @@ fn check_listed(
     implementer: &Implementer<'_>,
     faults: &mut Vec<Fault>,
 ) -> Result<(), AllocError>
-    ensures { OnOk result (faults_of faults.new ≡ faults_of faults.old ++ listed_faults (schema_tree implementer.now.schema.now) implementer.now.name.now.text (extended_type implementer.now.ty.now) (name_tree implementer.now.interface.now.name)) }
+    ensures { OnOk result (AddsThese faults.old faults.new (of_implementer (listed_faults (schema_of implementer.now)) implementer.now)) }
 {
     let interface = &implementer.interface.name;
     match implementer.schema.get_interface(interface) {
@@ -104,7 +102,7 @@ fn check_over(
     over: &Node<InterfaceType>,
     faults: &mut Vec<Fault>,
 ) -> Result<(), AllocError>
-    ensures { OnOk result (faults_of faults.new ≡ faults_of faults.old ++ over_faults (schema_tree implementer.now.schema.now) implementer.now.name.now.text (extended_type implementer.now.ty.now) (name_tree implementer.now.interface.now.name) (interface_type (place over.now) (content over.now))) }
+    ensures { OnOk result (AddsThese faults.old faults.new (of_implementer (over_faults (schema_of implementer.now)) implementer.now (interface_tree over.now))) }
 {
     let over = over.content();
     let listed = over.implements_interfaces.as_slice();

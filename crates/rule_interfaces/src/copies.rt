@@ -1,7 +1,7 @@
 //! Copies for the data of faults.
 ghost use Rattle.std.specs.Prelude.{◌≡◌, IfOk};
-ghost use Rattle.graphql_names.specs.Placed.{node_tree};
 ghost use Rattle.tree_literals.specs.TypeTree.{type_tree};
+ghost use Rattle.rule_interfaces.specs.Trees.{AreArgumentCopies};
 
 use graphql_names::{Name, Node};
 use std::alloc::AllocError;
@@ -31,7 +31,7 @@ pub(crate) fn copy_arguments(
     wanted: &InputValueDefinition,
     given: &InputValueDefinition,
 ) -> Result<(Name, Node<Type>, Node<Type>), AllocError>
-    ensures { IfOk result (λ copy. (copy.0 ≡ wanted.now.name) × ((node_tree type_tree copy.1 ≡ node_tree type_tree wanted.now.ty) × (node_tree type_tree copy.2 ≡ node_tree type_tree given.now.ty))) }
+    ensures { IfOk result (λ copy. AreArgumentCopies wanted.now given.now copy.0 copy.1 copy.2) }
 {
     Ok((wanted.name.clone()?, wanted.ty.clone()?, given.ty.clone()?))
 }

@@ -1,11 +1,9 @@
 //! Rules on the fields of types that implement interfaces (section 3.6, IsValidImplementation).
-ghost use Rattle.std.specs.Prelude.{◌≡◌, ◌++◌, map, IfOk, OnOk, option_to_list};
-ghost use Rattle.graphql_names.specs.Placed.{name_tree, node_tree};
-ghost use Rattle.tree_type_members.specs.TypeSystemTree.{field_definition_tree};
-ghost use Rattle.schema_types.specs.TypeView.{extended_type};
+ghost use Rattle.std.specs.Prelude.{IfOk, OnOk};
 ghost use Rattle.graphql_schema.specs.SchemaOf.{schema_tree};
-ghost use Rattle.fault_data.specs.FaultView.{fault_of, faults_of};
-ghost use Rattle.rule_interfaces.specs.InterfaceFaults.{missing_interface_field, invalid_implementation_field_type, field_faults, each_field_faults, implementation_faults};
+ghost use Rattle.rule_interfaces.specs.Adds.{AddsThese};
+ghost use Rattle.rule_interfaces.specs.InterfaceFaults.{missing_interface_field, invalid_implementation_field_type, implementation_faults, field_faults, each_field_faults};
+ghost use Rattle.rule_interfaces.specs.Trees.{Tells, schema_of, of_implementer, of_field, of_implementation};
 
 use crate::arguments::check_arguments;
 use crate::copies::{copy_names, copy_types};
@@ -27,7 +25,7 @@ pub(crate) fn check_each_field(
     fields: &IndexMap<Name, Component<FieldDefinition>>,
     faults: &mut Vec<Fault>,
 ) -> Result<(), AllocError>
-    ensures { OnOk result (faults_of faults.new ≡ faults_of faults.old ++ each_field_faults (schema_tree implementer.now.schema.now) implementer.now.name.now.text (extended_type implementer.now.ty.now) (name_tree implementer.now.interface.now.name) fields.now.entries) }
+    ensures { OnOk result (AddsThese faults.old faults.new (of_implementer (each_field_faults (schema_of implementer.now)) implementer.now fields.now.entries)) }
 {
     for (field_name, wanted) in fields {
         check_field(alloc, implementer, field_name, &wanted.node, faults)?;
@@ -43,7 +41,7 @@ fn check_field(
     wanted: &Node<FieldDefinition>,
     faults: &mut Vec<Fault>,
 ) -> Result<(), AllocError>
-    ensures { OnOk result (faults_of faults.new ≡ faults_of faults.old ++ field_faults (schema_tree implementer.now.schema.now) implementer.now.name.now.text (extended_type implementer.now.ty.now) (name_tree implementer.now.interface.now.name) field_name.now.text (node_tree field_definition_tree wanted.now)) }
+    ensures { OnOk result (AddsThese faults.old faults.new (of_field (field_faults (schema_of implementer.now)) implementer.now field_name.now wanted.now)) }
 {
     match own_field(implementer.ty, field_name) {
         None => tell(
@@ -70,7 +68,7 @@ fn check_implementation(
     implementation: &Implementation<'_>,
     faults: &mut Vec<Fault>,
 ) -> Result<(), AllocError>
-    ensures { OnOk result (faults_of faults.new ≡ faults_of faults.old ++ implementation_faults (schema_tree schema.now) implementation.now.name.now.text implementation.now.interface.now.text implementation.now.field_name.now.text (node_tree field_definition_tree implementation.now.wanted.now) (node_tree field_definition_tree implementation.now.field.now)) }
+    ensures { OnOk result (AddsThese faults.old faults.new (of_implementation (implementation_faults (schema_tree schema.now)) implementation.now)) }
 {
     tell(
         faults,
@@ -86,7 +84,7 @@ fn missing_interface_field(
     field_name: &Name,
     wanted: &Node<FieldDefinition>,
 ) -> Result<Option<Fault>, AllocError>
-    ensures { IfOk result (λ r. map fault_of (option_to_list r) ≡ missing_interface_field implementer.now.name.now.text (extended_type implementer.now.ty.now) (name_tree implementer.now.interface.now.name) field_name.now.text (node_tree field_definition_tree wanted.now)) }
+    ensures { IfOk result (λ r. Tells r (of_field missing_interface_field implementer.now field_name.now wanted.now)) }
 {
     let interface = &implementer.interface.name;
     let implements_location = interface.location();
@@ -109,7 +107,7 @@ fn invalid_implementation_field_type(
     schema: &Schema,
     implementation: &Implementation<'_>,
 ) -> Result<Option<Fault>, AllocError>
-    ensures { IfOk result (λ r. map fault_of (option_to_list r) ≡ invalid_implementation_field_type implementation.now.name.now.text implementation.now.interface.now.text implementation.now.field_name.now.text (node_tree field_definition_tree implementation.now.wanted.now) (node_tree field_definition_tree implementation.now.field.now) (schema_tree schema.now)) }
+    ensures { IfOk result (λ r. Tells r (of_implementation invalid_implementation_field_type implementation.now (schema_tree schema.now))) }
 {
     let interface_type = &implementation.wanted.content().ty;
     let actual_type = &implementation.field.content().ty;

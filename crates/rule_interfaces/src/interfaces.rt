@@ -1,10 +1,9 @@
 //! Rules on the interfaces that a type lists (sections 3.6 and 3.7).
-ghost use Rattle.std.specs.Prelude.{◌≡◌, ◌++◌, map, IfOk, OnOk, flat_map, option_to_list};
+ghost use Rattle.std.specs.Prelude.{IfOk, OnOk};
 ghost use Rattle.graphql_names.specs.Placed.{name_tree};
-ghost use Rattle.schema_components.specs.Given.{component_name_tree};
-ghost use Rattle.schema_types.specs.TypeView.{extended_type};
-ghost use Rattle.fault_data.specs.FaultView.{fault_of, faults_of};
-ghost use Rattle.rule_interfaces.specs.InterfaceFaults.{undefined_interface, recursive_interface_definition, transitive_implemented_interfaces};
+ghost use Rattle.rule_interfaces.specs.Adds.{AddsThese};
+ghost use Rattle.rule_interfaces.specs.InterfaceFaults.{recursive_interface_definition, transitive_implemented_interfaces, undefined_interface, each_transitive_faults};
+ghost use Rattle.rule_interfaces.specs.Trees.{Tells, of_implementer};
 
 use crate::implementation::Implementer;
 use crate::look_ups::implements;
@@ -16,7 +15,7 @@ use std::alloc::AllocError;
 /// UndefinedDefinition: a type is valid only if each name that it implements is that of an interface (sections 3.6 and
 /// 3.7). Told of one that is not.
 pub(crate) fn undefined_interface(interface: &Name) -> Result<Option<Fault>, AllocError>
-    ensures { IfOk result (λ r. map fault_of (option_to_list r) ≡ undefined_interface (name_tree interface.now)) }
+    ensures { IfOk result (λ r. Tells r (undefined_interface (name_tree interface.now))) }
 {
     Ok(Some(Fault {
         location: interface.location(),
@@ -30,7 +29,7 @@ pub(crate) fn undefined_interface(interface: &Name) -> Result<Option<Fault>, All
 pub(crate) fn recursive_interface_definition(
     implementer: &Implementer<'_>,
 ) -> Result<Option<Fault>, AllocError>
-    ensures { IfOk result (λ r. map fault_of (option_to_list r) ≡ recursive_interface_definition implementer.now.name.now.text (extended_type implementer.now.ty.now) (name_tree implementer.now.interface.now.name)) }
+    ensures { IfOk result (λ r. Tells r (of_implementer recursive_interface_definition implementer.now)) }
 {
     if !implementer.ty.is_interface() {
         return Ok(None);
@@ -53,7 +52,7 @@ pub(crate) fn check_transitive(
     listed: &[ComponentName],
     faults: &mut Vec<Fault>,
 ) -> Result<(), AllocError>
-    ensures { OnOk result (faults_of faults.new ≡ faults_of faults.old ++ flat_map (λ g. transitive_implemented_interfaces implementer.now.name.now.text (extended_type implementer.now.ty.now) (name_tree implementer.now.interface.now.name) g.it) (map component_name_tree listed.now)) }
+    ensures { OnOk result (AddsThese faults.old faults.new (of_implementer each_transitive_faults implementer.now listed.now)) }
 {
     for missing in listed {
         tell(
@@ -70,7 +69,7 @@ fn transitive_implemented_interfaces(
     implementer: &Implementer<'_>,
     missing: &ComponentName,
 ) -> Result<Option<Fault>, AllocError>
-    ensures { IfOk result (λ r. map fault_of (option_to_list r) ≡ transitive_implemented_interfaces implementer.now.name.now.text (extended_type implementer.now.ty.now) (name_tree implementer.now.interface.now.name) (name_tree missing.now.name)) }
+    ensures { IfOk result (λ r. Tells r (of_implementer transitive_implemented_interfaces implementer.now (name_tree missing.now.name))) }
 {
     if implements(implementer.ty, missing) {
         return Ok(None);

@@ -5,6 +5,7 @@ ghost use Rattle.tree_literals.specs.TypeTree.{NamedTree, NonNullNamedTree, type
 ghost use Rattle.graphql_schema.specs.SchemaOf.{schema_tree};
 ghost use Rattle.fault_data.specs.in_rule_definitions.Judged.{judged};
 ghost use Rattle.fault_data.specs.in_rule_definitions.Subtypes.{is_subtype, is_valid_type};
+ghost use Rattle.rule_interfaces.specs.Trees.{serves};
 
 use graphql_names::Name;
 use graphql_schema::Schema;
@@ -39,7 +40,7 @@ pub fn is_valid_implementation_field_type(
 /// Whether a field of type `implementing` serves where an interface has the type of that name.
 #[tactic(auto, using(tree_literals::proofs::Trees::type_tree_rules))]
 fn serves_named(schema: &Schema, wanted: &Name, implementing: &Type) -> bool
-    ensures { result ≡ is_valid_type (judged (schema_tree schema.now)) (NamedTree (unplaced_text (name_tree wanted.now))) (unplaced_type (type_tree implementing.now)) }
+    ensures { result ≡ serves (schema_tree schema.now) (NamedTree (unplaced_text (name_tree wanted.now))) (type_tree implementing.now) }
 {
     match implementing {
         Type::Named(name) | Type::NonNullNamed(name) => serves(schema, wanted, name),
@@ -50,7 +51,7 @@ fn serves_named(schema: &Schema, wanted: &Name, implementing: &Type) -> bool
 /// Whether a field of type `implementing` serves where an interface has the type of that name, non-null.
 #[tactic(auto, using(tree_literals::proofs::Trees::type_tree_rules))]
 fn serves_non_null(schema: &Schema, wanted: &Name, implementing: &Type) -> bool
-    ensures { result ≡ is_valid_type (judged (schema_tree schema.now)) (NonNullNamedTree (unplaced_text (name_tree wanted.now))) (unplaced_type (type_tree implementing.now)) }
+    ensures { result ≡ serves (schema_tree schema.now) (NonNullNamedTree (unplaced_text (name_tree wanted.now))) (type_tree implementing.now) }
 {
     match implementing {
         Type::NonNullNamed(name) => serves(schema, wanted, name),

@@ -7,7 +7,7 @@ use Rattle.tree_directives.specs.DirectiveTree.{input_value_tree}
 use Rattle.tree_type_members.specs.TypeSystemTree.{field_definition_tree}
 use Rattle.tree_type_members.specs.declared.field_definition.FieldDefinition.{FieldDefinition}
 use Rattle.fault_data.specs.FaultView.{faults_of}
-use Rattle.rule_interfaces.specs.InterfaceFaults.{wanted_argument_faults}
+use Rattle.rule_interfaces.specs.InterfaceFaults.{wanted_fault}
 use Rattle.rule_interfaces.proofs.arguments.check_wanted_arguments.Goals as goal
 
 pub loop-argument-preserved : goal.loop-argument-preserved
@@ -15,7 +15,7 @@ loop-argument-preserved c = λ vs are.
     let own = c.args.implementation.now in
     let W = node_tree field_definition_tree own.wanted.now in
     let F = node_tree field_definition_tree own.field.now in
-    let told = wanted_argument_faults own.name.now.text own.interface.now.text own.field_name.now.text W F vs in
+    let told = wanted_fault own.name.now.text own.interface.now.text own.field_name.now.text W F vs in
     let xs = c.deref-argument-items.result.now in
     let k = c.loop-argument.argument-index in
     let x = c.argument-item.result in
@@ -32,7 +32,7 @@ returns c = λ vs are.
     let own = c.args.implementation.now in
     let W = node_tree field_definition_tree own.wanted.now in
     let F = node_tree field_definition_tree own.field.now in
-    let told = wanted_argument_faults own.name.now.text own.interface.now.text own.field_name.now.text W F vs in
+    let told = wanted_fault own.name.now.text own.interface.now.text own.field_name.now.text W F vs in
     let xs = c.deref-argument-items.result.now in
     let past : length xs ≤ c.loop-argument.argument-index = omega arith in
     let whole = take_all c.loop-argument.argument-index xs past in
