@@ -26,12 +26,12 @@ use Rattle.graphql_read.specs.declared.fault.ReadFault.TheVariants.{Syntax, Nest
 use Rattle.graphql_read.specs.ReadFaults.{fault_at, fault_view, IsTreeUnlessMemory}
 use Rattle.graphql_read.specs.Reads.{ReadsWithin, IsDue}
 use Rattle.graphql_read.proofs.Endings.{ends_whole}
-use Rattle.read_printed.specs.WellFormed.{is_white_prefix}
-use Rattle.read_printed.specs.ReadsAlone.{ReadsAlone}
-use Rattle.read_printed.proofs.Alone.{literals_read, type_alone, document_alone}
+use Rattle.read_again.specs.WellFormed.{is_white_prefix}
+use Rattle.read_again.specs.ReadsAlone.{ReadsAlone}
+use Rattle.read_again.proofs.Alone.{literals_read, type_alone, document_alone}
 use Rattle.read_again.specs.ReadsAgain.{IsLimit, IsSameUnlessLimit}
 use Rattle.read_again.proofs.WellFormed.{type_formed}
-use Rattle.read_again.proofs.Definitions.{definitions_formed}
+use Rattle.read_again.proofs.WellFormedDefinitions.{definitions_formed}
 
 -- ---- any symbol
 

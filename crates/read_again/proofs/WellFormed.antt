@@ -36,8 +36,8 @@ use Rattle.graphql_read.specs.in_operations.declared.selection.Selection.TheFold
 use Rattle.graphql_read.specs.in_operations.declared.operation.VariableDefinition.{VariableDefinition}
 use Rattle.graphql_read.specs.in_operations.declared.operation.OperationDefinition.{OperationDefinition}
 use Rattle.graphql_read.specs.in_operations.declared.operation.FragmentDefinition.{FragmentDefinition}
-use Rattle.read_printed.specs.WellFormed.{if_any, type_well_formed, value_well_formed, items_well_formed, entries_well_formed, argument_well_formed, directive_well_formed, directives_well_formed, selection_well_formed, selections_well_formed, variable_well_formed, operation_well_formed, fragment_well_formed, input_value_well_formed}
-use Rattle.read_printed.specs.Definitions.{directive_definition_well_formed}
+use Rattle.read_again.specs.WellFormed.{if_any, type_well_formed, value_well_formed, items_well_formed, entries_well_formed, argument_well_formed, directive_well_formed, directives_well_formed, selection_well_formed, selections_well_formed, variable_well_formed, operation_well_formed, fragment_well_formed, input_value_well_formed}
+use Rattle.read_again.specs.Definitions.{directive_definition_well_formed}
 
 -- ---- lists, options and pairs of tests
 

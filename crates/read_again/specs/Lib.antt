@@ -1,1 +1,11 @@
+pub mod Readings
+pub use Rattle.tree_printing.specs as in_printing
+pub mod Printed
+pub mod WellFormed
+pub mod Literals
+pub mod ReadsAlone
+pub mod Definitions
+pub mod SelectionsLayout
+pub mod TreeDepth
+pub mod NestsAlike
 pub mod ReadsAgain

@@ -12,7 +12,7 @@ use Rattle.tree_definitions.specs.declared.document.Document.{Document}
 use Rattle.graphql_read.specs.in_grammar.Faults.{IsTooDeep}
 use Rattle.graphql_read.specs.declared.fault.ReadFault.{ReadFault}
 use Rattle.graphql_read.specs.declared.fault.ReadFault.TheVariants.{Syntax, Nesting, Memory}
-use Rattle.read_printed.specs.WellFormed.{is_white_prefix}
+use Rattle.read_again.specs.WellFormed.{is_white_prefix}
 
 -- A limit kept the text from being read: memory ran out, or the first of its brackets that goes above the limit opens there.
 abbrev pub IsLimit : ℕ → List ℕ → ReadFault → Type 0

@@ -5,7 +5,7 @@ ghost use Rattle.tree_literals.specs.ValueLayout.{type_text};
 ghost use Rattle.tree_literals.specs.TypeTree.{type_tree, unplaced_type};
 ghost use Rattle.tree_definitions.specs.DefinitionTree.{document_tree, unplaced_document};
 ghost use Rattle.graphql_read.specs.declared.fault.ReadFault.TheVariants.{Memory};
-ghost use Rattle.read_depth_laws.specs.TreeDepth.{type_depth, document_depth};
+ghost use Rattle.read_again.specs.TreeDepth.{type_depth, document_depth};
 ghost use Rattle.read_again.specs.ReadsAgain.{IsSameUnlessLimit, laid_out, CanBeReread};
 
 use graphql_names::FileId;

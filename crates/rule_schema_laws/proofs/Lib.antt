@@ -12,3 +12,7 @@ pub mod Fine
 pub mod ReadTexts
 pub mod Others
 pub mod Small
+pub mod BuiltInCutting
+pub mod BuiltInPieces
+pub mod BuiltInParsing
+pub mod BuiltInFound

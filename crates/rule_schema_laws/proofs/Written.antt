@@ -15,11 +15,11 @@ use Rattle.graphql_read.specs.in_grammar.Grammar.{DerivesAs}
 use Rattle.graphql_read.specs.in_grammar.ValueGrammar.{value, constant}
 use Rattle.graphql_read.specs.in_read_values.Meanings.{in_file}
 use Rattle.graphql_read.specs.Reads.{HasTree}
-use Rattle.read_printed.specs.Printed.{Follow, ends_word, before, Printed}
-use Rattle.read_printed.specs.WellFormed.{value_depth}
-use Rattle.read_printed.proofs.Alone.{literals_read}
-use Rattle.read_printed.proofs.Unplaced.{value_same}
-use Rattle.read_printed.proofs.Values.{value_read}
+use Rattle.read_again.specs.Printed.{Follow, ends_word, before, Printed}
+use Rattle.read_again.specs.WellFormed.{value_depth}
+use Rattle.read_again.proofs.Alone.{literals_read}
+use Rattle.read_again.proofs.Unplaced.{value_same}
+use Rattle.read_again.proofs.Values.{value_read}
 use Rattle.rule_definitions.specs.in_schema_types.SchemaTree.{is_input_kind}
 use Rattle.rule_definitions.specs.Judged.{Judged}
 use Rattle.rule_definitions.specs.Accepts.{Takes}

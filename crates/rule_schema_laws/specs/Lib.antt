@@ -4,3 +4,5 @@ pub mod ReadTexts
 pub mod Named
 pub mod Laws
 pub mod Small
+pub mod BuiltInText
+pub mod BuiltInTextReads

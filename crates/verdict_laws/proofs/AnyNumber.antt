@@ -12,7 +12,7 @@ use Rattle.tree_operations.specs.OperationLayout.{is_none}
 use Rattle.tree_definitions.specs.DefinitionTree as tree
 use Rattle.tree_definitions.specs.DefinitionTree.{DefinitionTree, unplaced_definition}
 use Rattle.tree_definitions.specs.DocumentLayout.{document_text}
-use Rattle.read_printed.proofs.Unplaced.{document_same}
+use Rattle.read_again.proofs.Unplaced.{document_same}
 use Rattle.schema_types.specs.SchemaTree.{SchemaTree}
 use Rattle.schema_types.specs.Plain.{PlainSchema, plain}
 use Rattle.rule_definitions.specs.Laws.{AreEqual}

@@ -15,7 +15,7 @@ use Rattle.schema_types.specs.TypeParts.{TypeParts, TypeDefinition, type_here, t
 use Rattle.schema_fold.specs.Listed.{Definitions, Listed, listed_after, numbered, types_in}
 use Rattle.schema_fold.specs.Components.{all_given, go_together, extension_here, components}
 use Rattle.schema_fold.specs.SchemaFold.{Root, SchemaGiver, schema_here, schema_extension_here, implicit_roots, schema_is_defined, schema_base, extends_schema, roots_given}
-use Rattle.read_depth_laws.specs.TreeDepth.{deepest, bracketed, field_definition_depth, definition_depth}
+use Rattle.read_again.specs.TreeDepth.{deepest, bracketed, field_definition_depth, definition_depth}
 use Rattle.verdict_laws.proofs.Order.{Each}
 
 -- ---- what definitions give without a bracket: no roots and no fields

@@ -25,7 +25,7 @@ use Rattle.verdict_laws.specs.Whole.{Extension, classes, extension_at, extension
 use Rattle.verdict_laws.specs.WholeSchema.{whole_parts, SchemaExtension, schema_classes, schema_extensions_in, whole_schema_extension, left_out}
 use Rattle.verdict_laws.specs.Table.{IsTable, AreOwn}
 use Rattle.verdict_laws.specs.Twice.{WrittenOf}
-use Rattle.read_depth_laws.specs.TreeDepth.{deepest, bracketed, directives_depth, directive_definition_depth, schema_depth, definition_depth, document_depth}
+use Rattle.read_again.specs.TreeDepth.{deepest, bracketed, directives_depth, directive_definition_depth, schema_depth, definition_depth, document_depth}
 use Rattle.verdict_laws.proofs.Order.{Each, Each-append, Each-arranged}
 use Rattle.verdict_laws.proofs.Accepted.{types_whole}
 use Rattle.verdict_laws.proofs.Again.{kinds_same}

@@ -3,8 +3,8 @@ use Rattle.std.proofs.Common.{◌≡◌, ℕ, ◌≤◌, Bool, true, false, [], 
 use Rattle.std.specs.List.{filter, list_all}
 use Rattle.graphql_names.specs.Placed.{Place}
 use Rattle.tree_definitions.specs.DefinitionTree.{DefinitionTree, unplaced_document}
-use Rattle.read_printed.specs.Definitions.{definition_well_formed}
-use Rattle.read_depth_laws.specs.TreeDepth.{document_depth}
+use Rattle.read_again.specs.Definitions.{definition_well_formed}
+use Rattle.read_again.specs.TreeDepth.{document_depth}
 use Rattle.schema_types.specs.SchemaTree.{SchemaTree}
 use Rattle.schema_types.specs.Plain.{PlainSchema}
 use Rattle.rule_definitions.specs.Laws.{AreEqual}

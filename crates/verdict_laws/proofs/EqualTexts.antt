@@ -6,8 +6,8 @@ use Rattle.std.proofs.lemmas.Bool.{and_parts}
 use Rattle.graphql_names.specs.Placed.{Place}
 use Rattle.tree_definitions.specs.DefinitionTree.{DefinitionTree}
 use Rattle.tree_definitions.specs.Writable.{has_some, definition_writable, document_writable}
-use Rattle.read_printed.specs.Definitions.{definition_well_formed}
-use Rattle.read_printed.proofs.EqualTexts.{equal_documents}
+use Rattle.read_again.specs.Definitions.{definition_well_formed}
+use Rattle.read_again.proofs.EqualTexts.{equal_documents}
 use Rattle.schema_types.specs.SchemaTree.{SchemaTree}
 use Rattle.schema_built_in.specs.Table.{built_in_definitions}
 use Rattle.schema_fold.specs.Fold.{fold}

@@ -13,13 +13,13 @@ use Rattle.read_values.specs.Meanings.{in_file}
 use Rattle.graphql_read.specs.Reads.{HasTree, NestingBound}
 use Rattle.graphql_read.proofs.Bounds.{not_passed}
 use Rattle.graphql_read.proofs.Soundness.{document_sound}
-use Rattle.read_printed.specs.Definitions.{definition_well_formed}
-use Rattle.read_printed.specs.ReadsAlone.{ReadsAlone}
-use Rattle.read_printed.proofs.Alone.{literals_read, document_alone}
-use Rattle.read_printed.proofs.Unplaced.{document_same}
-use Rattle.read_depth_laws.specs.TreeDepth.{document_depth}
-use Rattle.read_depth_laws.proofs.Documents.{derived_depth}
-use Rattle.read_depth_laws.proofs.Alike.{document_read_depth}
+use Rattle.read_again.specs.Definitions.{definition_well_formed}
+use Rattle.read_again.specs.ReadsAlone.{ReadsAlone}
+use Rattle.read_again.proofs.Alone.{literals_read, document_alone}
+use Rattle.read_again.proofs.Unplaced.{document_same}
+use Rattle.read_again.specs.TreeDepth.{document_depth}
+use Rattle.read_again.proofs.DocumentsNest.{derived_depth}
+use Rattle.read_again.proofs.NestAlike.{document_read_depth}
 use Rattle.rule_schema_laws.specs.ReadTexts.{Texts, AreReadElsewhere}
 use Rattle.verdict_laws.specs.ReadTexts.{all_of}
 use Rattle.verdict_laws.specs.Elsewhere.{AreAllElsewhere}

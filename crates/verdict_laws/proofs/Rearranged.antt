@@ -24,9 +24,9 @@ use Rattle.graphql_read.specs.in_read_values.Meanings.{in_file}
 use Rattle.graphql_read.specs.Reads.{NestingBound}
 use Rattle.graphql_read.proofs.Soundness.{document_sound}
 use Rattle.graphql_read.proofs.Bounds.{within_all}
-use Rattle.read_depth_laws.specs.TreeDepth.{deepest, definition_depth, document_depth}
-use Rattle.read_depth_laws.proofs.Documents.{derived_depth}
-use Rattle.read_depth_laws.proofs.Unplaced.{document_unplaced}
+use Rattle.read_again.specs.TreeDepth.{deepest, definition_depth, document_depth}
+use Rattle.read_again.proofs.DocumentsNest.{derived_depth}
+use Rattle.read_again.proofs.UnplacedNests.{document_unplaced}
 use Rattle.rule_schema_laws.specs.ReadTexts.{Texts, AreReadElsewhere}
 use Rattle.verdict_laws.specs.RearrangedLists.{IsRearranged}
 use Rattle.verdict_laws.specs.Permuting.{IsPermuted, nothing, next}

@@ -3,8 +3,8 @@ use Rattle.std.proofs.Common.{◌≡◌, ◌≢◌, ◌≤◌, true, List, [], �
 use Rattle.std.specs.List.{list_all}
 use Rattle.graphql_names.specs.Placed.{Place}
 use Rattle.tree_definitions.specs.DefinitionTree.{unplaced_document}
-use Rattle.read_printed.specs.Definitions.{definition_well_formed}
-use Rattle.read_depth_laws.specs.TreeDepth.{document_depth}
+use Rattle.read_again.specs.Definitions.{definition_well_formed}
+use Rattle.read_again.specs.TreeDepth.{document_depth}
 use Rattle.schema_types.specs.SchemaTree.{SchemaTree}
 use Rattle.schema_built_in.specs.Table.{built_in_definitions}
 use Rattle.schema_fold.specs.Listed.{Definitions}

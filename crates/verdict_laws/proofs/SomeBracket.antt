@@ -26,7 +26,7 @@ use Rattle.rule_definitions.specs.Diagnostics.{QueryRootOperationType, EmptyFiel
 use Rattle.rule_definitions.specs.Faults.{told}
 use Rattle.rule_definitions.specs.Judged.{judged}
 use Rattle.rule_definitions.specs.Rules.{SchemaRules}
-use Rattle.read_depth_laws.specs.TreeDepth.{definition_depth, document_depth}
+use Rattle.read_again.specs.TreeDepth.{definition_depth, document_depth}
 use Rattle.verdict_laws.proofs.Order.{Each, Each-append, Each-map}
 use Rattle.verdict_laws.proofs.Again.{kinds_same}
 use Rattle.verdict_laws.proofs.Depth.{all_fit}

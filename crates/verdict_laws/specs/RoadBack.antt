@@ -2,7 +2,7 @@
 -- terms, and is written as it was before (GraphQL, October 2021, sections 2, 3 and 5).
 use Rattle.std.specs.Prelude.{◌≡◌, ◌≢◌, ◌↔◌, ◌⊎◌, ℕ, true, List, [], ◌∷◌}
 use Rattle.graphql_names.specs.Placed.{Place}
-use Rattle.read_printed.specs.WellFormed.{is_white_prefix}
+use Rattle.read_again.specs.WellFormed.{is_white_prefix}
 use Rattle.tree_definitions.specs.DefinitionTree.{unplaced_document}
 use Rattle.schema_types.specs.SchemaTree.{SchemaTree}
 use Rattle.rule_definitions.specs.Laws.{AreEqual}

@@ -10,7 +10,7 @@ use Rattle.schema_fold.specs.Listed.{Definitions}
 use Rattle.schema_fold.specs.Fold.{fold}
 use Rattle.schema_fold.specs.BuildErrors.{FoldingRules}
 use Rattle.verdict_laws.specs.Table.{IsTable, HasNoQuery, AreOwn}
-use Rattle.read_depth_laws.specs.TreeDepth.{document_depth}
+use Rattle.read_again.specs.TreeDepth.{document_depth}
 
 -- what is written of a list, beside the table, where extensions are numbered from `first`
 abbrev pub WrittenOf : Definitions → ℕ → Definitions → Definitions

@@ -1,0 +1,88 @@
+//! What is printed is read as the tree that was printed.
+
+ghost use Rattle.std.specs.Prelude.{◌≡◌, ◌↔◌, ℕ, Bool, true, List, ◌∷◌};
+ghost use Rattle.std.specs.List.{list_all};
+ghost use Rattle.graphql_names.specs.declared.span.FileId.{FileId};
+ghost use Rattle.read_again.specs.in_printing.LineLayout.{Prefix};
+ghost use Rattle.read_values.specs.in_literals.ValueLayout.{type_text, value_text};
+ghost use Rattle.read_values.specs.in_operations.OperationLayout.{operation_text, fragment_text};
+ghost use Rattle.graphql_names.specs.Placed.{Place};
+ghost use Rattle.read_values.specs.in_values.Writable.{value_writable, has_selection, selections_writable, operation_writable, fragment_writable};
+ghost use Rattle.read_values.specs.in_literals.TypeTree.{TypeTree, unplaced_type};
+ghost use Rattle.read_values.specs.in_literals.ValueTree.{ValueTree, unplaced_value};
+ghost use Rattle.read_values.specs.in_operations.SelectionTree.{SelectionTrees, unplaced_selections};
+ghost use Rattle.read_values.specs.in_operations.OperationTree.{OperationTree, FragmentTree, unplaced_operation, unplaced_fragment};
+ghost use Rattle.read_values.specs.in_definitions.DefinitionTree.{DefinitionTree, unplaced_document};
+ghost use Rattle.read_values.specs.in_definitions.DocumentLayout.{document_text};
+ghost use Rattle.read_values.specs.in_definitions.Writable.{definition_writable};
+ghost use Rattle.read_values.specs.in_grammar.Meaning.{Meaning};
+ghost use Rattle.read_values.specs.in_grammar.Grammar.{DerivesAs, Derives, DerivesType, DerivesSelections};
+ghost use Rattle.read_values.specs.in_grammar.ValueGrammar.{Const, value};
+ghost use Rattle.read_values.specs.in_grammar.OperationGrammar.{operation_definition, fragment_definition};
+ghost use Rattle.read_values.specs.Meanings.{in_file};
+ghost use Rattle.read_again.specs.WellFormed.{is_white_prefix, type_well_formed, value_well_formed, selections_well_formed, operation_well_formed, fragment_well_formed};
+ghost use Rattle.read_again.specs.Definitions.{definition_well_formed};
+ghost use Rattle.read_again.specs.SelectionsLayout.{selections_text};
+ghost use Rattle.read_again.specs.ReadsAlone.{ReadsAlone};
+
+/// The text of a type whose names are names reads as it alone, apart from places.
+pub fn printed_type_reads()
+    ensures { (m : Meaning Place) → (tree : TypeTree Place) → type_well_formed tree ≡ true
+        → ReadsAlone (DerivesType m) unplaced_type (type_text tree) (unplaced_type tree) }
+{}
+
+/// The text of a value that is well-formed and writable reads as it alone, apart from places.
+pub fn printed_value_reads()
+    ensures { (file : FileId) → (const : Const) → (tree : ValueTree Place) → value_well_formed tree ≡ true
+        → value_writable const tree ≡ true
+        → ReadsAlone (DerivesAs (value (in_file file) const)) unplaced_value (value_text tree) (unplaced_value tree) }
+{}
+
+/// The text of an operation or a fragment that is well-formed and writable, on one line or on lines that white space
+/// begins, at any level, reads as it alone, apart from places.
+pub fn printed_operations_read()
+    ensures operation { (file : FileId) → (at_start : Bool) → (prefix : Prefix) → (level : ℕ) → (tree : OperationTree Place)
+        → is_white_prefix prefix ≡ true → operation_well_formed tree ≡ true → operation_writable tree ≡ true
+        → ReadsAlone (DerivesAs (operation_definition (in_file file))) unplaced_operation (operation_text at_start prefix tree level) (unplaced_operation tree) }
+    ensures fragment { (file : FileId) → (prefix : Prefix) → (level : ℕ) → (tree : FragmentTree Place)
+        → is_white_prefix prefix ≡ true → fragment_well_formed tree ≡ true → fragment_writable tree ≡ true
+        → ReadsAlone (DerivesAs (fragment_definition (in_file file))) unplaced_fragment (fragment_text prefix tree level) (unplaced_fragment tree) }
+{}
+
+/// The text of selections without braces, of one at least, that are well-formed and writable, reads as them alone, apart
+/// from places; under the same layouts.
+pub fn printed_selections_read()
+    ensures { (file : FileId) → (prefix : Prefix) → (level : ℕ) → (tree : SelectionTrees Place)
+        → is_white_prefix prefix ≡ true → has_selection tree ≡ true → selections_well_formed tree ≡ true → selections_writable tree ≡ true
+        → ReadsAlone (DerivesSelections (in_file file)) unplaced_selections (selections_text prefix tree level) (unplaced_selections tree) }
+{}
+
+/// The text of a document, of one definition at least, each well-formed and writable, reads as it alone, apart from places;
+/// under the same layouts.
+pub fn printed_document_reads()
+    ensures { (file : FileId) → (prefix : Prefix) → (level : ℕ) → (tree : DefinitionTree Place) → (trees : List (DefinitionTree Place))
+        → is_white_prefix prefix ≡ true → list_all definition_well_formed (tree ∷ trees) ≡ true → list_all definition_writable (tree ∷ trees) ≡ true
+        → ReadsAlone (Derives (in_file file)) unplaced_document (document_text prefix level (tree ∷ trees)) (unplaced_document (tree ∷ trees)) }
+{}
+
+/// Two trees of one kind that are well-formed and writable have one text under a layout, on one line or on lines that white
+/// space begins, exactly when they are equal, apart from places.
+pub fn equal_texts_are_of_equal_trees()
+    ensures types { (a : TypeTree Place) → (b : TypeTree Place) → type_well_formed a ≡ true → type_well_formed b ≡ true
+        → (type_text a ≡ type_text b) ↔ (unplaced_type a ≡ unplaced_type b) }
+    ensures values { (const : Const) → (a : ValueTree Place) → (b : ValueTree Place) → value_well_formed a ≡ true → value_well_formed b ≡ true
+        → value_writable const a ≡ true → value_writable const b ≡ true
+        → (value_text a ≡ value_text b) ↔ (unplaced_value a ≡ unplaced_value b) }
+    ensures operations { (prefix : Prefix) → (level : ℕ) → (at_start : Bool) → (a : OperationTree Place) → (b : OperationTree Place) → is_white_prefix prefix ≡ true
+        → operation_well_formed a ≡ true → operation_well_formed b ≡ true → operation_writable a ≡ true → operation_writable b ≡ true
+        → (operation_text at_start prefix a level ≡ operation_text at_start prefix b level) ↔ (unplaced_operation a ≡ unplaced_operation b) }
+    ensures fragments { (prefix : Prefix) → (level : ℕ) → (a : FragmentTree Place) → (b : FragmentTree Place) → is_white_prefix prefix ≡ true
+        → fragment_well_formed a ≡ true → fragment_well_formed b ≡ true → fragment_writable a ≡ true → fragment_writable b ≡ true
+        → (fragment_text prefix a level ≡ fragment_text prefix b level) ↔ (unplaced_fragment a ≡ unplaced_fragment b) }
+    ensures selections { (prefix : Prefix) → (level : ℕ) → (a : SelectionTrees Place) → (b : SelectionTrees Place) → is_white_prefix prefix ≡ true
+        → has_selection a ≡ true → has_selection b ≡ true → selections_well_formed a ≡ true → selections_well_formed b ≡ true → selections_writable a ≡ true → selections_writable b ≡ true
+        → (selections_text prefix a level ≡ selections_text prefix b level) ↔ (unplaced_selections a ≡ unplaced_selections b) }
+    ensures documents { (prefix : Prefix) → (level : ℕ) → (a : DefinitionTree Place) → (b : DefinitionTree Place) → (as' : List (DefinitionTree Place)) → (bs : List (DefinitionTree Place)) → is_white_prefix prefix ≡ true
+        → list_all definition_well_formed (a ∷ as') ≡ true → list_all definition_well_formed (b ∷ bs) ≡ true → list_all definition_writable (a ∷ as') ≡ true → list_all definition_writable (b ∷ bs) ≡ true
+        → (document_text prefix level (a ∷ as') ≡ document_text prefix level (b ∷ bs)) ↔ (unplaced_document (a ∷ as') ≡ unplaced_document (b ∷ bs)) }
+{}

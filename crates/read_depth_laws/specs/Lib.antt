@@ -1,2 +1,0 @@
-pub mod TreeDepth
-pub mod NestsAlike

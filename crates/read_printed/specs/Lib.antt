@@ -1,6 +1,0 @@
-pub mod Printed
-pub mod WellFormed
-pub mod Literals
-pub mod ReadsAlone
-pub mod Definitions
-pub mod SelectionsLayout

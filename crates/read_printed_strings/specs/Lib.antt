@@ -1,2 +1,0 @@
-pub mod Readings
-pub use Rattle.tree_printing.specs as in_printing

@@ -1,4 +1,0 @@
-pub mod Cutting
-pub mod Pieces
-pub mod Parsing
-pub mod Found
