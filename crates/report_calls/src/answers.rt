@@ -1,11 +1,9 @@
 //! The lines that answer a batch.
 
 ghost use Rattle.std.specs.Prelude.{◌≡◌, ◌++◌, IfOk, OnOk, string_bytes};
-ghost use Rattle.json.specs.Print.{quoted};
 ghost use Rattle.report_calls.specs.Answers.{begun_text, accepted_text, refused_text};
 
-use report_forms::push_number;
-use serde_json::Value;
+use report_forms::{push_number, quoted};
 use std::alloc::{AllocError, Global};
 
 /// The answer to a document that is accepted: `{"id":ID,"accepted":true,"written":TEXT}`. The id is JSON.
@@ -14,7 +12,8 @@ pub(crate) fn accepted_line(alloc: Global, id: &str, written: &str) -> Result<St
 {
     let mut line = String::new(alloc);
     push_begun(&mut line, id, "true,\"written\":")?;
-    push_quoted(alloc, &mut line, written)?;
+    let written = quoted(alloc, written)?;
+    line.push_str(&written)?;
     line.push_str("}\n")?;
     Ok(line)
 }
@@ -45,21 +44,6 @@ fn push_begun(out: &mut String, id: &str, rest: &str) -> Result<(), AllocError>
     out.push_str(id)?;
     out.push_str(",\"accepted\":")?;
     out.push_str(rest)
-}
-
-/// Adds the text as JSON.
-fn push_quoted(alloc: Global, out: &mut String, text: &str) -> Result<(), AllocError>
-    ensures { OnOk result (string_bytes out.new ≡ string_bytes out.old ++ quoted text.now) }
-{
-    let text = quoted(alloc, text)?;
-    out.push_str(&text)
-}
-
-/// The text as JSON.
-fn quoted(alloc: Global, text: &str) -> Result<String, AllocError>
-    ensures { IfOk result (λ json. string_bytes json ≡ quoted text.now) }
-{
-    Value::String(String::from_str(alloc, text)?).to_string(alloc)
 }
 
 /// The answer to a line that asks for nothing.

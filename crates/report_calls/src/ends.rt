@@ -30,7 +30,10 @@ fn words(rt: &HostRuntime) -> Result<Vec<String>, u8> {
             return Err(WRONG_WORDS);
         }
     };
-    read.map_err(|_| MEMORY)
+    match read {
+        Ok(words) => Ok(words),
+        Err(_) => Err(MEMORY),
+    }
 }
 
 /// Tells why there are no settings, and gives the status. The help goes to standard output, as it was asked for.
@@ -50,15 +53,14 @@ fn told_of_words(rt: &HostRuntime, error: &Error) -> u8 {
 
 /// Tells how much was found, or why the program stopped before its end, and gives the status.
 pub fn tell_end(rt: &HostRuntime, tally: Tally, done: Result<(), Stop>) -> u8 {
-    match done.and_then(|()| tell_tally(rt, tally)) {
-        Ok(()) => tally.status(),
-        Err(stop) => stop.tell(rt),
+    if let Err(stop) = done {
+        return stop.tell(rt);
     }
-}
-
-/// Tells how much was found.
-fn tell_tally(rt: &HostRuntime, tally: Tally) -> Result<(), Stop> {
-    let words = tally.words(rt.alloc())?;
-    let _ = eprintln!(rt; "{words}");
-    Ok(())
+    match tally.words(rt.alloc()) {
+        Ok(words) => {
+            let _ = eprintln!(rt; "{words}");
+            tally.status()
+        }
+        Err(_) => Stop::Memory.tell(rt),
+    }
 }

@@ -96,17 +96,10 @@ impl Tally {
         ensures { IfOk result (λ words. string_bytes words ≡ words_of self) }
     {
         let mut words = String::new(alloc);
-        self.push_words(alloc, &mut words)?;
+        push_counted(alloc, &mut words, "", self.faults, "fault")?;
+        self.push_scope(alloc, &mut words)?;
+        push_unread(alloc, &mut words, self.unread)?;
         Ok(words)
-    }
-
-    /// Adds how much was found.
-    fn push_words(self, alloc: Global, out: &mut String) -> Result<(), AllocError>
-        ensures { OnOk result (string_bytes out.new ≡ string_bytes out.old ++ words_of self) }
-    {
-        push_counted(alloc, out, "", self.faults, "fault")?;
-        self.push_scope(alloc, out)?;
-        push_unread(alloc, out, self.unread)
     }
 
     /// Adds what the faults are in.

@@ -42,7 +42,7 @@ impl Telling<'_> {
     fn print(&self, rt: &HostRuntime, entries: &[Entry]) -> Result<(), Stop> {
         let most = self.settings.max_faults;
         if matches!(self.settings.format, Format::Json) {
-            return print_all(rt, &entries[..entries.len().min(most)]);
+            return print_all(rt, entries, most);
         }
         let printed = folded(rt.alloc(), entries)?;
         let (told, rest) = printed.split_at(printed.len().min(most));
@@ -55,18 +55,16 @@ impl Telling<'_> {
     /// Prints a fault in its form, and how many it stands for.
     fn print_one(&self, rt: &HostRuntime, entries: &[Entry], one: Printed) -> Result<(), Stop> {
         if let Some(entry) = entries.get(one.index) {
-            let text = formed(rt.alloc(), self.settings.format, entry)?;
-            put(rt, &text)?;
+            print_formed(rt, self.settings.format, entry)?;
         }
         print_more(rt, one.more)
     }
 }
 
-/// Prints each fault as a line of JSON.
-fn print_all(rt: &HostRuntime, entries: &[Entry]) -> Result<(), Stop> {
-    for entry in entries {
-        let text = entry.json(rt.alloc())?;
-        put(rt, &text)?;
+/// Prints the first faults, each as a line of JSON.
+fn print_all(rt: &HostRuntime, entries: &[Entry], most: usize) -> Result<(), Stop> {
+    for entry in entries.iter().take(most) {
+        print_formed(rt, Format::Json, entry)?;
     }
     Ok(())
 }
@@ -89,14 +87,16 @@ fn faults_in(printed: &[Printed]) -> usize {
     faults
 }
 
-/// The fault in the form.
-fn formed(alloc: Global, format: Format, entry: &Entry) -> Result<String, AllocError> {
-    match format {
+/// Prints a fault in the form.
+fn print_formed(rt: &HostRuntime, format: Format, entry: &Entry) -> Result<(), Stop> {
+    let alloc = rt.alloc();
+    let formed = match format {
         Format::Text => entry.text(alloc),
         Format::Short => entry.short(alloc),
         Format::Json => entry.json(alloc),
         Format::Github => entry.github(alloc),
-    }
+    };
+    put(rt, &formed?)
 }
 
 /// The lines of each text.
