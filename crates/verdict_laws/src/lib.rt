@@ -1,6 +1,6 @@
 //! Laws of the verdict and of what is written, each the contract of a function that does nothing.
 //!
-//! - `written.rt`: what is written of a schema, folded and written again. Where no folding rule is broken, what is written is a
+//! - `written_again.rt`: what is written of a schema, folded and written again. Where no folding rule is broken, what is written is a
 //!   list of whole definitions and extensions of the texts (`specs/Whole.antt`, `specs/WholeSchema.antt`), and at most an
 //!   implicit schema definition. So it can be written, breaks no folding rule, folds to an equal schema, is written unchanged,
 //!   and nests no deeper. Begin with `specs/Twice.antt`.
@@ -10,7 +10,7 @@
 //!   is written of them is rearranged again (`specs/Writing.antt`), as is what the settings of a builder make of them
 //!   (`specs/Adopting.antt`). One list from texts that are cut in two ways is a case of it, in which the same is written
 //!   (`specs/Cutting.antt`). What all of it comes to for texts that are read is in `specs/ReadTexts.antt`: begin there.
-//! - `verdicts.rt`: what an accepted pair is written from can be written (`specs/Written.antt`): the laws of `written.rt` over
+//! - `verdicts.rt`: what an accepted pair is written from can be written (`specs/Written.antt`): the laws of `written_again.rt` over
 //!   texts that are read. The number of a text plays no part, and over equal schemas each document gets the same verdict
 //!   (`specs/AnyNumber.antt`). So schema texts with the same definitions, in an order that is the same for each sort, get the
 //!   same verdict, and so does each document over them; and of one list that is cut in two ways the same texts are written
@@ -22,4 +22,4 @@
 pub mod rearranging;
 pub mod road_back;
 pub mod verdicts;
-pub mod written;
+pub mod written_again;
