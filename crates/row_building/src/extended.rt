@@ -65,7 +65,7 @@ fn push_components(object: &ObjectType, lines: &mut Lines) -> Result<(), AllocEr
     if list == object.directives {
         lines.put(", with a list");
     }
-    for component in &object.directives {
+    for component in &object.directives.0 {
         if is_copied(component) {
             lines.put(", one");
         }
