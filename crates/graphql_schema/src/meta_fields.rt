@@ -22,7 +22,11 @@ pub(crate) struct MetaFields {
 
 impl Drop for MetaFields {
     fn drop(self) {
-        let MetaFields { typename: _, schema: _, type_by_name: _ } = self;
+        let MetaFields {
+            typename: _,
+            schema: _,
+            type_by_name: _,
+        } = self;
     }
 }
 

@@ -15,7 +15,12 @@ pub struct Graph {
 
 impl Drop for Graph {
     fn drop(self) {
-        let Graph { references: _, first_kind: _, roots: _, bound: _ } = self;
+        let Graph {
+            references: _,
+            first_kind: _,
+            roots: _,
+            bound: _,
+        } = self;
     }
 }
 

@@ -14,6 +14,9 @@ pub struct Reach<'doc> {
 
 impl Drop for Reach<'_> {
     fn drop(self) {
-        let Reach { selections: _, fragments: _ } = self;
+        let Reach {
+            selections: _,
+            fragments: _,
+        } = self;
     }
 }

@@ -33,7 +33,10 @@ pub struct Document {
 
 impl Drop for Document {
     fn drop(self) {
-        let Document { sources: _, definitions: _ } = self;
+        let Document {
+            sources: _,
+            definitions: _,
+        } = self;
     }
 }
 
