@@ -15,6 +15,7 @@ ghost use Rattle.document_typing.specs.BuilderView.{document_builder, empty_buil
 
 use crate::document::type_document;
 use crate::refusal::BuilderRefusal;
+use crate::typing::Typing;
 use document_typed_operations::ExecutableDocument;
 use fault_document_data::BuildError;
 use graphql_names::{FileId, SourceSpan};
@@ -89,7 +90,11 @@ impl<'schema> ExecutableDocumentBuilder<'schema> {
         if self.failed {
             return Err(BuilderRefusal::Failed);
         }
-        let typed = type_document(self.alloc, self.schema, &self.definitions)?;
+        let typing = Typing {
+            alloc: self.alloc,
+            schema: self.schema,
+        };
+        let typed = type_document(&typing, &self.definitions)?;
         let document = ExecutableDocument {
             sources: self.sources,
             operations: typed.operations,
