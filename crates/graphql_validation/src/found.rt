@@ -7,8 +7,8 @@ ghost use Rattle.document_typing.specs.DocumentView.{document_meant};
 ghost use Rattle.rule_document_ground.specs.Reach.{reached_fragments_of};
 ghost use Rattle.rule_document_ground.specs.NotedNames.{noted_names};
 ghost use Rattle.fault_data.specs.FaultView.{faults_of};
-ghost use Rattle.rule_fragments.specs.Used.{AreUnderOwnNames, AreUsed};
-ghost use Rattle.graphql_validation.specs.Operations.{with_fragments, FragmentsTold};
+ghost use Rattle.graphql_validation.specs.Operations.{with_fragments};
+ghost use Rattle.graphql_validation.specs.Steps.{TellsFragments};
 
 use document_typed_operations::ExecutableDocument;
 use fault_data::Fault;
@@ -64,7 +64,7 @@ pub(crate) fn check_fragments(
     document: &ExecutableDocument,
     found: Found,
 ) -> Result<Vec<Fault>, AllocError>
-    ensures { IfOk result (λ r. AreUnderOwnNames (document_meant document.now) → AreUsed (document_meant document.now) (noted_names found.used) → FragmentsTold (document_meant document.now) (faults_of found.faults) (faults_of r)) }
+    ensures { IfOk result (λ r. TellsFragments (document_meant document.now) found (faults_of r)) }
 {
     let Found { mut faults, used } = found;
     let alloc = *faults.allocator();

@@ -41,7 +41,7 @@ fn other_names(
     mark: Terminal,
     mut found: Vec<Name>,
 ) -> Result<Vec<Name>, Stop>
-    ensures { Reads (λ v. map name_tree v.items) (steps.others (kinds.is mark) (values.name (in_file file)) (map name_tree found.items) tokens.old) result tokens.new }
+    ensures { Reads (λ v. map name_tree v.items) (steps.other_names (in_file file) (kinds.is mark) (map name_tree found.items) tokens.old) result tokens.new }
 {
     'turns: while next_is(tokens, mark) {
         found.push(next_name(tokens, file, mark)?)?;

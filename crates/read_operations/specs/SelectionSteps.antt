@@ -1,5 +1,5 @@
 -- Private: leads to `Derives` and `Says`. The parts of selections.
-use Rattle.std.specs.Prelude.{ℕ, [], Option, Ok, unwrap_or}
+use Rattle.std.specs.Prelude.{ℕ, List, [], Option, Ok, unwrap_or}
 use Rattle.std.specs.Option.{option_map}
 use Rattle.graphql_names.specs.declared.name.Name.{Name}
 use Rattle.graphql_names.specs.Placed.{Place, Text, name_tree}
@@ -10,11 +10,12 @@ use Rattle.tree_operations.specs.declared.selection.Field.{Field}
 use Rattle.tree_operations.specs.declared.selection.FragmentSpread.{FragmentSpread}
 use Rattle.tree_operations.specs.declared.selection.InlineFragment.{InlineFragment}
 use Rattle.read_grammar.specs.Meaning.{Meaning}
+use Rattle.read_grammar.specs.Begins.{begins_selection}
 use Rattle.read_grammar.specs.Kinds.{is_on, is_at, is_spread, is_open_paren, is_open_brace}
-use Rattle.read_grammar.specs.Reading.{Parser, and_then, mark, try, placed, ◌⊙◌, ◌<&>◌}
+use Rattle.read_grammar.specs.Reading.{Parser, and_then, mark, some, try, placed, ◌⊙◌, ◌<&>◌}
 use Rattle.read_grammar.specs.ValueGrammar.{with_variables}
 use Rattle.read_grammar.specs.ValueReading.{arguments, directives}
-use Rattle.read_grammar.specs.OperationReading.{alias_and_name, fragment_name, type_condition, dotted, dotted_of}
+use Rattle.read_grammar.specs.OperationReading.{alias_and_name, fragment_name, type_condition, dotted, dotted_of, selection, selection_set}
 
 -- ---- what a tree in memory shows without its place
 
@@ -66,3 +67,15 @@ module _ {P : Type 0} (m : Meaning P) where
   -- what begins with three dots
   abbrev pub dots : ℕ → Parser (SelectionTrees P) → Parser (SelectionTree P)
   dots n set = dotted_of <&> placed m (mark is_spread ⊙ dotted m n set)
+
+  -- SelectionSet?
+  abbrev pub optional_set : ℕ → Parser (Option (SelectionTrees P))
+  optional_set n = try is_open_brace (selection_set m n)
+
+  -- Directives? SelectionSet?, with the selections of that depth
+  abbrev pub directives_and_optional_set : ℕ → Parser (Option (Directives P) × Option (SelectionTrees P))
+  directives_and_optional_set n = directives_and_any_set n (selection_set m n)
+
+  -- selections without their braces
+  abbrev pub some_selections : ℕ → Parser (List (SelectionTree P))
+  some_selections n = some begins_selection (selection m n (selection_set m n))

@@ -2,16 +2,15 @@
 //! its kind alone.
 ghost use Rattle.std.specs.Prelude.{◌≡◌, map};
 ghost use Rattle.std.specs.Option.{option_map};
-ghost use Rattle.graphql_names.specs.Placed.{node_tree};
-ghost use Rattle.tree_directives.specs.DirectiveTree.{argument_tree, directives_tree};
+ghost use Rattle.tree_directives.specs.DirectiveTree.{directives_tree};
 ghost use Rattle.tree_operations.specs.SelectionTree.{selection_tree, selection_trees};
 ghost use Rattle.read_grammar.specs.Begins as begins;
-ghost use Rattle.read_grammar.specs.Kinds as kinds;
 ghost use Rattle.read_grammar.specs.OperationReading as reading;
 ghost use Rattle.read_grammar.specs.Reading as read;
 ghost use Rattle.read_grammar.specs.Reading.{Reads};
 ghost use Rattle.read_values.specs.Meanings.{in_file};
 ghost use Rattle.read_operations.specs.SelectionSteps as steps;
+ghost use Rattle.read_operations.specs.PartViews.{set_view, directives_and_any_set_view, after_name_view};
 
 use crate::condition::next_is_fragment_name;
 use crate::selection_parts::{
@@ -36,7 +35,7 @@ fn optional_selection_set(
     file: FileId,
     depth: usize,
 ) -> Result<Option<Vec<Selection>>, Stop>
-    ensures { Reads (option_map (λ v. selection_trees selection_tree v.items)) (read.try kinds.is_open_brace (reading.selection_set (in_file file) depth) tokens.old) result tokens.new }
+    ensures { Reads set_view (steps.optional_set (in_file file) depth tokens.old) result tokens.new }
 {
     if !next_is(tokens, Terminal::OpenBrace) {
         return Ok(None);
@@ -52,7 +51,7 @@ fn directives_and_any_set(
     file: FileId,
     depth: usize,
 ) -> Result<(Option<DirectiveList>, Option<Vec<Selection>>), Stop>
-    ensures { Reads (λ x. (option_map directives_tree x.0, option_map (λ v. selection_trees selection_tree v.items) x.1)) (steps.directives_and_any_set (in_file file) depth (reading.selection_set (in_file file) depth) tokens.old) result tokens.new }
+    ensures { Reads directives_and_any_set_view (steps.directives_and_optional_set (in_file file) depth tokens.old) result tokens.new }
 {
     let directives = optional_directives(alloc, tokens, file, false, depth)?;
     let selections = optional_selection_set(alloc, tokens, file, depth)?;
@@ -73,7 +72,7 @@ fn behind_name(
     ),
     Stop,
 >
-    ensures { Reads (λ x. (option_map (λ v. map (node_tree argument_tree) v.items) x.0, (option_map directives_tree x.1.0, option_map (λ v. selection_trees selection_tree v.items) x.1.1))) (steps.behind_name (in_file file) depth (reading.selection_set (in_file file) depth) tokens.old) result tokens.new }
+    ensures { Reads after_name_view (steps.behind_name (in_file file) depth (reading.selection_set (in_file file) depth) tokens.old) result tokens.new }
 {
     let arguments = optional_arguments(alloc, tokens, file, false, depth)?;
     let behind = directives_and_any_set(alloc, tokens, file, depth)?;
@@ -206,7 +205,7 @@ fn some_selections(
     file: FileId,
     depth: usize,
 ) -> Result<Vec<Selection>, Stop>
-    ensures { Reads (λ v. map selection_tree v.items) (read.some begins.begins_selection (reading.selection (in_file file) depth (reading.selection_set (in_file file) depth)) tokens.old) result tokens.new }
+    ensures { Reads (λ v. map selection_tree v.items) (steps.some_selections (in_file file) depth tokens.old) result tokens.new }
 {
     if !begins_selection(tokens) {
         return Err(Stop::Unexpected);

@@ -1,7 +1,7 @@
 //! What is found of the roots.
-ghost use Rattle.std.specs.Prelude.{◌≡◌, ◌<◌, ℕ, true, false, Contains, MatchOption, IfOk, slice_get, Some};
+ghost use Rattle.std.specs.Prelude.{◌≡◌, ◌<◌, ℕ, true, false, Contains, IfOk, slice_get, Some};
 ghost use Rattle.rule_cycle_search.specs.Graph.{references, AreTooMany, IsDeep};
-ghost use Rattle.rule_cycle_search.specs.Steps.{is_in};
+ghost use Rattle.rule_cycle_search.specs.Steps.{is_in, FindsIn};
 ghost use Rattle.rule_cycle_search.specs.Referrers.{AreReferrers};
 ghost use Rattle.rule_cycle_search.specs.Parts.{IsWhole};
 ghost use Rattle.rule_cycle_search.specs.Found.{Finds, AreFound};
@@ -42,7 +42,7 @@ fn is_long(graph: &Graph, way: &[usize]) -> bool
 
 /// The first of these nodes that is in the part of this center.
 fn first_in(steps: &[Step], center: usize, nodes: &[usize]) -> Option<usize>
-    ensures { MatchOption result ((n : ℕ) → Contains nodes.now n → is_in steps.now center n ≡ false) (λ n. Contains nodes.now n × (is_in steps.now center n ≡ true)) }
+    ensures { FindsIn steps.now center nodes.now result }
 {
     for node in nodes {
         if is_in(steps, center, *node) {

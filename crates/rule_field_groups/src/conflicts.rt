@@ -1,16 +1,16 @@
 //! Conflicts of two fields.
-ghost use Rattle.std.specs.Prelude.{◌≡◌, ◌≤◌, ◌+◌, ◌++◌, ◌∷◌, min, map, take, drop, MatchOption, IfOk, OnOk};
+ghost use Rattle.std.specs.Prelude.{◌≡◌, ◌≤◌, ◌+◌, ◌++◌, ◌∷◌, min, map, take, drop, IfOk, OnOk};
 ghost use Rattle.schema_coordinates.specs.CoordinateView.{attribute_coordinate, argument_coordinate};
 ghost use Rattle.fault_document_data.specs.DocumentBreachView.{value_in_conflict};
 ghost use Rattle.graphql_schema.specs.SchemaOf.{schema_tree};
 ghost use Rattle.rule_definitions.specs.Judged.{judged};
-ghost use Rattle.rule_document_definitions.specs.Merging.{SameShape, SameName, SameNameAndArguments};
-ghost use Rattle.rule_document_definitions.specs.SameValues.{SameArguments, plain_given};
+ghost use Rattle.rule_document_definitions.specs.SameValues.{plain_given};
 ghost use Rattle.rule_document_ground.specs.Broken.{broken_of};
 ghost use Rattle.rule_document_ground.specs.Fields.{field_of, fields_of};
-ghost use Rattle.rule_field_groups.specs.Passes.{TypesConflict, NamesConflict, ArgumentsConflict, SelectionsConflict, Compares, AddsGroup, AddsEach, coordinate_of, coordinate_of_argument, type_conflict, name_conflict, argument_conflict};
+ghost use Rattle.rule_field_groups.specs.Passes.{Compares, AddsGroup, AddsEach, coordinate_of, coordinate_of_argument, type_conflict, name_conflict, argument_conflict};
 ghost use Rattle.rule_field_groups.specs.Compared.{compared, compared_once, greatest_count, CountsUp};
 ghost use Rattle.rule_field_groups.specs.KeyGroups.{parts_of, compared_in};
+ghost use Rattle.rule_field_groups.specs.Conflicts.{ComparesTypes, ComparesNames, ComparesArguments, ComparesSelections};
 
 use crate::groups::KeyGroup;
 use crate::pass::Pass;
@@ -86,7 +86,7 @@ fn conflicting_field_type(
     other: FieldSelection<'_>,
     comparisons: &mut u128,
 ) -> Result<Option<Breach>, AllocError>
-    ensures told { IfOk result (λ r. MatchOption r (SameShape (judged (schema_tree schema.now)) (field_of first.entry) (field_of other.entry)) (λ b. TypesConflict (judged (schema_tree schema.now)) (broken_of b) (field_of first.entry) (field_of other.entry))) }
+    ensures told { IfOk result (λ r. ComparesTypes (judged (schema_tree schema.now)) (field_of first.entry) (field_of other.entry) r) }
     ensures counted { CountsUp comparisons.old 1 comparisons.new }
 {
     count_one(comparisons);
@@ -128,7 +128,7 @@ fn conflicting_field_name(
     first: FieldSelection<'_>,
     other: FieldSelection<'_>,
 ) -> Result<Option<Breach>, AllocError>
-    ensures { IfOk result (λ r. MatchOption r (SameName (field_of first.entry) (field_of other.entry)) (λ b. NamesConflict (broken_of b) (field_of first.entry) (field_of other.entry))) }
+    ensures { IfOk result (λ r. ComparesNames (field_of first.entry) (field_of other.entry) r) }
 {
     if first.field.content().name.as_str() == other.field.content().name.as_str() {
         return Ok(None);
@@ -220,7 +220,7 @@ fn conflicting_field_argument(
     first: FieldSelection<'_>,
     other: FieldSelection<'_>,
 ) -> Result<Option<Breach>, AllocError>
-    ensures { IfOk result (λ r. MatchOption r (SameArguments (field_of first.entry).head.arguments (field_of other.entry).head.arguments) (λ b. ArgumentsConflict (broken_of b) (field_of first.entry) (field_of other.entry))) }
+    ensures { IfOk result (λ r. ComparesArguments (field_of first.entry) (field_of other.entry) r) }
 {
     let given = first.field.content().arguments.as_slice();
     let differing = differing_argument(alloc, given, other.field.content().arguments.as_slice())?;
@@ -236,7 +236,7 @@ fn conflicting_selection(
     first: FieldSelection<'_>,
     other: FieldSelection<'_>,
 ) -> Result<Option<Breach>, AllocError>
-    ensures { IfOk result (λ r. MatchOption r (SameNameAndArguments (field_of first.entry) (field_of other.entry)) (λ b. SelectionsConflict (broken_of b) (field_of first.entry) (field_of other.entry))) }
+    ensures { IfOk result (λ r. ComparesSelections (field_of first.entry) (field_of other.entry) r) }
 {
     match conflicting_field_name(alloc, first, other)? {
         Some(breach) => Ok(Some(breach)),

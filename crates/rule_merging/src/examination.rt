@@ -6,8 +6,8 @@ ghost use Rattle.rule_field_groups.specs.KeyGroups.{parts_of, compared_in};
 ghost use Rattle.rule_field_groups.specs.Under.{sets_in};
 ghost use Rattle.rule_field_groups.specs.Below.{contents_of, meant_at, meant_sets};
 ghost use Rattle.rule_cycle_search.specs.Paths.{HasNoRepeat};
-ghost use Rattle.rule_merging.specs.Remembered.{kept_of};
-ghost use Rattle.rule_merging.specs.Examined.{document_of, HaveFields, ExaminesGroups, ExaminesList, ExaminesFields, ExaminesSets, ExaminesAll, GrowsOver, GrowsBy};
+ghost use Rattle.rule_merging.specs.Examined.{document_of, HaveFields, ExaminesGroups, ExaminesList, ExaminesFields, GrowsOver, GrowsBy};
+ghost use Rattle.rule_merging.specs.OfProgram.{Comes, ExaminesLevel, ExaminesFrom, ExaminesThese};
 
 use crate::remembered::Remembered;
 use document_typed_operations::ExecutableDocument;
@@ -90,7 +90,7 @@ impl<'doc> Examination<'doc> {
         breaches: &mut Vec<Breach>,
         comparisons: &mut u128,
     ) -> Result<(), AllocError>
-        ensures examined { OnOk result (ExaminesFields self.now list.now (kept_of examined.old) (kept_of examined.new) breaches.old breaches.new (sets_in next.old) (sets_in next.new)) }
+        ensures examined { OnOk result (Comes (ExaminesFields self.now list.now) examined.old examined.new breaches.old breaches.new next.old next.new) }
         ensures counted { HasNoRepeat (contents_of list.now) → GrowsBy self.now list.now examined.old examined.new comparisons.old comparisons.new }
     {
         if !examined.remember(list)? {
@@ -108,7 +108,7 @@ impl<'doc> Examination<'doc> {
         breaches: &mut Vec<Breach>,
         comparisons: &mut u128,
     ) -> Result<(), AllocError>
-        ensures examined { OnOk result (ExaminesSets self.now (meant_sets sets.now ∷ []) (kept_of examined.old) (kept_of examined.new) breaches.old breaches.new (sets_in next.old) (sets_in next.new)) }
+        ensures examined { OnOk result (ExaminesThese self.now sets.now examined.old examined.new breaches.old breaches.new next.old next.new) }
         ensures counted { GrowsOver self.now (meant_sets sets.now ∷ []) examined.old examined.new comparisons.old comparisons.new }
     {
         let list = merged_list(*next.allocator(), &self.document.fragments, sets)?;
@@ -127,7 +127,7 @@ impl<'doc> Examination<'doc> {
         breaches: &mut Vec<Breach>,
         comparisons: &mut u128,
     ) -> Result<(), AllocError>
-        ensures examined { OnOk result (ExaminesSets self.now (meant_sets sets.now ∷ []) (kept_of examined.old) (kept_of examined.new) breaches.old breaches.new (sets_in next.old) (sets_in next.new)) }
+        ensures examined { OnOk result (ExaminesThese self.now sets.now examined.old examined.new breaches.old breaches.new next.old next.new) }
         ensures counted { GrowsOver self.now (meant_sets sets.now ∷ []) examined.old examined.new comparisons.old comparisons.new }
     {
         if examined.skips(sets) {
@@ -145,7 +145,7 @@ impl<'doc> Examination<'doc> {
         breaches: &mut Vec<Breach>,
         comparisons: &mut u128,
     ) -> Result<(), AllocError>
-        ensures examined { OnOk result (ExaminesSets self.now (meant_sets sets.now ∷ []) (kept_of examined.old) (kept_of examined.new) breaches.old breaches.new (sets_in next.old) (sets_in next.new)) }
+        ensures examined { OnOk result (ExaminesThese self.now sets.now examined.old examined.new breaches.old breaches.new next.old next.new) }
         ensures counted { GrowsOver self.now (meant_sets sets.now ∷ []) examined.old examined.new comparisons.old comparisons.new }
     {
         let is_known = examined.has_expanded(sets)?;
@@ -165,7 +165,7 @@ impl<'doc> Examination<'doc> {
         breaches: &mut Vec<Breach>,
         comparisons: &mut u128,
     ) -> Result<Vec<Vec<SelectedSet<'doc>>>, AllocError>
-        ensures examined { IfOk result (λ next. ExaminesSets self.now (map (λ v. meant_sets v.items) level.now) (kept_of examined.old) (kept_of examined.new) breaches.old breaches.new [] (sets_in next)) }
+        ensures examined { IfOk result (λ next. ExaminesLevel self.now level.now examined.old examined.new breaches.old breaches.new next) }
         ensures counted { GrowsOver self.now (map (λ v. meant_sets v.items) level.now) examined.old examined.new comparisons.old comparisons.new }
     {
         let mut next = Vec::new(*breaches.allocator());
@@ -200,7 +200,7 @@ impl<'doc> Examination<'doc> {
         breaches: &mut Vec<Breach>,
         comparisons: &mut u128,
     ) -> Result<bool, AllocError>
-        ensures examined { IfOk result (λ left. ExaminesAll self.now (meant_at start.entry) (kept_of examined.old) (kept_of examined.new) breaches.old breaches.new left) }
+        ensures examined { IfOk result (λ left. ExaminesFrom self.now start.entry examined.old examined.new breaches.old breaches.new left) }
         ensures counted { GrowsOver self.now ((meant_at start.entry ∷ []) ∷ []) examined.old examined.new comparisons.old comparisons.new }
     {
         let alloc = *breaches.allocator();

@@ -7,6 +7,7 @@ ghost use Rattle.rule_definitions.specs.Judged.{judged};
 ghost use Rattle.document_typing.specs.in_schema.SchemaOf.{schema_tree};
 ghost use Rattle.document_typing.specs.DocumentView.{document_meant, operation_meant};
 ghost use Rattle.rule_merging.specs.Merged.{AreSettledIf, limit_told, conflicts_told};
+ghost use Rattle.rule_merging.specs.OfProgram.{AddsDetails};
 
 use crate::operation::{Examined, examine_operation};
 use crate::told::append_breaches;
@@ -143,7 +144,7 @@ fn append_conflicts(
     breaches: Vec<Breach>,
     left: bool,
 ) -> Result<(), AllocError>
-    ensures added { OnOk result (diagnostics_of list.new ≡ diagnostics_of list.old ++ map of_document (conflicts_told (brokens_of breaches) (operation_meant operation.now).place left)) }
+    ensures added { OnOk result (AddsDetails list.old list.new (conflicts_told (brokens_of breaches) (operation_meant operation.now).place left)) }
     ensures begins { OnErr result (BeginsAs (diagnostics_of list.old) (diagnostics_of list.new)) }
 {
     append_breaches(list, breaches)?;

@@ -3,10 +3,10 @@ ghost use Rattle.std.specs.Prelude.{◌≡◌, ◌<◌, ◌∷◌, [], length, I
 ghost use Rattle.std.specs.Str.{bytes_eq};
 ghost use Rattle.rule_field_groups.specs.Grouped.{key_of};
 ghost use Rattle.rule_field_groups.specs.Below.{meant_sets};
-ghost use Rattle.rule_field_groups.specs.Under.{sets_in};
-ghost use Rattle.rule_merging.specs.Remembered.{kept_of, two_of};
-ghost use Rattle.rule_merging.specs.Twos.{are_two, are_of, IsListOf, PairsFields, GrowsByTwo};
-ghost use Rattle.rule_merging.specs.Examined.{ExaminesPair, ExaminesPairs, ExaminesSets, GrowsOver, GrowsHere};
+ghost use Rattle.rule_merging.specs.Remembered.{two_of};
+ghost use Rattle.rule_merging.specs.Twos.{are_two, are_of, IsListOf, GrowsByTwo};
+ghost use Rattle.rule_merging.specs.Examined.{ExaminesPair, ExaminesPairs, GrowsOver, GrowsHere};
+ghost use Rattle.rule_merging.specs.OfProgram.{Comes, ExaminesThese, PairsOf};
 
 use crate::examination::Examination;
 use crate::remembered::{Pair, Remembered};
@@ -54,7 +54,7 @@ impl<'doc> Examination<'doc> {
         breaches: &mut Vec<Breach>,
         comparisons: &mut u128,
     ) -> Result<(), AllocError>
-        ensures examined { OnOk result (PairsFields self.now (are_two one.entry other.entry) (kept_of examined.old) (kept_of examined.new) breaches.old breaches.new (sets_in next.old) (sets_in next.new)) }
+        ensures examined { OnOk result (PairsOf self.now (are_two one.entry other.entry) examined.old examined.new breaches.old breaches.new next.old next.new) }
         ensures counted { GrowsByTwo self.now (are_two one.entry other.entry) examined.old examined.new comparisons.old comparisons.new }
     {
         if !have_one_key(one, other) {
@@ -77,7 +77,7 @@ impl<'doc> Examination<'doc> {
         breaches: &mut Vec<Breach>,
         comparisons: &mut u128,
     ) -> Result<(), AllocError>
-        ensures examined { OnOk result (PairsFields self.now (are_of (one.entry ∷ []) others.now) (kept_of examined.old) (kept_of examined.new) breaches.old breaches.new (sets_in next.old) (sets_in next.new)) }
+        ensures examined { OnOk result (PairsOf self.now (are_of (one.entry ∷ []) others.now) examined.old examined.new breaches.old breaches.new next.old next.new) }
         ensures counted { GrowsByTwo self.now (are_of (one.entry ∷ []) others.now) examined.old examined.new comparisons.old comparisons.new }
     {
         for other in others {
@@ -97,7 +97,7 @@ impl<'doc> Examination<'doc> {
         breaches: &mut Vec<Breach>,
         comparisons: &mut u128,
     ) -> Result<(), AllocError>
-        ensures examined { OnOk result (PairsFields self.now (are_of ones.now others.now) (kept_of examined.old) (kept_of examined.new) breaches.old breaches.new (sets_in next.old) (sets_in next.new)) }
+        ensures examined { OnOk result (PairsOf self.now (are_of ones.now others.now) examined.old examined.new breaches.old breaches.new next.old next.new) }
         ensures counted { GrowsByTwo self.now (are_of ones.now others.now) examined.old examined.new comparisons.old comparisons.new }
     {
         let told = breaches.len();
@@ -119,7 +119,7 @@ impl<'doc> Examination<'doc> {
         breaches: &mut Vec<Breach>,
         comparisons: &mut u128,
     ) -> Result<(), AllocError>
-        ensures examined { OnOk result (ExaminesPair self.now (two_of pair.entry) (kept_of examined.old) (kept_of examined.new) breaches.old breaches.new (sets_in next.old) (sets_in next.new)) }
+        ensures examined { OnOk result (Comes (ExaminesPair self.now (two_of pair.entry)) examined.old examined.new breaches.old breaches.new next.old next.new) }
         ensures counted { GrowsOver self.now (two_of pair.entry ∷ []) examined.old examined.new comparisons.old comparisons.new }
     {
         let alloc = *breaches.allocator();
@@ -141,7 +141,7 @@ impl<'doc> Examination<'doc> {
         breaches: &mut Vec<Breach>,
         comparisons: &mut u128,
     ) -> Result<(), AllocError>
-        ensures examined { OnOk result (ExaminesPairs self.now (kept_of examined.old) (kept_of examined.new) breaches.old breaches.new (sets_in next.old) (sets_in next.new)) }
+        ensures examined { OnOk result (Comes (ExaminesPairs self.now) examined.old examined.new breaches.old breaches.new next.old next.new) }
         ensures counted { GrowsHere self.now examined.old examined.new comparisons.old comparisons.new }
     {
         let told = breaches.len();
@@ -166,7 +166,7 @@ impl<'doc> Examination<'doc> {
         breaches: &mut Vec<Breach>,
         comparisons: &mut u128,
     ) -> Result<(), AllocError>
-        ensures examined { OnOk result (ExaminesSets self.now (meant_sets sets.now ∷ []) (kept_of examined.old) (kept_of examined.new) breaches.old breaches.new (sets_in next.old) (sets_in next.new)) }
+        ensures examined { OnOk result (ExaminesThese self.now sets.now examined.old examined.new breaches.old breaches.new next.old next.new) }
         ensures counted { GrowsOver self.now (meant_sets sets.now ∷ []) examined.old examined.new comparisons.old comparisons.new }
     {
         examined.look_at_twos(sets)?;

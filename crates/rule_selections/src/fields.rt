@@ -8,11 +8,9 @@ ghost use Rattle.graphql_schema.specs.SchemaOf.{schema_tree};
 ghost use Rattle.fault_data.specs.FaultView.{fault_of};
 ghost use Rattle.fault_data.specs.Adds.{Adds};
 ghost use Rattle.rule_definitions.specs.Judged.{judged};
-ghost use Rattle.rule_definitions.specs.Uses.{TakerBreaks};
 ghost use Rattle.rule_values.specs.Wanting.{variables_of};
-ghost use Rattle.rule_document_definitions.specs.Selections.{field_taker};
-ghost use Rattle.rule_document_definitions.specs.Told.{place_or_built_in, places_in};
-ghost use Rattle.rule_selections.specs.Steps.{standing_field, missing_subselection, without_subselection, IsDefined, FieldBreaks};
+ghost use Rattle.rule_selections.specs.Steps.{standing_field, missing_subselection, without_subselection};
+ghost use Rattle.rule_selections.specs.Telling.{AddsTaken, AddsOfField};
 
 use document_typed_selections::Field;
 use graphql_names::{Name, Node};
@@ -98,7 +96,7 @@ fn check_defined(
     variables: &DefinedVariables<'_>,
     faults: &mut Vec<Fault>,
 ) -> Result<(), AllocError>
-    ensures { OnOk result (IsDefined (schema_tree schema.now) (standing_field parent.now field.now) → Adds faults.old faults.new (TakerBreaks (place_or_built_in (schema_tree schema.now)) (judged (schema_tree schema.now)) (variables_of variables.now) (field_taker (places_in (schema_tree schema.now)) (standing_field parent.now field.now)))) }
+    ensures { OnOk result (AddsTaken (schema_tree schema.now) (variables_of variables.now) (standing_field parent.now field.now) faults.old faults.new) }
 {
     let selected = field.content();
     if is_without_arguments(selected) {
@@ -125,7 +123,7 @@ pub(crate) fn check_field(
     variables: &DefinedVariables<'_>,
     faults: &mut Vec<Fault>,
 ) -> Result<(), AllocError>
-    ensures { OnOk result (IsDefined (schema_tree schema.now) (standing_field parent.now field.now) → Adds faults.old faults.new (FieldBreaks (schema_tree schema.now) (variables_of variables.now) (standing_field parent.now field.now))) }
+    ensures { OnOk result (AddsOfField (schema_tree schema.now) (variables_of variables.now) (standing_field parent.now field.now) faults.old faults.new) }
 {
     tell(faults, missing_subselection(schema, parent, field)?)?;
     check_given(&field.content().arguments, variables, faults)?;
