@@ -71,6 +71,7 @@ pub fn read_text<R: Read>(alloc: Global, device: &mut Device<R>) -> Result<Strin
     ensures fault { IfErr result (IsTextFault R.remaining device.old device.new) }
     ensures running { OnOk result (device_failed device.new ≡ device_failed device.old) }
 {
+    // Decoded only when all bytes are there: a chunk may end amid a character.
     let bytes = read_bytes(alloc, device)?;
     match String::from_utf8(bytes) {
         Ok(text) => Ok(text),

@@ -48,6 +48,7 @@ pub fn schema_of_texts(texts: SchemaTexts) -> Result<JudgedTexts, Refusal>
     ensures schema { IfOk result (λ s. IsCheckedSchemaOf (terms_of texts) (texts_of texts) (judged_value s)) }
     ensures refused { IfErr result (RefusalOfSchemas (terms_of texts) (texts_of texts)) }
 {
+    // What is not read may define anything, so no rule is judged without it.
     if !texts.unread.is_empty() {
         return Err(Refusal::Faults(texts.unread));
     }
@@ -101,6 +102,7 @@ fn build(alloc: Global, builder: SchemaBuilder) -> Result<(Schema, DiagnosticLis
     match builder.build() {
         Ok((schema, errors)) => Ok((schema, schema_errors(alloc, errors)?)),
         Err(BuilderRefusal::Memory) => Err(AllocError),
+        // Numbers are asked for where definitions are added, and this builder has not failed.
         Err(BuilderRefusal::Spent | BuilderRefusal::Failed) => unreachable!(),
     }
 }
@@ -113,6 +115,7 @@ fn built(alloc: Global, builder: SchemaBuilder) -> Result<Schema, Refusal>
     ensures refused { IfErr result (RefusalOfFolding (builder_value builder)) }
 {
     let (schema, faults) = build(alloc, builder)?;
+    // The rules on schemas are about a whole fold: where that is wrong they are not judged.
     if !faults.is_empty() {
         return Err(Refusal::Faults(faults));
     }
@@ -142,6 +145,7 @@ fn judge(alloc: Global, builder: SchemaBuilder) -> Result<(Schema, Document), Re
     ensures refused { IfErr result (RefusalOfBuilder (builder_value builder)) }
 {
     let mut schema = built(alloc, builder)?;
+    // Before it is validated: that drops unused built-in scalars, also one that a text extends.
     let written = schema.to_ast(alloc)?;
     validate(alloc, &mut schema)?;
     Ok((schema, written))

@@ -26,6 +26,7 @@ pub struct Settings {
     pub nesting: usize,
 }
 
+// Not derived: a derived drop is proved again in each crate that drops one.
 impl Drop for Settings {
     fn drop(self) {
         let Settings {
@@ -57,6 +58,7 @@ impl Settings {
 fn read_settings(alloc: Global, matches: &ArgMatches<'_>) -> Result<Settings, AllocError>
     ensures { IfOk result (IsTakenFrom (found_of matches.now)) }
 {
+    // The document is required, so `clap` gives one: the empty path is never taken.
     Ok(Settings {
         document: String::from_str(alloc, matches.get_str("DOCUMENT").unwrap_or(""))?,
         schemas: read_schemas(alloc, matches)?,
@@ -84,6 +86,7 @@ fn layout_named(name: Option<&str>) -> Layout<'static>
         Some("two") => Layout::Indented("  "),
         Some("four") => Layout::Indented("    "),
         Some("tab") => Layout::Indented("\t"),
+        // No option, or `line`: other words are refused by `clap`.
         _ => Layout::OneLine,
     }
 }

@@ -65,6 +65,7 @@ fn syntax(file: FileId, fault: SyntaxFault) -> Unread
 }
 
 /// One bracket too many is open, from this one on.
+// `text` is for the contract alone: the place is within it.
 fn nesting(text: &str, file: FileId, offset: usize) -> Unread
     requires { offset < length text.now }
     ensures { TellsUnread file.0 (faults.Nesting offset) result }

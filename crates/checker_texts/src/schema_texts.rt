@@ -44,6 +44,7 @@ impl SchemaTexts {
         ensures texts { texts_of result ≡ [] }
         ensures reading { IsReadingOf [] result }
     {
+        // Asking takes the number, so the count begins at it again.
         let first = next_number(files);
         SchemaTexts {
             alloc,
@@ -105,6 +106,7 @@ impl SchemaTexts {
         ensures reading { OnOk result ((text : List ℕ) → ReadsText file.0 text (document_tree document) → (NestingBound self.old.nesting text → ⊥)
             → sources_of document ≡ (file.0, unnamed_source text) ∷ [] → IsReadingOf (texts_of self.old ++ text ∷ []) self.new) }
     {
+        // The texts are refused by now: only faults are of use.
         if !self.unread.is_empty() {
             return Ok(());
         }

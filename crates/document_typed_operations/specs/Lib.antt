@@ -2,4 +2,5 @@ pub mod TypedDocument
 pub mod PlainDocument
 pub mod OperationsByName
 pub mod ToAst
+pub mod Writing
 pub mod Lent

@@ -23,6 +23,7 @@ pub struct ExecutableDocument {
     pub fragments: FragmentMap,
 }
 
+// Not derived: a derived drop is proved again in each crate that drops one.
 impl Drop for ExecutableDocument {
     fn drop(self) {
         let ExecutableDocument {
@@ -42,6 +43,7 @@ pub struct FieldSet {
     pub selection_set: SelectionSet,
 }
 
+// Not derived: a derived drop is proved again in each crate that drops one.
 impl Drop for FieldSet {
     fn drop(self) {
         let FieldSet {

@@ -23,6 +23,7 @@ pub struct Operation {
     pub selection_set: SelectionSet,
 }
 
+// Not derived: a derived drop is proved again in each crate that drops one.
 impl Drop for Operation {
     fn drop(self) {
         let Operation {
@@ -43,6 +44,7 @@ pub struct Fragment {
     pub selection_set: SelectionSet,
 }
 
+// Not derived: a derived drop is proved again in each crate that drops one.
 impl Drop for Fragment {
     fn drop(self) {
         let Fragment {

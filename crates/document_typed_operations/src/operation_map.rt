@@ -59,6 +59,7 @@ impl OperationEntry for Node<Operation> {
     ghost tree_of = { node_tree typed_operation_tree };
 }
 
+// Not derived: a derived drop is proved again in each crate that drops one.
 impl<K: Eq + Hash + Drop, O: Drop> Drop for OperationMap<K, O> {
     fn drop(self) {
         let OperationMap {

@@ -1,14 +1,11 @@
 //! Selections as they are written: without definitions and types. What copies is not inlined, so that it takes no stack at each
 //! level of selections.
 ghost use Rattle.std.specs.Prelude.{◌≡◌, IfOk};
-ghost use Rattle.std.specs.Option.{option_map};
-ghost use Rattle.graphql_names.specs.Node.{content, place};
-ghost use Rattle.graphql_names.specs.Placed.{name_tree};
-ghost use Rattle.tree_directives.specs.DirectiveTree.{directives_tree};
-ghost use Rattle.tree_operations.specs.SelectionTree.{selection_tree, selection_trees, FieldTree, InlineTree};
+ghost use Rattle.tree_operations.specs.SelectionTree.{selection_tree, selection_trees};
 ghost use Rattle.document_typed_selections.specs.TypedTree.{typed_selection_tree, typed_set_tree};
-ghost use Rattle.document_typed_selections.specs.TypedParts.{typed_head, typed_field_node, typed_spread_node, typed_inline_node};
+ghost use Rattle.document_typed_selections.specs.TypedParts.{typed_field_node, typed_spread_node, typed_inline_node};
 ghost use Rattle.document_typed_operations.specs.ToAst.{ast_selection, ast_set};
+ghost use Rattle.document_typed_operations.specs.Writing.{field_with, inline_with};
 
 use crate::written_node::{node_at, push_made};
 use document_typed_selections::{Field, FragmentSpread, InlineFragment, Selection, SelectionSet};
@@ -27,6 +24,7 @@ pub(crate) fn set_to_ast(
 {
     let mut written = Vec::new(alloc);
     for selection in &set.selections {
+        // Both `?` are in the helper, so that none stands here with the list and a selection owned.
         push_made(&mut written, selection_to_ast(alloc, selection))?;
     }
     Ok(written)
@@ -61,7 +59,7 @@ fn field_with(
     node: &Node<Field>,
     selection_set: Vec<ast::Selection>,
 ) -> Result<ast::Selection, AllocError>
-    ensures { IfOk result (λ s. selection_tree s ≡ FieldTree (place node.now) (typed_head (content node.now)) (selection_trees selection_tree selection_set.items)) }
+    ensures { IfOk result (λ s. selection_tree s ≡ field_with node.now selection_set) }
 {
     let field = node.content();
     let (alias, name, arguments, directives) = copies_of_four(
@@ -96,7 +94,7 @@ fn inline_with(
     node: &Node<InlineFragment>,
     selection_set: Vec<ast::Selection>,
 ) -> Result<ast::Selection, AllocError>
-    ensures { IfOk result (λ s. selection_tree s ≡ InlineTree (place node.now) (option_map name_tree (content node.now).type_condition) (directives_tree (content node.now).directives) (selection_trees selection_tree selection_set.items)) }
+    ensures { IfOk result (λ s. selection_tree s ≡ inline_with node.now selection_set) }
 {
     let inline = node.content();
     let (type_condition, directives) = copies_of_two(&inline.type_condition, &inline.directives)?;

@@ -1,9 +1,10 @@
 //! Documents as they are written: without definitions and types.
-ghost use Rattle.std.specs.Prelude.{◌≡◌, ◌++◌, [], map, option_to_list, IfOk, OnOk};
+ghost use Rattle.std.specs.Prelude.{◌≡◌, [], option_to_list, IfOk, OnOk};
 ghost use Rattle.graphql_names.specs.Placed.{node_tree};
 ghost use Rattle.tree_definitions.specs.DefinitionTree.{definition_tree, document_tree};
 ghost use Rattle.document_typed_operations.specs.TypedDocument.{typed_operation_tree, typed_fragment_tree, typed_document_tree};
 ghost use Rattle.document_typed_operations.specs.ToAst.{ast_operation, ast_fragment, ast_document};
+ghost use Rattle.document_typed_operations.specs.Writing.{Writes, written_operations, written_fragments};
 
 use crate::document::ExecutableDocument;
 use crate::operation::{Fragment, Operation};
@@ -34,7 +35,7 @@ fn write_definitions(
     document: &ExecutableDocument,
     out: &mut Vec<Definition>,
 ) -> Result<(), AllocError>
-    ensures { OnOk result (map definition_tree out.new.items ≡ map definition_tree out.old.items ++ ast_document (typed_document_tree document.now)) }
+    ensures { OnOk result (Writes out.old out.new (ast_document (typed_document_tree document.now))) }
 {
     write_anonymous(alloc, &document.operations.anonymous, out)?;
     let named = document.operations.named.values();
@@ -50,7 +51,7 @@ fn write_anonymous(
     anonymous: &Option<Node<Operation>>,
     out: &mut Vec<Definition>,
 ) -> Result<(), AllocError>
-    ensures { OnOk result (map definition_tree out.new.items ≡ map definition_tree out.old.items ++ map (λ n. ast_operation (node_tree typed_operation_tree n)) (option_to_list anonymous.now)) }
+    ensures { OnOk result (Writes out.old out.new (written_operations (option_to_list anonymous.now))) }
 {
     match anonymous {
         None => Ok(()),
@@ -67,7 +68,7 @@ fn write_operations(
     operations: &[Node<Operation>],
     out: &mut Vec<Definition>,
 ) -> Result<(), AllocError>
-    ensures { OnOk result (map definition_tree out.new.items ≡ map definition_tree out.old.items ++ map (λ n. ast_operation (node_tree typed_operation_tree n)) operations.now) }
+    ensures { OnOk result (Writes out.old out.new (written_operations operations.now)) }
 {
     for operation in operations {
         push_made(out, operation_to_ast(alloc, operation))?;
@@ -81,7 +82,7 @@ fn write_fragments(
     fragments: &[Node<Fragment>],
     out: &mut Vec<Definition>,
 ) -> Result<(), AllocError>
-    ensures { OnOk result (map definition_tree out.new.items ≡ map definition_tree out.old.items ++ map (λ n. ast_fragment (node_tree typed_fragment_tree n)) fragments.now) }
+    ensures { OnOk result (Writes out.old out.new (written_fragments fragments.now)) }
 {
     for fragment in fragments {
         push_made(out, fragment_to_ast(alloc, fragment))?;

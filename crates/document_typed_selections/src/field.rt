@@ -59,6 +59,7 @@ impl Field {
     pub fn with_argument(self, name: Name, value: Node<Value>) -> Result<Field, AllocError>
         ensures { IfOk result (λ f. typed_field None f ≡ and_arguments (new_argument (name_tree name) (node_tree value_tree value) ∷ []) (typed_field None self)) }
     {
+        // Memory comes from where the field's own list has it, as the call is given none.
         let argument = Node::new(*self.arguments.allocator(), Argument { name, value })?;
         self.and_argument(argument)
     }

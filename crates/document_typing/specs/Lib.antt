@@ -12,6 +12,7 @@ pub mod MeaningView
 pub mod SetView
 pub mod SetFaults
 pub mod DefinedField
+pub mod Telling
 pub mod Steps
 pub mod DocumentView
 pub mod StepsView

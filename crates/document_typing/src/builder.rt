@@ -15,6 +15,7 @@ ghost use Rattle.document_typing.specs.BuilderView.{document_builder, empty_buil
 
 use crate::document::type_document;
 use crate::refusal::BuilderRefusal;
+use crate::typing::Typing;
 use document_typed_operations::ExecutableDocument;
 use fault_document_data::BuildError;
 use graphql_names::{FileId, SourceSpan};
@@ -65,6 +66,7 @@ impl<'schema> ExecutableDocumentBuilder<'schema> {
         match add_document(&mut self.definitions, &mut self.sources, document) {
             Ok(()) => Ok(()),
             Err(_) => {
+                // The list may now end amid a document, so nothing is added or built any more.
                 self.failed = true;
                 Err(BuilderRefusal::Memory)
             }
@@ -89,7 +91,11 @@ impl<'schema> ExecutableDocumentBuilder<'schema> {
         if self.failed {
             return Err(BuilderRefusal::Failed);
         }
-        let typed = type_document(self.alloc, self.schema, &self.definitions)?;
+        let typing = Typing {
+            alloc: self.alloc,
+            schema: self.schema,
+        };
+        let typed = type_document(&typing, &self.definitions)?;
         let document = ExecutableDocument {
             sources: self.sources,
             operations: typed.operations,

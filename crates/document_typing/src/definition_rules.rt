@@ -1,9 +1,9 @@
 //! Rules of typing on definitions: each tells where it is broken.
-ghost use Rattle.std.specs.Prelude.{◌≡◌, ◌++◌, [], ◌∷◌, OnOk};
+ghost use Rattle.std.specs.Prelude.{OnOk};
 ghost use Rattle.fault_document_data.specs.DocumentBreaches as breach;
 ghost use Rattle.document_typing.specs.TypingFaults.{typing_fault_at};
 ghost use Rattle.document_typing.specs.Steps.{faults_if};
-ghost use Rattle.document_typing.specs.FaultView.{faults_of};
+ghost use Rattle.document_typing.specs.Telling.{Tells, TellsOne};
 
 use crate::rules::tell;
 use fault_document_data::BuildError;
@@ -17,7 +17,7 @@ pub(crate) fn type_system_definition(
     location: Option<SourceSpan>,
     faults: &mut Vec<(Option<SourceSpan>, BuildError)>,
 ) -> Result<(), AllocError>
-    ensures { OnOk result (faults_of faults.new ≡ faults_of faults.old ++ typing_fault_at location breach.TypeSystemDefinition ∷ []) }
+    ensures { OnOk result (TellsOne faults.old faults.new location breach.TypeSystemDefinition) }
 {
     tell(location, BuildError::TypeSystemDefinition, faults)
 }
@@ -28,7 +28,7 @@ pub(crate) fn ambiguous_anonymous_operation(
     location: Option<SourceSpan>,
     faults: &mut Vec<(Option<SourceSpan>, BuildError)>,
 ) -> Result<(), AllocError>
-    ensures { OnOk result (faults_of faults.new ≡ faults_of faults.old ++ typing_fault_at location breach.AmbiguousAnonymousOperation ∷ []) }
+    ensures { OnOk result (TellsOne faults.old faults.new location breach.AmbiguousAnonymousOperation) }
 {
     tell(location, BuildError::AmbiguousAnonymousOperation, faults)
 }
@@ -40,7 +40,7 @@ pub(crate) fn undefined_root_operation(
     operation_type: OperationType,
     faults: &mut Vec<(Option<SourceSpan>, BuildError)>,
 ) -> Result<(), AllocError>
-    ensures { OnOk result (faults_of faults.new ≡ faults_of faults.old ++ typing_fault_at location (breach.UndefinedRootOperation operation_type) ∷ []) }
+    ensures { OnOk result (TellsOne faults.old faults.new location (breach.UndefinedRootOperation operation_type)) }
 {
     tell(
         location,
@@ -57,7 +57,7 @@ pub(crate) fn operation_name_collision(
     name: &Name,
     faults: &mut Vec<(Option<SourceSpan>, BuildError)>,
 ) -> Result<(), AllocError>
-    ensures { OnOk result (faults_of faults.new ≡ faults_of faults.old ++ faults_if is_known (typing_fault_at location (breach.OperationNameCollision name.now.text))) }
+    ensures { OnOk result (Tells faults.old faults.new (faults_if is_known (typing_fault_at location (breach.OperationNameCollision name.now.text)))) }
 {
     if !is_known {
         return Ok(());
@@ -78,7 +78,7 @@ pub(crate) fn fragment_name_collision(
     name: &Name,
     faults: &mut Vec<(Option<SourceSpan>, BuildError)>,
 ) -> Result<(), AllocError>
-    ensures { OnOk result (faults_of faults.new ≡ faults_of faults.old ++ faults_if is_known (typing_fault_at location (breach.FragmentNameCollision name.now.text))) }
+    ensures { OnOk result (Tells faults.old faults.new (faults_if is_known (typing_fault_at location (breach.FragmentNameCollision name.now.text)))) }
 {
     if !is_known {
         return Ok(());
@@ -94,7 +94,7 @@ pub(crate) fn undefined_type_in_named_fragment_type_condition(
     type_name: &Name,
     faults: &mut Vec<(Option<SourceSpan>, BuildError)>,
 ) -> Result<(), AllocError>
-    ensures { OnOk result (faults_of faults.new ≡ faults_of faults.old ++ typing_fault_at location (breach.UndefinedTypeInNamedFragmentTypeCondition type_name.now.text) ∷ []) }
+    ensures { OnOk result (TellsOne faults.old faults.new location (breach.UndefinedTypeInNamedFragmentTypeCondition type_name.now.text)) }
 {
     let type_name = type_name.clone()?;
     tell(

@@ -1,21 +1,17 @@
 //! Typing of the definitions of a document.
-ghost use Rattle.std.specs.Prelude.{◌≡◌, ◌++◌, [], map, Option, None, IfOk, OnOk, nat_lt, length};
+ghost use Rattle.std.specs.Prelude.{◌≡◌, [], map, Option, None, IfOk, OnOk, nat_lt, length};
 ghost use Rattle.std.specs.List.{filter};
-ghost use Rattle.std.specs.Option.{option_map};
-ghost use Rattle.graphql_names.specs.Node.{content, place};
-ghost use Rattle.graphql_names.specs.Placed.{Place, name_tree};
-ghost use Rattle.tree_operations.specs.OperationTree.{operation_tree, fragment_tree};
+ghost use Rattle.graphql_names.specs.Node.{content};
+ghost use Rattle.graphql_names.specs.Placed.{Place};
 ghost use Rattle.tree_definitions.specs.DefinitionTree.{definition_tree};
 ghost use Rattle.schema_types.specs.SchemaTree.{SchemaTree};
 ghost use Rattle.document_typed_selections.specs.TypedTree.{typed_set_tree};
 ghost use Rattle.document_typing.specs.DocumentView.{operation_meant};
-ghost use Rattle.document_typing.specs.KeptDocument.{meant_operation, meant_fragment, is_operation};
-ghost use Rattle.document_typing.specs.SetFaults.{set_faults};
-ghost use Rattle.document_typing.specs.Steps.{told, based, is_known, name_faults, and_operation, and_fragment, and_definition, typed_in};
-ghost use Rattle.document_typing.specs.StepsView.{fragment_meaning, typed_view, kept_tree};
-ghost use Rattle.document_typing.specs.FaultView.{faults_of};
+ghost use Rattle.document_typing.specs.KeptDocument.{is_operation};
+ghost use Rattle.document_typing.specs.Steps.{is_known, and_definition, typed_in};
+ghost use Rattle.document_typing.specs.StepsView.{fragment_meaning, typed_view, kept_tree, meant_on_root, faults_on_root, meant_on_condition, faults_on_condition, own_name, TellsName, AddsOperation, AddsFragment, StaysDefined};
+ghost use Rattle.document_typing.specs.Telling.{schema_for, meanings_for, Tells};
 ghost use Rattle.document_typing.specs.DefinedByPlace.{IsDefinedSet, IsDefinedDocument};
-ghost use Rattle.document_typing.specs.MeaningView.{schema_under, meanings_under};
 
 use crate::definition_rules::{
     ambiguous_anonymous_operation, fragment_name_collision, operation_name_collision,
@@ -24,10 +20,10 @@ use crate::definition_rules::{
 };
 use crate::look_ups::{has_type, root_of};
 use crate::selections::type_set;
+use crate::typing::Typing;
 use document_typed_operations::{Fragment, FragmentMap, Operation, OperationMap};
 use fault_document_data::BuildError;
 use graphql_names::{Name, Node, SourceSpan};
-use graphql_schema::Schema;
 use std::alloc::{AllocError, Global};
 use tree_copies::{copies_of_three, copies_of_two};
 use tree_definitions::Definition;
@@ -49,6 +45,7 @@ fn is_operation(definition: &Definition) -> bool
 }
 
 /// Whether there are two operations or more.
+// A loop: `filter` and `count` would cost more to prove.
 fn has_two_operations(definitions: &[Definition]) -> bool
     ensures { result ≡ nat_lt 1 (length (filter is_operation (map definition_tree definitions.now))) }
 {
@@ -66,18 +63,18 @@ fn has_two_operations(definitions: &[Definition]) -> bool
 
 /// The operation with its meaning, on this root. It shares variables and directives with the tree.
 fn typed_operation(
-    alloc: Global,
-    schema: Option<&Schema>,
+    typing: &Typing<'_>,
     root: &Name,
     operation: &Node<OperationDefinition>,
     faults: &mut Vec<(Option<SourceSpan>, BuildError)>,
 ) -> Result<Node<Operation>, AllocError>
-    ensures kept { IfOk result (λ n. operation_meant n ≡ meant_operation (meanings_under schema.entry) (based (place operation.now) root.now.text (operation_tree (content operation.now)))) }
-    ensures defined { IfOk result (λ n. IsDefinedSet (schema_under schema.entry) (typed_set_tree (content n).selection_set)) }
-    ensures faults { OnOk result (faults_of faults.new ≡ faults_of faults.old ++ set_faults (meanings_under schema.entry) (operation_tree (content operation.now)).selections root.now.text) }
+    ensures kept { IfOk result (λ n. operation_meant n ≡ meant_on_root typing.now.schema root.now operation.now) }
+    ensures defined { IfOk result (λ n. IsDefinedSet (schema_for typing.now) (typed_set_tree (content n).selection_set)) }
+    ensures faults { OnOk result (Tells faults.old faults.new (faults_on_root typing.now.schema root.now operation.now)) }
 {
     let tree = operation.content();
-    let set = type_set(alloc, schema, root, &tree.selection_set, faults)?;
+    let set = type_set(typing, root, &tree.selection_set, faults)?;
+    // One `?` for the three copies: each `?` is proved to let go of all that is owned before it.
     let (name, variables, directives) = copies_of_three(
         &tree.name,
         &tree.variables,
@@ -90,35 +87,28 @@ fn typed_operation(
         directives,
         selection_set: set,
     };
-    Ok(operation.same_location(alloc, typed)?)
+    Ok(operation.same_location(typing.alloc, typed)?)
 }
 
 /// The fragment with its meaning, on the type of its condition. It shares directives with the tree.
 fn typed_fragment(
-    alloc: Global,
-    schema: Option<&Schema>,
+    typing: &Typing<'_>,
     fragment: &Node<FragmentDefinition>,
     faults: &mut Vec<(Option<SourceSpan>, BuildError)>,
 ) -> Result<Node<Fragment>, AllocError>
-    ensures kept { IfOk result (λ n. fragment_meaning n ≡ meant_fragment (meanings_under schema.entry) (record { place = place fragment.now; base = (content fragment.now).type_condition.text; it = fragment_tree (content fragment.now) })) }
-    ensures defined { IfOk result (λ n. IsDefinedSet (schema_under schema.entry) (typed_set_tree (content n).selection_set)) }
-    ensures faults { OnOk result (faults_of faults.new ≡ faults_of faults.old ++ set_faults (meanings_under schema.entry) (fragment_tree (content fragment.now)).selections (content fragment.now).type_condition.text) }
+    ensures kept { IfOk result (λ n. fragment_meaning n ≡ meant_on_condition typing.now.schema fragment.now) }
+    ensures defined { IfOk result (λ n. IsDefinedSet (schema_for typing.now) (typed_set_tree (content n).selection_set)) }
+    ensures faults { OnOk result (Tells faults.old faults.new (faults_on_condition typing.now.schema fragment.now)) }
 {
     let tree = fragment.content();
-    let set = type_set(
-        alloc,
-        schema,
-        &tree.type_condition,
-        &tree.selection_set,
-        faults,
-    )?;
+    let set = type_set(typing, &tree.type_condition, &tree.selection_set, faults)?;
     let (name, directives) = copies_of_two(&tree.name, &tree.directives)?;
     let typed = Fragment {
         name,
         directives,
         selection_set: set,
     };
-    Ok(fragment.same_location(alloc, typed)?)
+    Ok(fragment.same_location(typing.alloc, typed)?)
 }
 
 impl TypedDocument {
@@ -140,9 +130,9 @@ impl TypedDocument {
         beside: bool,
         operation: &Node<OperationDefinition>,
     ) -> Result<bool, AllocError>
-        ensures known { IfOk result (λ b. b ≡ is_known (option_map name_tree (content operation.now).name) (typed_view self.old)) }
+        ensures known { IfOk result (λ b. b ≡ is_known (own_name operation.now) (typed_view self.old)) }
         ensures kept { kept_tree self.new ≡ kept_tree self.old }
-        ensures faults { OnOk result (typed_view self.new ≡ told (name_faults beside (place operation.now) (option_map name_tree (content operation.now).name) (typed_view self.old)) (typed_view self.old)) }
+        ensures faults { OnOk result (TellsName beside operation.now self.old self.new) }
     {
         let location = operation.location();
         match &operation.content().name {
@@ -150,6 +140,7 @@ impl TypedDocument {
                 if beside {
                     ambiguous_anonymous_operation(location, &mut self.faults)?;
                 }
+                // Of several without a name each is told, and the first is kept.
                 Ok(self.operations.anonymous.is_some())
             }
             Some(name) => {
@@ -164,23 +155,24 @@ impl TypedDocument {
     /// first of its name, or the first without one.
     fn add_operation(
         &mut self,
-        alloc: Global,
-        schema: Option<&Schema>,
+        typing: &Typing<'_>,
         beside: bool,
         operation: &Node<OperationDefinition>,
     ) -> Result<(), AllocError>
-        ensures view { OnOk result (typed_view self.new ≡ and_operation (meanings_under schema.entry) beside (place operation.now) (operation_tree (content operation.now)) (option_map name_tree (content operation.now).name) (typed_view self.old)) }
-        ensures defined { OnOk result (IsDefinedDocument (schema_under schema.entry) (kept_tree self.old) → IsDefinedDocument (schema_under schema.entry) (kept_tree self.new)) }
+        ensures view { OnOk result (AddsOperation typing.now.schema beside operation.now self.old self.new) }
+        ensures defined { OnOk result (StaysDefined (schema_for typing.now) self.old self.new) }
     {
         let operation_type = operation.content().operation_type;
         let is_known = self.check_name(beside, operation)?;
-        let Some(root) = root_of(schema, operation_type)? else {
+        let Some(root) = root_of(typing.schema, operation_type)? else {
+            // Without a root there is no type to select on, so nothing that it selects is judged.
             return undefined_root_operation(operation.location(), operation_type, &mut self.faults);
         };
+        // It is not kept, so what it selects is not judged.
         if is_known {
             return Ok(());
         }
-        let typed = typed_operation(alloc, schema, &root, operation, &mut self.faults)?;
+        let typed = typed_operation(typing, &root, operation, &mut self.faults)?;
         self.operations.insert(typed)?;
         Ok(())
     }
@@ -188,19 +180,19 @@ impl TypedDocument {
     /// Adds a fragment. It is kept on its condition, where it is the first of its name.
     fn add_fragment(
         &mut self,
-        alloc: Global,
-        schema: Option<&Schema>,
+        typing: &Typing<'_>,
         fragment: &Node<FragmentDefinition>,
     ) -> Result<(), AllocError>
-        ensures view { OnOk result (typed_view self.new ≡ and_fragment (meanings_under schema.entry) (place fragment.now) (fragment_tree (content fragment.now)) (typed_view self.old)) }
-        ensures defined { OnOk result (IsDefinedDocument (schema_under schema.entry) (kept_tree self.old) → IsDefinedDocument (schema_under schema.entry) (kept_tree self.new)) }
+        ensures view { OnOk result (AddsFragment typing.now.schema fragment.now self.old self.new) }
+        ensures defined { OnOk result (StaysDefined (schema_for typing.now) self.old self.new) }
     {
         let name = &fragment.content().name;
         let condition = &fragment.content().type_condition;
         let location = fragment.location();
         let is_known = self.fragments.contains_key(name);
         fragment_name_collision(is_known, location, name, &mut self.faults)?;
-        if !has_type(schema, condition) {
+        // Without that type nothing that the fragment selects has a meaning.
+        if !has_type(typing.schema, condition) {
             return undefined_type_in_named_fragment_type_condition(
                 location,
                 condition,
@@ -210,7 +202,7 @@ impl TypedDocument {
         if is_known {
             return Ok(());
         }
-        let typed = typed_fragment(alloc, schema, fragment, &mut self.faults)?;
+        let typed = typed_fragment(typing, fragment, &mut self.faults)?;
         self.fragments.insert(name.clone()?, typed)?;
         Ok(())
     }
@@ -218,21 +210,18 @@ impl TypedDocument {
     /// Adds a definition.
     fn add(
         &mut self,
-        alloc: Global,
-        schema: Option<&Schema>,
+        typing: &Typing<'_>,
         beside: bool,
         definition: &Definition,
     ) -> Result<(), AllocError>
-        ensures view { OnOk result (typed_view self.new ≡ and_definition (meanings_under schema.entry) beside (typed_view self.old) (definition_tree definition.now)) }
-        ensures defined { OnOk result (IsDefinedDocument (schema_under schema.entry) (kept_tree self.old) → IsDefinedDocument (schema_under schema.entry) (kept_tree self.new)) }
+        ensures view { OnOk result (typed_view self.new ≡ and_definition (meanings_for typing.now) beside (typed_view self.old) (definition_tree definition.now)) }
+        ensures defined { OnOk result (StaysDefined (schema_for typing.now) self.old self.new) }
     {
         match definition {
             Definition::OperationDefinition(operation) => {
-                self.add_operation(alloc, schema, beside, operation)
+                self.add_operation(typing, beside, operation)
             }
-            Definition::FragmentDefinition(fragment) => {
-                self.add_fragment(alloc, schema, fragment)
-            }
+            Definition::FragmentDefinition(fragment) => { self.add_fragment(typing, fragment) }
             _ => type_system_definition(definition.location(), &mut self.faults),
         }
     }
@@ -240,17 +229,17 @@ impl TypedDocument {
 
 /// What is kept and told of these definitions.
 pub(crate) fn type_document(
-    alloc: Global,
-    schema: Option<&Schema>,
+    typing: &Typing<'_>,
     definitions: &[Definition],
 ) -> Result<TypedDocument, AllocError>
-    ensures view { IfOk result (λ t. typed_view t ≡ typed_in (meanings_under schema.entry) (map definition_tree definitions.now)) }
-    ensures defined { IfOk result (λ t. IsDefinedDocument (schema_under schema.entry) (kept_tree t)) }
+    ensures view { IfOk result (λ t. typed_view t ≡ typed_in (meanings_for typing.now) (map definition_tree definitions.now)) }
+    ensures defined { IfOk result (λ t. IsDefinedDocument (schema_for typing.now) (kept_tree t)) }
 {
+    // Before the first is added, which is told as well, if it has no name and another follows.
     let beside = has_two_operations(definitions);
-    let mut typed = TypedDocument::new(alloc);
+    let mut typed = TypedDocument::new(typing.alloc);
     for definition in definitions {
-        typed.add(alloc, schema, beside, definition)?;
+        typed.add(typing, beside, definition)?;
     }
     Ok(typed)
 }

@@ -12,6 +12,7 @@ ghost use Rattle.document_typing.specs.FaultView.{faults_of};
 ghost use Rattle.document_typing.specs.SetView.{schema_meanings, given_set};
 
 use crate::selections::type_set;
+use crate::typing::Typing;
 use document_typed_operations::FieldSet;
 use fault_document_data::BuildError;
 use graphql_names::{Name, SourceSpan};
@@ -36,7 +37,11 @@ pub fn field_set_from_ast(
     ensures full { IfOk result (λ r. TellsSet (schema_meanings schema.now) type_name.now.text (given_set selections.now) (faults_of r.1)) }
 {
     let mut faults = Vec::new(alloc);
-    let selection_set = type_set(alloc, Some(schema), type_name, selections, &mut faults)?;
+    let typing = Typing {
+        alloc,
+        schema: Some(schema),
+    };
+    let selection_set = type_set(&typing, type_name, selections, &mut faults)?;
     let sources = IndexMap::new(alloc);
     Ok((
         FieldSet {

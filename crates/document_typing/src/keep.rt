@@ -1,17 +1,11 @@
 //! Selections with their meaning, added after those that are kept. None of these is inlined, so that what they hold takes no
 //! stack at each level of selections.
-ghost use Rattle.std.specs.Prelude.{◌≡◌, ◌++◌, [], ◌∷◌, ℕ, List, Option, OnOk};
-ghost use Rattle.std.specs.Option.{option_map};
-ghost use Rattle.graphql_names.specs.Node.{content, place};
-ghost use Rattle.graphql_names.specs.Placed.{Place, name_tree, node_tree};
-ghost use Rattle.tree_directives.specs.DirectiveTree.{directives_tree};
-ghost use Rattle.tree_operations.specs.SelectionParts.{field_head};
-ghost use Rattle.tree_type_members.specs.TypeSystemTree.{field_definition_tree, unplaced_field_definition};
+ghost use Rattle.std.specs.Prelude.{[], ◌∷◌, ℕ, List, Option, OnOk};
+ghost use Rattle.graphql_names.specs.Placed.{Place};
 ghost use Rattle.schema_types.specs.SchemaTree.{SchemaTree};
 ghost use Rattle.document_typed_selections.specs.TypedTree.{typed_set_tree};
-ghost use Rattle.document_typing.specs.MeantTree.{MeantField, MeantSpread, MeantInline, meant_of_set};
-ghost use Rattle.document_typing.specs.DefinedByPlace.{IsDefinitionOf, IsDefinedSet};
-ghost use Rattle.document_typing.specs.MeaningView.{meant_selections, AreKeptDefined};
+ghost use Rattle.document_typing.specs.DefinedByPlace.{IsDefinedSet};
+ghost use Rattle.document_typing.specs.Telling.{Keeps, StayDefined, StayDefinedAround, meant_field, meant_spread, meant_inline};
 
 use document_typed_selections as typed;
 use graphql_names::Node;
@@ -31,8 +25,8 @@ pub(crate) fn keep_field(
     set: typed::SelectionSet,
     kept: &mut Vec<typed::Selection>,
 ) -> Result<(), AllocError>
-    ensures meant { OnOk result (meant_selections kept.new ≡ meant_selections kept.old ++ MeantField (place field.now) (unplaced_field_definition (field_definition_tree (content definition))) (field_head (content field.now)) (meant_of_set (typed_set_tree set)) ∷ []) }
-    ensures defined { OnOk result ((s : Option (SchemaTree Place)) (t : List ℕ) → IsDefinitionOf s t (name_tree (content field.now).name) (node_tree field_definition_tree definition) → IsDefinedSet s (typed_set_tree set) → AreKeptDefined s t kept.old → AreKeptDefined s t kept.new) }
+    ensures meant { OnOk result (Keeps kept.old kept.new (meant_field definition field.now set ∷ [])) }
+    ensures defined { OnOk result (StayDefinedAround definition field.now set kept.old kept.new) }
 {
     let tree = field.content();
     let (alias, name, arguments, directives) = copies_of_four(
@@ -61,8 +55,8 @@ pub(crate) fn keep_spread(
     spread: &Node<FragmentSpread>,
     kept: &mut Vec<typed::Selection>,
 ) -> Result<(), AllocError>
-    ensures meant { OnOk result (meant_selections kept.new ≡ meant_selections kept.old ++ MeantSpread (place spread.now) (name_tree (content spread.now).fragment_name) (directives_tree (content spread.now).directives) ∷ []) }
-    ensures defined { OnOk result ((s : Option (SchemaTree Place)) (t : List ℕ) → AreKeptDefined s t kept.old → AreKeptDefined s t kept.new) }
+    ensures meant { OnOk result (Keeps kept.old kept.new (meant_spread spread.now ∷ [])) }
+    ensures defined { OnOk result ((s : Option (SchemaTree Place)) (t : List ℕ) → StayDefined s t kept.old kept.new) }
 {
     let tree = spread.content();
     let (fragment_name, directives) = copies_of_two(&tree.fragment_name, &tree.directives)?;
@@ -83,8 +77,8 @@ pub(crate) fn keep_inline(
     set: typed::SelectionSet,
     kept: &mut Vec<typed::Selection>,
 ) -> Result<(), AllocError>
-    ensures meant { OnOk result (meant_selections kept.new ≡ meant_selections kept.old ++ MeantInline (place inline.now) (option_map name_tree (content inline.now).type_condition) (directives_tree (content inline.now).directives) (meant_of_set (typed_set_tree set)) ∷ []) }
-    ensures defined { OnOk result ((s : Option (SchemaTree Place)) (t : List ℕ) → IsDefinedSet s (typed_set_tree set) → AreKeptDefined s t kept.old → AreKeptDefined s t kept.new) }
+    ensures meant { OnOk result (Keeps kept.old kept.new (meant_inline inline.now set ∷ [])) }
+    ensures defined { OnOk result ((s : Option (SchemaTree Place)) (t : List ℕ) → IsDefinedSet s (typed_set_tree set) → StayDefined s t kept.old kept.new) }
 {
     let tree = inline.content();
     let (type_condition, directives) = copies_of_two(&tree.type_condition, &tree.directives)?;

@@ -17,6 +17,7 @@ mod look_ups;
 mod refusal;
 mod rules;
 mod selections;
+mod typing;
 
 pub use builder::ExecutableDocumentBuilder;
 pub use fault_document_data::{

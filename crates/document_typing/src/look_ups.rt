@@ -12,8 +12,9 @@ ghost use Rattle.tree_operations.specs.OperationQueries.{default_root_name};
 ghost use Rattle.document_typing.specs.Meanings.{inner_type, unknown_definition};
 ghost use Rattle.document_typing.specs.KeptSelections.{is_leaf};
 ghost use Rattle.document_typing.specs.DefinedField.{definition_view};
-ghost use Rattle.document_typing.specs.DefinedByPlace.{unknown_field, IsDefinitionOf};
+ghost use Rattle.document_typing.specs.DefinedByPlace.{unknown_field};
 ghost use Rattle.document_typing.specs.MeaningView.{schema_under, meanings_under};
+ghost use Rattle.document_typing.specs.Telling.{IsDefinitionNamed};
 
 use graphql_names::{Name, Node};
 use graphql_schema::Schema;
@@ -25,6 +26,7 @@ use tree_operations::OperationType;
 use tree_type_members::FieldDefinition;
 
 /// The type of that name, if there is one: what a schema without places has under the name.
+// The call of the schema with another contract: typing knows a schema by what it says without places.
 fn type_named<'schema>(schema: &'schema Schema, name: &Name) -> Option<&'schema ExtendedType>
     ensures { option_map (λ t. plain_type (extended_type t.now)) result ≡ fin.get (plain (schema_tree schema.now)).types name.now.text }
 {
@@ -94,7 +96,7 @@ pub(crate) fn definition_of(
     field_name: &Name,
 ) -> Result<Option<Node<FieldDefinition>>, AllocError>
     ensures view { IfOk result (λ r. option_map definition_view r ≡ (meanings_under schema.entry).field type_name.now.text field_name.now.text) }
-    ensures defined { IfOk result (λ r. IfSome r (λ d. IsDefinitionOf (schema_under schema.entry) type_name.now.text (name_tree field_name.now) (node_tree field_definition_tree d))) }
+    ensures defined { IfOk result (λ r. IfSome r (λ d. IsDefinitionNamed (schema_under schema.entry) type_name.now.text field_name.now d)) }
 {
     let Some(schema) = schema else {
         return Ok(Some(unknown_field(alloc, field_name)?));

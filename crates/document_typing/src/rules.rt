@@ -1,13 +1,13 @@
 //! The rules of typing on selections: each gives what breaks it. What tells is not inlined, so that it takes no stack at each
 //! level of selections.
-ghost use Rattle.std.specs.Prelude.{◌≡◌, ◌++◌, [], ◌∷◌, true, OnOk};
+ghost use Rattle.std.specs.Prelude.{◌≡◌, true, OnOk};
 ghost use Rattle.fault_document_data.specs.DocumentBreaches as breach;
 ghost use Rattle.fault_document_data.specs.DocumentBreachView.{document_breach_of};
-ghost use Rattle.document_typing.specs.FaultView.{faults_of};
 ghost use Rattle.tree_operations.specs.SelectionTree.{selection_tree, selection_trees};
 ghost use Rattle.document_typing.specs.KeptSelections.{is_leaf, may_select};
 ghost use Rattle.document_typing.specs.SetFaults.{leaf_faults};
 ghost use Rattle.document_typing.specs.MeaningView.{meanings_under};
+ghost use Rattle.document_typing.specs.Telling.{Tells, TellsOne};
 
 use crate::look_ups::{is_leaf, is_scalar};
 use fault_document_data::BuildError;
@@ -22,7 +22,7 @@ pub(crate) fn tell(
     error: BuildError,
     faults: &mut Vec<(Option<SourceSpan>, BuildError)>,
 ) -> Result<(), AllocError>
-    ensures { OnOk result (faults_of faults.new ≡ faults_of faults.old ++ record { place = location; breach = document_breach_of error } ∷ []) }
+    ensures { OnOk result (TellsOne faults.old faults.new location (document_breach_of error)) }
 {
     faults.push((location, error))?;
     Ok(())
@@ -36,7 +36,7 @@ pub(crate) fn undefined_field(
     field_name: &Name,
     faults: &mut Vec<(Option<SourceSpan>, BuildError)>,
 ) -> Result<(), AllocError>
-    ensures { OnOk result (faults_of faults.new ≡ faults_of faults.old ++ record { place = location; breach = breach.UndefinedField type_name.now.text field_name.now.text } ∷ []) }
+    ensures { OnOk result (TellsOne faults.old faults.new location (breach.UndefinedField type_name.now.text field_name.now.text)) }
 {
     let type_name = type_name.clone()?;
     let field_name = field_name.clone()?;
@@ -72,7 +72,7 @@ pub(crate) fn subselection_on_leaf(
     faults: &mut Vec<(Option<SourceSpan>, BuildError)>,
 ) -> Result<(), AllocError>
     requires { is_leaf (meanings_under schema) type_name.now.text ≡ true }
-    ensures { OnOk result (faults_of faults.new ≡ faults_of faults.old ++ leaf_faults (meanings_under schema.entry) location type_name.now.text) }
+    ensures { OnOk result (Tells faults.old faults.new (leaf_faults (meanings_under schema.entry) location type_name.now.text)) }
 {
     let type_name = type_name.clone()?;
     let error = if is_scalar(schema, &type_name) {
@@ -91,7 +91,7 @@ pub(crate) fn undefined_type_in_inline_fragment_type_condition(
     type_name: &Name,
     faults: &mut Vec<(Option<SourceSpan>, BuildError)>,
 ) -> Result<(), AllocError>
-    ensures { OnOk result (faults_of faults.new ≡ faults_of faults.old ++ record { place = location; breach = breach.UndefinedTypeInInlineFragmentTypeCondition type_name.now.text } ∷ []) }
+    ensures { OnOk result (TellsOne faults.old faults.new location (breach.UndefinedTypeInInlineFragmentTypeCondition type_name.now.text)) }
 {
     let type_name = type_name.clone()?;
     tell(

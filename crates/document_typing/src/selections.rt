@@ -1,20 +1,19 @@
 //! Typing of selections. What holds much is not inlined, so that a level of selections takes the stack of its kind alone.
 //! Rattle's own compiler inlines whatever has one caller, so the longest of these have two.
-ghost use Rattle.std.specs.Prelude.{◌≡◌, ◌++◌, [], ℕ, List, Option, IfOk, OnOk};
+ghost use Rattle.std.specs.Prelude.{◌≡◌, [], Option, IfOk, OnOk};
 ghost use Rattle.graphql_names.specs.Node.{content};
-ghost use Rattle.graphql_names.specs.Placed.{Place, name_tree, node_tree};
-ghost use Rattle.tree_operations.specs.SelectionTree.{selection_tree, selection_trees};
+ghost use Rattle.graphql_names.specs.Placed.{Place, name_tree};
+ghost use Rattle.tree_operations.specs.SelectionTree.{selection_tree};
 ghost use Rattle.tree_operations.specs.SelectionParts.{field_node_tree, inline_node_tree};
-ghost use Rattle.tree_type_members.specs.TypeSystemTree.{field_definition_tree};
 ghost use Rattle.schema_types.specs.SchemaTree.{SchemaTree};
 ghost use Rattle.document_typed_selections.specs.TypedTree.{set_type, typed_set_tree};
 ghost use Rattle.document_typing.specs.MeantTree.{meant_of_set, set_on};
-ghost use Rattle.document_typing.specs.KeptSelections.{kept, kept_all};
+ghost use Rattle.document_typing.specs.KeptSelections.{kept, IsKeptSet};
 ghost use Rattle.document_typing.specs.SetFaults.{selection_faults, set_faults};
 ghost use Rattle.document_typing.specs.DefinedField.{definition_view, kept_defined, defined_faults};
-ghost use Rattle.document_typing.specs.FaultView.{faults_of};
-ghost use Rattle.document_typing.specs.DefinedByPlace.{IsDefinitionOf, IsDefinedSet};
-ghost use Rattle.document_typing.specs.MeaningView.{schema_under, meanings_under, meant_selections, AreKeptDefined};
+ghost use Rattle.document_typing.specs.DefinedByPlace.{IsDefinedSet};
+ghost use Rattle.document_typing.specs.SetView.{given_set};
+ghost use Rattle.document_typing.specs.Telling.{schema_for, meanings_for, Tells, Keeps, StayDefined, StayDefinedWith};
 
 use crate::keep::{keep_field, keep_inline, keep_spread};
 use crate::look_ups::{definition_of, has_type, inner_name};
@@ -22,10 +21,10 @@ use crate::rules::{
     may_select, subselection_on_leaf, undefined_field,
     undefined_type_in_inline_fragment_type_condition,
 };
+use crate::typing::Typing;
 use document_typed_selections as typed;
 use fault_document_data::BuildError;
 use graphql_names::{Name, Node, SourceSpan};
-use graphql_schema::Schema;
 use std::alloc::{AllocError, Global};
 use tree_operations::{Field, InlineFragment, Selection};
 use tree_type_members::FieldDefinition;
@@ -33,20 +32,19 @@ use tree_type_members::FieldDefinition;
 /// The set on the type of those selections that have a meaning under it, with it; the others are told.
 #[cycle(typing)]
 pub(crate) fn type_set(
-    alloc: Global,
-    schema: Option<&Schema>,
+    typing: &Typing<'_>,
     type_name: &Name,
     selections: &[Selection],
     faults: &mut Vec<(Option<SourceSpan>, BuildError)>,
 ) -> Result<typed::SelectionSet, AllocError>
-    ensures kept { IfOk result (λ s. meant_of_set (typed_set_tree s) ≡ set_on type_name.now.text (kept_all (meanings_under schema.entry) (selection_trees selection_tree selections.now) type_name.now.text)) }
+    ensures kept { IfOk result (λ s. IsKeptSet (meanings_for typing.now) type_name.now.text (given_set selections.now) (typed_set_tree s)) }
     ensures ty { IfOk result (λ s. set_type (typed_set_tree s) ≡ name_tree type_name.now) }
-    ensures defined { IfOk result (λ s. IsDefinedSet (schema_under schema.entry) (typed_set_tree s)) }
-    ensures faults { OnOk result (faults_of faults.new ≡ faults_of faults.old ++ set_faults (meanings_under schema.entry) (selection_trees selection_tree selections.now) type_name.now.text) }
+    ensures defined { IfOk result (λ s. IsDefinedSet (schema_for typing.now) (typed_set_tree s)) }
+    ensures faults { OnOk result (Tells faults.old faults.new (set_faults (meanings_for typing.now) (given_set selections.now) type_name.now.text)) }
 {
-    let mut kept = Vec::new(alloc);
+    let mut kept = Vec::new(typing.alloc);
     for selection in selections {
-        type_selection(alloc, schema, type_name, selection, &mut kept, faults)?;
+        type_selection(typing, type_name, selection, &mut kept, faults)?;
     }
     Ok(typed::SelectionSet {
         ty: type_name.clone()?,
@@ -58,71 +56,69 @@ pub(crate) fn type_set(
 #[cycle(typing)]
 #[tactic(auto, using(tree_operations::proofs::SelectionTrees::selection_tree_rules))]
 fn type_selection(
-    alloc: Global,
-    schema: Option<&Schema>,
+    typing: &Typing<'_>,
     parent: &Name,
     selection: &Selection,
     out: &mut Vec<typed::Selection>,
     faults: &mut Vec<(Option<SourceSpan>, BuildError)>,
 ) -> Result<(), AllocError>
-    ensures kept { OnOk result (meant_selections out.new ≡ meant_selections out.old ++ kept (meanings_under schema.entry) (selection_tree selection.now) parent.now.text) }
-    ensures defined { OnOk result (AreKeptDefined (schema_under schema.entry) parent.now.text out.old → AreKeptDefined (schema_under schema.entry) parent.now.text out.new) }
-    ensures faults { OnOk result (faults_of faults.new ≡ faults_of faults.old ++ selection_faults (meanings_under schema.entry) (selection_tree selection.now) parent.now.text) }
+    ensures kept { OnOk result (Keeps out.old out.new (kept (meanings_for typing.now) (selection_tree selection.now) parent.now.text)) }
+    ensures defined { OnOk result (StayDefined (schema_for typing.now) parent.now.text out.old out.new) }
+    ensures faults { OnOk result (Tells faults.old faults.new (selection_faults (meanings_for typing.now) (selection_tree selection.now) parent.now.text)) }
 {
     match selection {
-        Selection::Field(field) => type_field(alloc, schema, parent, field, out, faults),
-        Selection::FragmentSpread(spread) => keep_spread(alloc, spread, out),
-        Selection::InlineFragment(inline) => type_inline(
-            alloc, schema, parent, inline, out, faults,
-        ),
+        Selection::Field(field) => type_field(typing, parent, field, out, faults),
+        // Kept whether or not its fragment is there: that is a rule on what was typed.
+        Selection::FragmentSpread(spread) => keep_spread(typing.alloc, spread, out),
+        Selection::InlineFragment(inline) => type_inline(typing, parent, inline, out, faults),
     }
 }
 
 /// Keeps the field with its definition on the type, or tells that it has none (section 5.3.1).
 #[cycle(typing)]
 fn type_field(
-    alloc: Global,
-    schema: Option<&Schema>,
+    typing: &Typing<'_>,
     parent: &Name,
     field: &Node<Field>,
     out: &mut Vec<typed::Selection>,
     faults: &mut Vec<(Option<SourceSpan>, BuildError)>,
 ) -> Result<(), AllocError>
-    ensures kept { OnOk result (meant_selections out.new ≡ meant_selections out.old ++ kept (meanings_under schema.entry) (field_node_tree field.now) parent.now.text) }
-    ensures defined { OnOk result (AreKeptDefined (schema_under schema.entry) parent.now.text out.old → AreKeptDefined (schema_under schema.entry) parent.now.text out.new) }
-    ensures faults { OnOk result (faults_of faults.new ≡ faults_of faults.old ++ selection_faults (meanings_under schema.entry) (field_node_tree field.now) parent.now.text) }
+    ensures kept { OnOk result (Keeps out.old out.new (kept (meanings_for typing.now) (field_node_tree field.now) parent.now.text)) }
+    ensures defined { OnOk result (StayDefined (schema_for typing.now) parent.now.text out.old out.new) }
+    ensures faults { OnOk result (Tells faults.old faults.new (selection_faults (meanings_for typing.now) (field_node_tree field.now) parent.now.text)) }
 {
     let tree = field.content();
+    // A leaf has a function of its own: nothing that it calls recurs.
     if tree.selection_set.is_empty() {
-        return type_leaf(alloc, schema, parent, field, out, faults);
+        return type_leaf(typing, parent, field, out, faults);
     }
-    match definition_of(alloc, schema, parent, &tree.name)? {
+    match definition_of(typing.alloc, typing.schema, parent, &tree.name)? {
+        // What it selects is not judged, as the type of its values is not known.
         None => undefined_field(field.location(), parent, &tree.name, faults),
-        Some(definition) => type_defined_field(alloc, schema, definition, field, out, faults),
+        Some(definition) => type_defined_field(typing, definition, field, out, faults),
     }
 }
 
 /// Keeps a field that selects nothing with its definition on the type, or tells that it has none (section 5.3.1).
 #[inline(never)]
 fn type_leaf(
-    alloc: Global,
-    schema: Option<&Schema>,
+    typing: &Typing<'_>,
     parent: &Name,
     field: &Node<Field>,
     out: &mut Vec<typed::Selection>,
     faults: &mut Vec<(Option<SourceSpan>, BuildError)>,
 ) -> Result<(), AllocError>
     requires leaf { (content field.now).selection_set.items ≡ [] }
-    ensures kept { OnOk result (meant_selections out.new ≡ meant_selections out.old ++ kept (meanings_under schema.entry) (field_node_tree field.now) parent.now.text) }
-    ensures defined { OnOk result (AreKeptDefined (schema_under schema.entry) parent.now.text out.old → AreKeptDefined (schema_under schema.entry) parent.now.text out.new) }
-    ensures faults { OnOk result (faults_of faults.new ≡ faults_of faults.old ++ selection_faults (meanings_under schema.entry) (field_node_tree field.now) parent.now.text) }
+    ensures kept { OnOk result (Keeps out.old out.new (kept (meanings_for typing.now) (field_node_tree field.now) parent.now.text)) }
+    ensures defined { OnOk result (StayDefined (schema_for typing.now) parent.now.text out.old out.new) }
+    ensures faults { OnOk result (Tells faults.old faults.new (selection_faults (meanings_for typing.now) (field_node_tree field.now) parent.now.text)) }
 {
     let name = &field.content().name;
-    match definition_of(alloc, schema, parent, name)? {
+    match definition_of(typing.alloc, typing.schema, parent, name)? {
         None => undefined_field(field.location(), parent, name, faults),
         Some(definition) => {
-            let set = empty_set(alloc, inner_name(&definition))?;
-            keep_field(alloc, definition, field, set, out)
+            let set = empty_set(typing.alloc, inner_name(&definition))?;
+            keep_field(typing.alloc, definition, field, set, out)
         }
     }
 }
@@ -147,26 +143,26 @@ fn drop_definition(_definition: Node<FieldDefinition>) {}
 #[cycle(typing)]
 #[inline(never)]
 fn type_defined_field(
-    alloc: Global,
-    schema: Option<&Schema>,
+    typing: &Typing<'_>,
     definition: Node<FieldDefinition>,
     field: &Node<Field>,
     out: &mut Vec<typed::Selection>,
     faults: &mut Vec<(Option<SourceSpan>, BuildError)>,
 ) -> Result<(), AllocError>
-    ensures kept { OnOk result (meant_selections out.new ≡ meant_selections out.old ++ kept_defined (meanings_under schema.entry) (definition_view definition) field.now) }
-    ensures defined { OnOk result ((t : List ℕ) → IsDefinitionOf (schema_under schema.entry) t (name_tree (content field.now).name) (node_tree field_definition_tree definition) → AreKeptDefined (schema_under schema.entry) t out.old → AreKeptDefined (schema_under schema.entry) t out.new) }
-    ensures faults { OnOk result (faults_of faults.new ≡ faults_of faults.old ++ defined_faults (meanings_under schema.entry) (definition_view definition) field.now) }
+    ensures kept { OnOk result (Keeps out.old out.new (kept_defined (meanings_for typing.now) (definition_view definition) field.now)) }
+    ensures defined { OnOk result (StayDefinedWith (schema_for typing.now) definition field.now out.old out.new) }
+    ensures faults { OnOk result (Tells faults.old faults.new (defined_faults (meanings_for typing.now) (definition_view definition) field.now)) }
 {
     let inner = inner_name(&definition);
     let selections = &field.content().selection_set;
-    if !may_select(schema, inner, selections) {
-        let told = subselection_on_leaf(schema, field.location(), inner, faults);
+    if !may_select(typing.schema, inner, selections) {
+        // Where no field is kept the definition is let go by hand: `drop_definition` is not inlined.
+        let told = subselection_on_leaf(typing.schema, field.location(), inner, faults);
         drop_definition(definition);
         return told;
     }
-    match type_set(alloc, schema, inner, selections, faults) {
-        Ok(set) => keep_field(alloc, definition, field, set, out),
+    match type_set(typing, inner, selections, faults) {
+        Ok(set) => keep_field(typing.alloc, definition, field, set, out),
         Err(error) => {
             drop_definition(definition);
             Err(error)
@@ -179,33 +175,32 @@ fn type_defined_field(
 #[cycle(typing)]
 #[inline(never)]
 fn type_inline(
-    alloc: Global,
-    schema: Option<&Schema>,
+    typing: &Typing<'_>,
     parent: &Name,
     inline: &Node<InlineFragment>,
     out: &mut Vec<typed::Selection>,
     faults: &mut Vec<(Option<SourceSpan>, BuildError)>,
 ) -> Result<(), AllocError>
-    ensures kept { OnOk result (meant_selections out.new ≡ meant_selections out.old ++ kept (meanings_under schema.entry) (inline_node_tree inline.now) parent.now.text) }
-    ensures defined { OnOk result (AreKeptDefined (schema_under schema.entry) parent.now.text out.old → AreKeptDefined (schema_under schema.entry) parent.now.text out.new) }
-    ensures faults { OnOk result (faults_of faults.new ≡ faults_of faults.old ++ selection_faults (meanings_under schema.entry) (inline_node_tree inline.now) parent.now.text) }
+    ensures kept { OnOk result (Keeps out.old out.new (kept (meanings_for typing.now) (inline_node_tree inline.now) parent.now.text)) }
+    ensures defined { OnOk result (StayDefined (schema_for typing.now) parent.now.text out.old out.new) }
+    ensures faults { OnOk result (Tells faults.old faults.new (selection_faults (meanings_for typing.now) (inline_node_tree inline.now) parent.now.text)) }
 {
     let selections = &inline.content().selection_set;
     match &inline.content().type_condition {
         None => {
-            let set = type_set(alloc, schema, parent, selections, faults)?;
-            keep_inline(alloc, inline, set, out)
+            let set = type_set(typing, parent, selections, faults)?;
+            keep_inline(typing.alloc, inline, set, out)
         }
         Some(condition) => {
-            if !has_type(schema, condition) {
+            if !has_type(typing.schema, condition) {
                 return undefined_type_in_inline_fragment_type_condition(
                     inline.location(),
                     condition,
                     faults,
                 );
             }
-            let set = type_set(alloc, schema, condition, selections, faults)?;
-            keep_inline(alloc, inline, set, out)
+            let set = type_set(typing, condition, selections, faults)?;
+            keep_inline(typing.alloc, inline, set, out)
         }
     }
 }

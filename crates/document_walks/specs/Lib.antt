@@ -1,4 +1,5 @@
 pub mod Reached
 pub mod Left
 pub mod WalkView
+pub mod Stepping
 pub mod Lending

@@ -26,6 +26,7 @@ pub struct ReachedSelections<'doc> {
     is_over: bool,
 }
 
+// Not derived: a derived drop is proved again in each crate that drops one.
 impl Drop for ReachedSelections<'_> {
     fn drop(self) {
         let ReachedSelections {
@@ -72,6 +73,7 @@ impl<'doc> Iterator for ReachedSelections<'doc> {
                 None
             }
             Err(refused) => {
+                // The selection that was taken is lost, so nothing more is lent.
                 self.is_over = true;
                 Some(Err(refused))
             }

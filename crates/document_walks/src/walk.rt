@@ -1,11 +1,11 @@
 //! A walk over the selections of a set and of the fragments that it reaches.
 ghost use Rattle.std.specs.Prelude.{◌≡◌, ◌∷◌, []};
-ghost use Rattle.std.specs.Prelude.{IfOk, OnOk, MatchOption, MatchBool, if◌then◌else◌};
-ghost use Rattle.graphql_names.specs.Node.{content};
+ghost use Rattle.std.specs.Prelude.{IfOk, OnOk, MatchOption, MatchBool};
 ghost use Rattle.graphql_names.specs.Placed.{name_tree};
 ghost use Rattle.document_typed_selections.specs.TypedTree.{typed_selection_tree, typed_set_tree};
-ghost use Rattle.document_walks.specs.Left.{at_start, own_members, with_next, with_more, with_name, left_members};
+ghost use Rattle.document_walks.specs.Left.{at_start, own_members, with_next, with_more, with_name};
 ghost use Rattle.document_walks.specs.WalkView.{walk_state, fragments_tree, lent_member, HasPassed, HasEntered};
+ghost use Rattle.document_walks.specs.Stepping.{HadNothing, entered_members, left_in};
 
 use document_typed_operations::FragmentMap;
 use document_typed_selections::{Field, Selection, SelectionSet};
@@ -50,7 +50,7 @@ impl<'doc> Walk<'doc> {
 
     /// Takes the next selection of the sets that are not passed to their ends.
     fn take_first(&mut self) -> Option<(&'doc NamedType, &'doc Selection)>
-        ensures { MatchOption result ((walk_state self.new ≡ walk_state self.old) × ((walk_state self.old).pending ≡ [])) (λ e. walk_state self.old ≡ with_next (lent_member e) (walk_state self.new)) }
+        ensures { MatchOption result (HadNothing self.old self.new) (λ e. walk_state self.old ≡ with_next (lent_member e) (walk_state self.new)) }
     {
         loop {
             if let Some((first, others)) = self.front.split_first() {
@@ -85,7 +85,7 @@ impl<'doc> Walk<'doc> {
 
     /// Goes on with the selections of a field, if fields are entered.
     fn enter_field(&mut self, field: &'doc Node<Field>) -> Result<(), AllocError>
-        ensures { OnOk result (walk_state self.new ≡ with_more (if (walk_state self.old).nested then own_members (typed_set_tree (content field.now).selection_set) else []) (walk_state self.old)) }
+        ensures { OnOk result (walk_state self.new ≡ with_more (entered_members (walk_state self.old).nested field.now) (walk_state self.old)) }
     {
         if !self.nested {
             return Ok(());
@@ -111,8 +111,9 @@ impl<'doc> Walk<'doc> {
     /// document has.
     fn enter_fragment(&mut self) -> bool
         requires { (walk_state self.old).pending ≡ [] }
-        ensures { MatchBool result (HasEntered (walk_state self.old) (walk_state self.new)) (left_members (walk_state self.old) ≡ []) }
+        ensures { MatchBool result (HasEntered (walk_state self.old) (walk_state self.new)) (left_in self.old ≡ []) }
     {
+        // Implied by the next test, as no fragment is noted twice: asked, it bounds the walk for the proof.
         if self.entered >= self.fragments.len() {
             return false;
         }
@@ -132,7 +133,7 @@ impl<'doc> Walk<'doc> {
     pub(crate) fn next_member(
         &mut self,
     ) -> Result<Option<(&'doc NamedType, &'doc Selection)>, AllocError>
-        ensures { IfOk result (λ member. MatchOption member (left_members (walk_state self.old) ≡ []) (λ e. left_members (walk_state self.old) ≡ lent_member e ∷ left_members (walk_state self.new))) }
+        ensures { IfOk result (λ member. MatchOption member (left_in self.old ≡ []) (λ e. left_in self.old ≡ lent_member e ∷ left_in self.new)) }
     {
         loop {
             match self.take_first() {

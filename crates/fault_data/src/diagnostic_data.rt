@@ -11,6 +11,7 @@ use tree_operations::OperationType;
 ///
 /// Fields that end in `location`, `definition` or `application` are places, None where there is none. Of the fields, the
 /// first name or text alone is hashed.
+// The hash takes at most one field of a variant: the proof for all fields took three times as long.
 #[derive(PartialEq, Eq)]
 #[derive_where(Hash)]
 pub enum DiagnosticData {

@@ -12,6 +12,7 @@ impl fmt::Display for DiagnosticData {
     ghost output = { λ d. Some (diagnostic_message (diagnostic_of d)) };
 
     fn fmt<W: fmt::Write>(&self, f: &mut fmt::Formatter<W>) -> fmt::Result {
+        // The variants are matched for their words alone: a `write!` in each arm would cost far more to prove.
         fmt::Display::fmt(&template_of(self), f)
     }
 }

@@ -123,6 +123,7 @@ pub struct ConflictingFieldName {
     pub conflicting_selection: TypeAttributeCoordinate,
 }
 
+// Not derived: a derived drop is proved again in each crate that drops one.
 impl Drop for ConflictingFieldName {
     fn drop(self) {
         let ConflictingFieldName {
@@ -147,6 +148,7 @@ pub struct ConflictingFieldArgument {
     pub conflicting_value: Option<Value>,
 }
 
+// Not derived: a derived drop is proved again in each crate that drops one.
 impl Drop for ConflictingFieldArgument {
     fn drop(self) {
         let ConflictingFieldArgument {
@@ -173,6 +175,7 @@ pub struct ConflictingFieldType {
     pub conflicting_type: Type,
 }
 
+// Not derived: a derived drop is proved again in each crate that drops one.
 impl Drop for ConflictingFieldType {
     fn drop(self) {
         let ConflictingFieldType {

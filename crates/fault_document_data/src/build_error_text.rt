@@ -22,6 +22,7 @@ impl fmt::Display for BuildError {
     ghost output = { λ e. Some (document_message (document_breach_of e)) };
 
     fn fmt<W: fmt::Write>(&self, f: &mut fmt::Formatter<W>) -> fmt::Result {
+        // One `write!` for each form of words, and not one in each arm of the variants.
         match words_of(self) {
             Words::Whole(text) => fmt::Display::fmt(text, f),
             Words::Named(front, name, back) => write!(f, "{front}{name}{back}"),

@@ -24,6 +24,7 @@ pub struct CheckedDocument<'s> {
     pub(crate) document: ExecutableDocument,
 }
 
+// Not derived: a derived drop is proved again in each crate that drops one.
 impl Drop for CheckedDocument<'_> {
     fn drop(self) {
         let CheckedDocument {

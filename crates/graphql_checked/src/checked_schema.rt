@@ -49,6 +49,7 @@ pub struct CheckedSchema {
     pub(crate) schema: Schema,
 }
 
+// Not derived: a derived drop is proved again in each crate that drops one.
 impl Drop for CheckedSchema {
     fn drop(self) {
         let CheckedSchema {
@@ -149,6 +150,7 @@ fn build(
     ensures defined { IfOk result (λ r. IsDefinedDocument (Some (schema_value schema.now).schema) (typed_document_tree r.0)) }
 {
     let mut builder = ExecutableDocumentBuilder::new(schema.alloc, Some(&schema.schema));
+    // The builder is new here: no earlier call of it failed.
     match builder.add_ast_document(tree) {
         Ok(()) => {}
         Err(BuilderRefusal::Memory) => return Err(AllocError),

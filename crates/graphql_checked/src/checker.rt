@@ -81,6 +81,7 @@ impl Checker {
         match self.texts.add(text) {
             Ok(()) => Ok(()),
             Err(_) => {
+                // What was read may no longer be that of the texts, so the checker goes no further.
                 self.failed = true;
                 Err(Refusal::Memory)
             }

@@ -44,6 +44,7 @@ fn open(rt: &HostRuntime, path: &str, number: usize) -> Result<Device<File>, Run
 fn run_files(rt: &HostRuntime, settings: &Settings) -> Result<Outcome, RunFault> {
     let mut readers = Vec::new(rt.alloc());
     for path in &settings.schemas {
+        // Saturating: no bound on how many words there are is known here.
         readers.push(open(rt, path, readers.len().saturating_add(1))?)?;
     }
     let number = readers.len().saturating_add(1);
@@ -67,6 +68,7 @@ fn told(rt: &impl Eprint, answer: Result<Outcome, RunFault>) -> u8
     ensures { result ≡ status_of answer }
 {
     if let Err(fault) = answer {
+        // If standard error fails, it can be told nowhere.
         let _ = eprintln!(rt; "{fault}");
     }
     exit_status(&answer)

@@ -63,6 +63,7 @@ pub struct Name {
     ghost as_long: { IsPlaceOf (text_bytes text) location },
 }
 
+// Not derived: a derived drop is proved again in each crate that drops one.
 impl Drop for Name {
     fn drop(self) {
         let Name {

@@ -10,6 +10,7 @@ use std::rc::RcStr;
 #[derive(Drop)]
 pub(crate) enum NameText {
     Shared(RcStr),
+    // A name that is read: it takes no memory of its own, as it points into its text.
     Part(TextPart),
     Static(&'static str),
 }

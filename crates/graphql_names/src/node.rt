@@ -15,6 +15,7 @@ pub struct Node<T> {
     location: Option<SourceSpan>,
 }
 
+// Not derived: a derived drop is proved again in each crate that drops one.
 impl<T: Drop> Drop for Node<T> {
     fn drop(self) {
         let Node {

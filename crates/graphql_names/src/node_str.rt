@@ -26,6 +26,7 @@ pub struct NodeStr {
     location: Option<SourceSpan>,
 }
 
+// Not derived: a derived drop is proved again in each crate that drops one.
 impl Drop for NodeStr {
     fn drop(self) {
         let NodeStr {

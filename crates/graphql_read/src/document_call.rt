@@ -54,6 +54,7 @@ fn parse_definitions(
     let mut tokens = Source::new(text);
     match whole_document(alloc, &mut tokens, file, nesting) {
         Ok(found) => Ok(found),
+        // A `Stop` has no place of its own: it is where the cursor has stopped.
         Err(stop) => Err(fault(&tokens, stop)),
     }
 }

@@ -29,6 +29,7 @@ fn begins_operation(tokens: &Source<'_>) -> bool
 }
 
 /// Whether a definition of the type system may begin with the next token.
+// A string is a description: in October 2021 operations and fragments have none.
 fn begins_type_system(tokens: &Source<'_>) -> bool
     ensures { result ≡ kinds.next_is begins.begins_type_system (input.next tokens.now) }
 {

@@ -48,6 +48,7 @@ pub fn parse_selections(
     ensures within { IfErr result (λ e. LiesIn text.now (fault_view e)) }
     ensures bound { KeepsToBound nesting text.now result }
 {
+    // Copied once, so that names can be parts of it.
     let shared = RcStr::from_str(alloc, text)?;
     let mut tokens = Source::new(&shared);
     match whole_selections(alloc, &mut tokens, file, nesting) {

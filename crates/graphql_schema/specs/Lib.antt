@@ -2,10 +2,12 @@ pub mod SchemaOf
 pub mod BuilderOf
 pub mod MetaField
 pub mod LookUps
+pub mod FieldView
 pub mod FieldLooks
 pub mod Implementers
 pub mod Noting
 pub mod ImplementersView
+pub mod NotingView
 pub mod Subtypes
 pub use Rattle.schema_components.specs.Names
 pub use Rattle.schema_components.specs.Given

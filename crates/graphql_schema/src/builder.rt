@@ -127,6 +127,7 @@ impl Schema {
         match Schema::builder(alloc).build() {
             Ok((schema, _)) => Ok(schema),
             Err(BuilderRefusal::Memory) => Err(AllocError),
+            // Nothing was added: no extension asked for a number, and no earlier call failed.
             Err(BuilderRefusal::Spent | BuilderRefusal::Failed) => unreachable!(),
         }
     }

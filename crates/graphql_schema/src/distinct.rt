@@ -10,6 +10,7 @@ use schema_writing::ExtendedType;
 pub fn names_differ(schema: &Schema)
     ensures { AreAllDistinct (schema_tree schema.now) }
 {
+    // The lengths are dropped: a map that is asked for its length says by contract that its names differ.
     let _ = schema.types.len();
     let _ = schema.directive_definitions.len();
     each_differ(schema);

@@ -1,11 +1,11 @@
 //! Fields of types by name.
 ghost use Rattle.std.specs.Prelude.{◌≡◌, IfOk, IfErr};
-ghost use Rattle.std.specs.Option.{option_map};
 ghost use Rattle.tree_type_members.specs.TypeSystemTree.{field_definition_tree};
 ghost use Rattle.schema_components.specs.Given.{component_tree};
 ghost use Rattle.schema_building.specs.in_schema_types.Addresses.{under};
 ghost use Rattle.schema_building.specs.in_schema_types.TypeView.{extended_type};
 ghost use Rattle.graphql_schema.specs.SchemaOf.{schema_tree};
+ghost use Rattle.graphql_schema.specs.FieldView.{lent_field};
 ghost use Rattle.graphql_schema.specs.LookUps.{is_query_root, field_on, IsFieldNamed, FieldIsMissing};
 
 use crate::schema::Schema;
@@ -51,13 +51,14 @@ impl Schema {
         ty: &'schema ExtendedType,
         name: &Name,
     ) -> Option<&'schema Component<FieldDefinition>>
-        ensures { option_map (λ f. component_tree field_definition_tree f.now) result ≡ field_on (schema_tree self.now) type_name.now.text (extended_type ty.now) name.now.text }
+        ensures { lent_field result ≡ field_on (schema_tree self.now) type_name.now.text (extended_type ty.now) name.now.text }
     {
         let is_composite = matches!(
             ty,
             ExtendedType::Object(_) | ExtendedType::Interface(_) | ExtendedType::Union(_)
         );
         match field_of(ty, name) {
+            // A field of the type's own comes first, also if its name is reserved, which a rule tells.
             Some(field) => Some(field),
             None => self.meta_fields.get(
                 is_composite,
@@ -83,7 +84,7 @@ fn field_of<'schema>(
     ty: &'schema ExtendedType,
     name: &Name,
 ) -> Option<&'schema Component<FieldDefinition>>
-    ensures { option_map (λ f. component_tree field_definition_tree f.now) result ≡ under name.now.text (extended_type ty.now).fields }
+    ensures { lent_field result ≡ under name.now.text (extended_type ty.now).fields }
 {
     match ty {
         ExtendedType::Object(object) => object.content().fields.get(name),

@@ -1,13 +1,14 @@
 //! Which types implement each interface.
-ghost use Rattle.std.specs.Prelude.{◌≡◌, ◌++◌, fold, IfOk, OnOk};
+ghost use Rattle.std.specs.Prelude.{◌≡◌, ◌++◌, IfOk, OnOk};
 ghost use Rattle.std.specs.Iterator.{YieldsFirstRef, item_count};
 ghost use Rattle.graphql_names.specs.NameValue.{NameValue};
 ghost use Rattle.schema_components.specs.Given.{component_name_tree};
 ghost use Rattle.schema_building.specs.in_schema_types.TypeView.{extended_type};
 ghost use Rattle.graphql_schema.specs.SchemaOf.{schema_tree};
 ghost use Rattle.graphql_schema.specs.Implementers.{implementers_in};
-ghost use Rattle.graphql_schema.specs.Noting.{nobody, and_type, and_naming, naming, namings_of};
+ghost use Rattle.graphql_schema.specs.Noting.{nobody, and_type, naming, namings_of};
 ghost use Rattle.graphql_schema.specs.ImplementersView.{implementers_tree, implementers_at, left_implementers};
+ghost use Rattle.graphql_schema.specs.NotingView.{Notes, NotesAll};
 
 use crate::schema::Schema;
 use crate::subtype::interfaces_of;
@@ -106,7 +107,7 @@ fn note_type(
     name: &Name,
     ty: &ExtendedType,
 ) -> Result<(), AllocError>
-    ensures { OnOk result ((i : NameValue) → implementers_at noted.new i ≡ fold (and_naming i.text) (implementers_at noted.old i) (namings_of (name.now.text, extended_type ty.now))) }
+    ensures { OnOk result (NotesAll noted.old noted.new (namings_of (name.now.text, extended_type ty.now))) }
 {
     let is_object = ty.is_object();
     let interfaces = interfaces_of(ty);
@@ -124,9 +125,10 @@ fn note_name(
     is_object: bool,
     name: &Name,
 ) -> Result<(), AllocError>
-    ensures { OnOk result ((i : NameValue) → implementers_at noted.new i ≡ and_naming i.text (implementers_at noted.old i) (naming is_object name.now.text (component_name_tree interface.now))) }
+    ensures { OnOk result (Notes noted.old noted.new (naming is_object name.now.text (component_name_tree interface.now))) }
 {
     let interface = interface.name.clone()?;
+    // An empty one takes no memory, so it is made even if there is an entry.
     let implementers = noted.entry(interface)?.or_insert(Implementers::new(alloc));
     implementers.add(is_object, name)
 }

@@ -30,5 +30,6 @@ pub fn subtypes_are_implementers(schema: &Schema)
 pub fn fields_are_plain(schema: &Schema)
     ensures { FieldsArePlain (schema_tree schema.now) }
 {
+    // A law: there is nothing to run.
     let _ = schema;
 }

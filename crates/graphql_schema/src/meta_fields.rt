@@ -5,6 +5,7 @@ ghost use Rattle.tree_type_members.specs.TypeSystemTree.{field_definition_tree};
 ghost use Rattle.schema_building.specs.in_built_in.MetaFields.{typename_field, schema_field, type_field, meta_field_of};
 ghost use Rattle.schema_components.specs.Given.{component_tree};
 ghost use Rattle.graphql_schema.specs.MetaField.{by_definition};
+ghost use Rattle.graphql_schema.specs.FieldView.{lent_field};
 
 use graphql_names::Name;
 use schema_components::{Component, ComponentOrigin};
@@ -14,12 +15,14 @@ use std::marker::Model;
 use tree_type_members::FieldDefinition;
 
 /// The definitions of `__typename`, `__schema` and `__type` (sections 4.1 and 4.2).
+// Kept in each schema, so that they are lent as other fields are.
 pub(crate) struct MetaFields {
     typename: Component<FieldDefinition>,
     schema: Component<FieldDefinition>,
     type_by_name: Component<FieldDefinition>,
 }
 
+// Not derived: a derived drop is proved again in each crate that drops one.
 impl Drop for MetaFields {
     fn drop(self) {
         let MetaFields {
@@ -56,7 +59,7 @@ impl MetaFields {
         is_query_root: bool,
         name: &Name,
     ) -> Option<&Component<FieldDefinition>>
-        ensures { option_map (λ f. component_tree field_definition_tree f.now) result ≡ option_map by_definition (meta_field_of is_composite is_query_root name.now.text) }
+        ensures { lent_field result ≡ option_map by_definition (meta_field_of is_composite is_query_root name.now.text) }
     {
         match name.as_str() {
             "__typename" if is_composite => Some(&self.typename),

@@ -26,6 +26,7 @@ pub struct Schema {
     pub(crate) meta_fields: MetaFields,
 }
 
+// Not derived: a derived drop is proved again in each crate that drops one.
 impl Drop for Schema {
     fn drop(self) {
         let Schema {

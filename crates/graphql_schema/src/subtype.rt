@@ -17,6 +17,7 @@ impl Schema {
     pub fn is_subtype(&self, abstract_type: &Name, maybe_subtype: &Name) -> bool
         ensures { result ≡ is_subtype (schema_tree self.now) abstract_type.now.text maybe_subtype.now.text }
     {
+        // The lists of the types are searched: a map of implementers would take memory.
         match self.type_named(abstract_type) {
             Some(ExtendedType::Union(union)) => {
                 has_name(union.content().members.as_slice(), maybe_subtype)

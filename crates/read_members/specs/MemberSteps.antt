@@ -5,11 +5,13 @@ use Rattle.tree_literals.specs.ValueTree.{ValueTree}
 use Rattle.tree_literals.specs.TypeTree.{TypeTree}
 use Rattle.tree_directives.specs.DirectiveTree.{Directives, InputValues}
 use Rattle.tree_directives.specs.declared.directive_location.DirectiveLocation.{DirectiveLocation}
+use Rattle.tree_type_members.specs.TypeSystemTree.{FieldDefinitionTree, EnumValueTree, RootOperationTree}
 use Rattle.read_tokens.specs.declared.terminal.Terminal.{Terminal}
 use Rattle.read_grammar.specs.Meaning.{Meaning}
-use Rattle.read_grammar.specs.Kinds.{is_at, is_colon, is_directive, is_equals, is_on, is_open_paren, is_repeatable, is_string}
-use Rattle.read_grammar.specs.Reading.{Parser, mark, when, try, many, behind, placed, ◌⊙◌, ◌<&>◌}
-use Rattle.read_grammar.specs.TypeSystemReading.{description, arguments_definition, directive_locations}
+use Rattle.read_grammar.specs.Begins.{begins_described_name}
+use Rattle.read_grammar.specs.Kinds.{is_at, is_colon, is_directive, is_equals, is_on, is_open_paren, is_operation_type, is_repeatable, is_string}
+use Rattle.read_grammar.specs.Reading.{Parser, mark, when, try, many, some, behind, placed, ◌⊙◌, ◌<&>◌}
+use Rattle.read_grammar.specs.TypeSystemReading.{description, arguments_definition, directive_locations, input_value_definition, field_definition, enum_value_definition, root_operation_type_definition}
 use Rattle.read_grammar.specs.ValueGrammar.{constant}
 use Rattle.read_grammar.specs.ValueReading.{name, default_value, directives, type}
 
@@ -53,3 +55,21 @@ module _ {P : Type 0} (m : Meaning P) where
   -- what stands behind the name of a directive
   abbrev pub directive_rest : ℕ → Parser (Option (InputValues P) × (Option (Directives P) × (Option (Unit {0}) × (Unit {0} × List DirectiveLocation))))
   directive_rest n = try is_open_paren (arguments_definition m n) ⊙ directive_tail n
+
+  -- ---- lists without what is around them
+
+  abbrev pub some_input_values : ℕ → Parser (InputValues P)
+  some_input_values n = some begins_described_name (placed m (input_value_definition m n))
+
+  abbrev pub some_fields : ℕ → Parser (List (Placed P (FieldDefinitionTree P)))
+  some_fields n = some begins_described_name (placed m (field_definition m n))
+
+  abbrev pub some_enum_values : ℕ → Parser (List (Placed P (EnumValueTree P)))
+  some_enum_values n = some begins_described_name (placed m (enum_value_definition m n))
+
+  abbrev pub some_roots : Parser (List (Placed P (RootOperationTree P)))
+  some_roots = some is_operation_type (placed m (root_operation_type_definition m))
+
+  -- names that are found, and the others after them, each after a mark
+  abbrev pub other_names : (Terminal → Bool) → List (Text P) → Parser (List (Text P))
+  other_names is found = others is (name m) found

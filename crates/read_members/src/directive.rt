@@ -1,14 +1,14 @@
 //! Definitions of directives (section 3.13).
-ghost use Rattle.std.specs.Prelude.{◌≡◌, map};
+ghost use Rattle.std.specs.Prelude.{◌≡◌};
 ghost use Rattle.std.specs.Option.{option_map};
-ghost use Rattle.graphql_names.specs.Placed.{node_tree};
-ghost use Rattle.tree_directives.specs.DirectiveTree.{directive_definition_tree, directives_tree, input_value_tree};
+ghost use Rattle.tree_directives.specs.DirectiveTree.{directive_definition_tree, directives_tree};
 ghost use Rattle.read_grammar.specs.Kinds as kinds;
 ghost use Rattle.read_grammar.specs.Reading as read;
 ghost use Rattle.read_grammar.specs.Reading.{Reads};
 ghost use Rattle.read_grammar.specs.TypeSystemReading as reading;
 ghost use Rattle.read_values.specs.Meanings.{in_file};
 ghost use Rattle.read_members.specs.MemberSteps as steps;
+ghost use Rattle.read_members.specs.MemberViews.{directive_rest_view};
 
 use crate::input_value_list::{input_values_or_none, optional_arguments_definition};
 use crate::location_list::directive_locations;
@@ -31,6 +31,7 @@ fn directive_marks(tokens: &mut Source<'_>) -> Result<(), Stop>
 }
 
 /// `repeatable`, or nothing.
+// `Some(())` and no `bool`: the grammar tells whether a part is there.
 fn optional_repeatable(tokens: &mut Source<'_>) -> Result<Option<()>, Stop>
     ensures { Reads (λ x. x) (read.try kinds.is_repeatable (read.mark kinds.is_repeatable) tokens.old) result tokens.new }
 {
@@ -41,6 +42,7 @@ fn optional_repeatable(tokens: &mut Source<'_>) -> Result<Option<()>, Stop>
 }
 
 /// What follows the directives of a directive's definition: `"repeatable"? "on" DirectiveLocations`.
+// Read in steps, each with two or three parts: so few are owned at each `?`.
 fn directive_end(
     alloc: Global,
     tokens: &mut Source<'_>,
@@ -84,7 +86,7 @@ fn directive_rest(
     ),
     Stop,
 >
-    ensures { Reads (λ x. (option_map (λ v. map (node_tree input_value_tree) v.items) x.0, (option_map directives_tree x.1, (x.2, (tt, x.3.items))))) (steps.directive_rest (in_file file) depth tokens.old) result tokens.new }
+    ensures { Reads directive_rest_view (steps.directive_rest (in_file file) depth tokens.old) result tokens.new }
 {
     let arguments = optional_arguments_definition(alloc, tokens, file, depth)?;
     let (directives, repeatable, locations) = directive_tail(alloc, tokens, file, depth)?;

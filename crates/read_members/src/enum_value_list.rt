@@ -3,12 +3,12 @@ ghost use Rattle.std.specs.Prelude.{◌≡◌, [], map, unwrap_or};
 ghost use Rattle.std.specs.Option.{option_map};
 ghost use Rattle.graphql_names.specs.Placed.{node_tree};
 ghost use Rattle.tree_type_members.specs.TypeSystemTree.{enum_value_tree};
-ghost use Rattle.read_grammar.specs.Begins as begins;
 ghost use Rattle.read_grammar.specs.Kinds as kinds;
 ghost use Rattle.read_grammar.specs.Reading as read;
 ghost use Rattle.read_grammar.specs.Reading.{Reads};
 ghost use Rattle.read_grammar.specs.TypeSystemReading as reading;
 ghost use Rattle.read_values.specs.Meanings.{in_file};
+ghost use Rattle.read_members.specs.MemberSteps as steps;
 
 use crate::described::begins_described_name;
 use graphql_names::{FileId, Node};
@@ -63,7 +63,7 @@ fn some_enum_values(
     file: FileId,
     depth: usize,
 ) -> Result<Vec<Node<EnumValueDefinition>>, Stop>
-    ensures { Reads (λ v. map (node_tree enum_value_tree) v.items) (read.some begins.begins_described_name (read.placed (in_file file) (reading.enum_value_definition (in_file file) depth)) tokens.old) result tokens.new }
+    ensures { Reads (λ v. map (node_tree enum_value_tree) v.items) (steps.some_enum_values (in_file file) depth tokens.old) result tokens.new }
 {
     if !begins_described_name(tokens) {
         return Err(Stop::Unexpected);

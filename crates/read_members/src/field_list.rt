@@ -2,16 +2,16 @@
 ghost use Rattle.std.specs.Prelude.{◌≡◌, [], map, unwrap_or};
 ghost use Rattle.std.specs.Option.{option_map};
 ghost use Rattle.graphql_names.specs.Placed.{node_tree};
-ghost use Rattle.tree_directives.specs.DirectiveTree.{directives_tree, input_value_tree};
+ghost use Rattle.tree_directives.specs.DirectiveTree.{directives_tree};
 ghost use Rattle.tree_literals.specs.TypeTree.{type_tree};
 ghost use Rattle.tree_type_members.specs.TypeSystemTree.{field_definition_tree};
-ghost use Rattle.read_grammar.specs.Begins as begins;
 ghost use Rattle.read_grammar.specs.Kinds as kinds;
 ghost use Rattle.read_grammar.specs.Reading as read;
 ghost use Rattle.read_grammar.specs.Reading.{Reads};
 ghost use Rattle.read_grammar.specs.TypeSystemReading as reading;
 ghost use Rattle.read_values.specs.Meanings.{in_file};
 ghost use Rattle.read_members.specs.MemberSteps as steps;
+ghost use Rattle.read_members.specs.MemberViews.{field_rest_view};
 
 use crate::described::{begins_described_name, described_name};
 use crate::input_value_list::{input_values_or_none, optional_arguments_definition};
@@ -27,6 +27,7 @@ use tree_literals::Type;
 use tree_type_members::FieldDefinition;
 
 /// What follows the arguments of a field: `":" Type Directives?`, without variables in its values.
+// Apart from what is before it, so that few parts live across a `?` in any function.
 fn field_end(
     alloc: Global,
     tokens: &mut Source<'_>,
@@ -55,7 +56,7 @@ fn field_rest(
     ),
     Stop,
 >
-    ensures { Reads (λ x. (option_map (λ v. map (node_tree input_value_tree) v.items) x.0, (tt, (type_tree x.1, option_map directives_tree x.2)))) (steps.field_rest (in_file file) depth tokens.old) result tokens.new }
+    ensures { Reads field_rest_view (steps.field_rest (in_file file) depth tokens.old) result tokens.new }
 {
     let arguments = optional_arguments_definition(alloc, tokens, file, depth)?;
     let (ty, directives) = field_end(alloc, tokens, file, depth)?;
@@ -104,7 +105,7 @@ fn some_fields(
     file: FileId,
     depth: usize,
 ) -> Result<Vec<Node<FieldDefinition>>, Stop>
-    ensures { Reads (λ v. map (node_tree field_definition_tree) v.items) (read.some begins.begins_described_name (read.placed (in_file file) (reading.field_definition (in_file file) depth)) tokens.old) result tokens.new }
+    ensures { Reads (λ v. map (node_tree field_definition_tree) v.items) (steps.some_fields (in_file file) depth tokens.old) result tokens.new }
 {
     if !begins_described_name(tokens) {
         return Err(Stop::Unexpected);

@@ -2,16 +2,14 @@
 ghost use Rattle.std.specs.Prelude.{◌≡◌, [], map, unwrap_or};
 ghost use Rattle.std.specs.Option.{option_map};
 ghost use Rattle.graphql_names.specs.Placed.{node_tree};
-ghost use Rattle.tree_directives.specs.DirectiveTree.{directives_tree, input_value_tree};
-ghost use Rattle.tree_literals.specs.TypeTree.{type_tree};
-ghost use Rattle.tree_literals.specs.ValueTree.{value_tree};
-ghost use Rattle.read_grammar.specs.Begins as begins;
+ghost use Rattle.tree_directives.specs.DirectiveTree.{input_value_tree};
 ghost use Rattle.read_grammar.specs.Kinds as kinds;
 ghost use Rattle.read_grammar.specs.Reading as read;
 ghost use Rattle.read_grammar.specs.Reading.{Reads};
 ghost use Rattle.read_grammar.specs.TypeSystemReading as reading;
 ghost use Rattle.read_values.specs.Meanings.{in_file};
 ghost use Rattle.read_members.specs.MemberSteps as steps;
+ghost use Rattle.read_members.specs.MemberViews.{input_value_rest_view};
 
 use crate::described::{begins_described_name, described_name};
 use graphql_names::{FileId, Node};
@@ -26,13 +24,14 @@ use tree_directives::{DirectiveList, InputValueDefinition};
 use tree_literals::{Type, Value};
 
 /// What follows the name of an input value: `":" Type DefaultValue? Directives?`, without variables in its values.
+// Apart from what is before it, so that few parts live across a `?` in any function.
 fn input_value_rest(
     alloc: Global,
     tokens: &mut Source<'_>,
     file: FileId,
     depth: usize,
 ) -> Result<(Node<Type>, Option<Node<Value>>, Option<DirectiveList>), Stop>
-    ensures { Reads (λ x. (tt, (node_tree type_tree x.0, (option_map (node_tree value_tree) x.1, option_map directives_tree x.2)))) (steps.input_value_rest (in_file file) depth tokens.old) result tokens.new }
+    ensures { Reads input_value_rest_view (steps.input_value_rest (in_file file) depth tokens.old) result tokens.new }
 {
     expect(tokens, Terminal::Colon)?;
     let ty = placed_type(alloc, tokens, file, depth)?;
@@ -83,7 +82,7 @@ fn some_input_values(
     file: FileId,
     depth: usize,
 ) -> Result<Vec<Node<InputValueDefinition>>, Stop>
-    ensures { Reads (λ v. map (node_tree input_value_tree) v.items) (read.some begins.begins_described_name (read.placed (in_file file) (reading.input_value_definition (in_file file) depth)) tokens.old) result tokens.new }
+    ensures { Reads (λ v. map (node_tree input_value_tree) v.items) (steps.some_input_values (in_file file) depth tokens.old) result tokens.new }
 {
     if !begins_described_name(tokens) {
         return Err(Stop::Unexpected);

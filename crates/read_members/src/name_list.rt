@@ -35,13 +35,14 @@ fn first_name(tokens: &mut Source<'_>, file: FileId, mark: Terminal) -> Result<N
 }
 
 /// The names that follow those found, each after a mark.
+// A function of its own for the loop, so that its `?` do not stand beside those for the first name.
 fn other_names(
     tokens: &mut Source<'_>,
     file: FileId,
     mark: Terminal,
     mut found: Vec<Name>,
 ) -> Result<Vec<Name>, Stop>
-    ensures { Reads (λ v. map name_tree v.items) (steps.others (kinds.is mark) (values.name (in_file file)) (map name_tree found.items) tokens.old) result tokens.new }
+    ensures { Reads (λ v. map name_tree v.items) (steps.other_names (in_file file) (kinds.is mark) (map name_tree found.items) tokens.old) result tokens.new }
 {
     'turns: while next_is(tokens, mark) {
         found.push(next_name(tokens, file, mark)?)?;

@@ -9,6 +9,7 @@ ghost use Rattle.read_grammar.specs.Reading as read;
 ghost use Rattle.read_grammar.specs.Reading.{Reads};
 ghost use Rattle.read_grammar.specs.TypeSystemReading as reading;
 ghost use Rattle.read_values.specs.Meanings.{in_file};
+ghost use Rattle.read_members.specs.MemberSteps as steps;
 
 use graphql_names::{FileId, Node};
 use read_grammar::Stop;
@@ -59,7 +60,7 @@ fn some_roots(
     tokens: &mut Source<'_>,
     file: FileId,
 ) -> Result<Vec<Node<(OperationType, NamedType)>>, Stop>
-    ensures { Reads (λ v. map (node_tree root_tree) v.items) (read.some kinds.is_operation_type (read.placed (in_file file) (reading.root_operation_type_definition (in_file file))) tokens.old) result tokens.new }
+    ensures { Reads (λ v. map (node_tree root_tree) v.items) (steps.some_roots (in_file file) tokens.old) result tokens.new }
 {
     if !next_is_operation_type(tokens) {
         return Err(Stop::Unexpected);

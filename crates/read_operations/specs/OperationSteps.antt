@@ -7,10 +7,10 @@ use Rattle.tree_directives.specs.DirectiveTree.{Directives}
 use Rattle.tree_operations.specs.SelectionTree.{SelectionTrees}
 use Rattle.tree_operations.specs.OperationTree.{VariableDefinitionTree, OperationTree}
 use Rattle.read_grammar.specs.Meaning.{Meaning}
-use Rattle.read_grammar.specs.Kinds.{is_name, is_at, is_equals, is_open_paren}
+use Rattle.read_grammar.specs.Kinds.{is_name, is_at, is_dollar, is_equals, is_open_paren}
 use Rattle.read_grammar.specs.OperationGrammar.{short_of, operation_of}
-use Rattle.read_grammar.specs.OperationReading.{operation_type, type_condition, variable_definitions, selection_set}
-use Rattle.read_grammar.specs.Reading.{Parser, try, placed, ◌⊙◌, ◌<&>◌}
+use Rattle.read_grammar.specs.OperationReading.{operation_type, type_condition, variable_definition, variable_definitions, selection_set}
+use Rattle.read_grammar.specs.Reading.{Parser, some, try, placed, ◌⊙◌, ◌<&>◌}
 use Rattle.read_grammar.specs.ValueGrammar.{constant, with_variables}
 use Rattle.read_grammar.specs.ValueReading.{name, default_value, directives, type}
 
@@ -34,3 +34,14 @@ module _ {P : Type 0} (m : Meaning P) where
   -- what stands behind the colon of a definition of a variable: Type DefaultValue? Directives[Const]?
   abbrev pub type_and_default : ℕ → Parser (Placed P (TypeTree P) × (Option (Placed P (ValueTree P)) × Option (Directives P)))
   type_and_default n = placed m (type m n) ⊙ try is_equals (default_value m n) ⊙ try is_at (directives m constant n)
+
+  -- VariableDefinitions?
+  abbrev pub optional_variables : ℕ → Parser (Option (List (Placed P (VariableDefinitionTree P))))
+  optional_variables n = try is_open_paren (variable_definitions m n)
+
+  -- a definition of a variable in its place, and all of a list without its parentheses
+  abbrev pub placed_variable : ℕ → Parser (Placed P (VariableDefinitionTree P))
+  placed_variable n = placed m (variable_definition m n)
+
+  abbrev pub some_variables : ℕ → Parser (List (Placed P (VariableDefinitionTree P)))
+  some_variables n = some is_dollar (placed_variable n)

@@ -1,34 +1,33 @@
 -- Private: leads to `Derives` and `Says`. The parts of selections.
-use Rattle.std.specs.Prelude.{ℕ, [], Option, Ok, unwrap_or}
+use Rattle.std.specs.Prelude.{ℕ, List, [], Option, Ok, unwrap_or}
 use Rattle.std.specs.Option.{option_map}
 use Rattle.graphql_names.specs.declared.name.Name.{Name}
 use Rattle.graphql_names.specs.Placed.{Place, Text, name_tree}
 use Rattle.tree_directives.specs.DirectiveTree.{Arguments, Directives, directives_tree}
-use Rattle.tree_operations.specs.SelectionTree.{FieldHead, SelectionTree, SelectionTrees, SpreadTree, InlineTree, no_selections, selection_trees, selection_tree}
-use Rattle.tree_operations.specs.SelectionParts.{field_head}
-use Rattle.tree_operations.specs.declared.selection.Field.{Field}
+use Rattle.tree_operations.specs.SelectionTree.{FieldHead, SelectionTree, SelectionTrees, FieldTree, SpreadTree, InlineTree, no_selections}
 use Rattle.tree_operations.specs.declared.selection.FragmentSpread.{FragmentSpread}
-use Rattle.tree_operations.specs.declared.selection.InlineFragment.{InlineFragment}
 use Rattle.read_grammar.specs.Meaning.{Meaning}
+use Rattle.read_grammar.specs.Begins.{begins_selection}
 use Rattle.read_grammar.specs.Kinds.{is_on, is_at, is_spread, is_open_paren, is_open_brace}
-use Rattle.read_grammar.specs.Reading.{Parser, and_then, mark, try, placed, ◌⊙◌, ◌<&>◌}
+use Rattle.read_grammar.specs.Reading.{Parser, and_then, mark, some, try, placed, ◌⊙◌, ◌<&>◌}
 use Rattle.read_grammar.specs.ValueGrammar.{with_variables}
 use Rattle.read_grammar.specs.ValueReading.{arguments, directives}
-use Rattle.read_grammar.specs.OperationReading.{alias_and_name, fragment_name, type_condition, dotted, dotted_of}
+use Rattle.read_grammar.specs.OperationReading.{alias_and_name, fragment_name, type_condition, dotted, dotted_of, selection, selection_set}
 
 -- ---- what a tree in memory shows without its place
 
 abbrev pub alias_view : Option Name × Name → Option (Text Place) × Text Place
 alias_view x = (option_map name_tree x.0, name_tree x.1)
 
-abbrev pub field_view : Field → FieldHead Place × SelectionTrees Place
-field_view f = (field_head f, selection_trees selection_tree f.selection_set.items)
-
 abbrev pub spread_view : FragmentSpread → Text Place × Directives Place
 spread_view s = (name_tree s.fragment_name, directives_tree s.directives)
 
-abbrev pub inline_view : InlineFragment → Option (Text Place) × (Directives Place × SelectionTrees Place)
-inline_view f = (option_map name_tree f.type_condition, (directives_tree f.directives, selection_trees selection_tree f.selection_set.items))
+-- a field of its alias and name and what stands behind them, and an inline fragment of its parts, at a place
+abbrev pub field_with : {P : Type 0} → P → (Option (Text P) × Text P) × (Option (Arguments P) × (Option (Directives P) × Option (SelectionTrees P))) → SelectionTree P
+field_with p x = FieldTree p (record { alias = x.0.0; name = x.0.1; arguments = unwrap_or x.1.0 []; directives = unwrap_or x.1.1.0 [] }) (unwrap_or x.1.1.1 no_selections)
+
+abbrev pub inline_with : {P : Type 0} → P → Option (Text P) × (Option (Directives P) × SelectionTrees P) → SelectionTree P
+inline_with p x = InlineTree p x.0 (unwrap_or x.1.0 []) x.1.1
 
 -- ---- how it is read
 
@@ -66,3 +65,15 @@ module _ {P : Type 0} (m : Meaning P) where
   -- what begins with three dots
   abbrev pub dots : ℕ → Parser (SelectionTrees P) → Parser (SelectionTree P)
   dots n set = dotted_of <&> placed m (mark is_spread ⊙ dotted m n set)
+
+  -- SelectionSet?
+  abbrev pub optional_set : ℕ → Parser (Option (SelectionTrees P))
+  optional_set n = try is_open_brace (selection_set m n)
+
+  -- Directives? SelectionSet?, with the selections of that depth
+  abbrev pub directives_and_optional_set : ℕ → Parser (Option (Directives P) × Option (SelectionTrees P))
+  directives_and_optional_set n = directives_and_any_set n (selection_set m n)
+
+  -- selections without their braces
+  abbrev pub some_selections : ℕ → Parser (List (SelectionTree P))
+  some_selections n = some begins_selection (selection m n (selection_set m n))

@@ -1,14 +1,12 @@
 //! Fragments (section 2.8).
-ghost use Rattle.std.specs.Option.{option_map};
-ghost use Rattle.graphql_names.specs.Placed.{name_tree, node_tree};
-ghost use Rattle.tree_directives.specs.DirectiveTree.{directives_tree};
-ghost use Rattle.tree_operations.specs.SelectionTree.{selection_tree, selection_trees};
+ghost use Rattle.graphql_names.specs.Placed.{node_tree};
 ghost use Rattle.tree_operations.specs.OperationTree.{fragment_tree};
 ghost use Rattle.read_grammar.specs.OperationReading as reading;
 ghost use Rattle.read_grammar.specs.Reading as read;
 ghost use Rattle.read_grammar.specs.Reading.{Reads};
 ghost use Rattle.read_values.specs.Meanings.{in_file};
 ghost use Rattle.read_operations.specs.OperationSteps as steps;
+ghost use Rattle.read_operations.specs.PartViews.{condition_and_set_view};
 
 use crate::condition::{fragment_name, type_condition};
 use crate::selection_list::directives_and_set;
@@ -27,7 +25,7 @@ fn condition_and_set(
     file: FileId,
     depth: usize,
 ) -> Result<(Name, (Option<DirectiveList>, Vec<Selection>)), Stop>
-    ensures { Reads (λ x. (name_tree x.0, (option_map directives_tree x.1.0, selection_trees selection_tree x.1.1.items))) (steps.condition_and_set (in_file file) depth tokens.old) result tokens.new }
+    ensures { Reads condition_and_set_view (steps.condition_and_set (in_file file) depth tokens.old) result tokens.new }
 {
     let condition = type_condition(tokens, file)?;
     let behind = directives_and_set(alloc, tokens, file, depth)?;

@@ -2,8 +2,6 @@
 ghost use Rattle.std.specs.Prelude.{◌≡◌, [], map, unwrap_or};
 ghost use Rattle.std.specs.Option.{option_map};
 ghost use Rattle.graphql_names.specs.Placed.{name_tree, node_tree};
-ghost use Rattle.tree_directives.specs.DirectiveTree.{directives_tree};
-ghost use Rattle.tree_operations.specs.SelectionTree.{selection_tree, selection_trees};
 ghost use Rattle.tree_operations.specs.OperationTree.{variable_definition_tree, operation_tree};
 ghost use Rattle.read_grammar.specs.Kinds as kinds;
 ghost use Rattle.read_grammar.specs.OperationReading as reading;
@@ -12,6 +10,7 @@ ghost use Rattle.read_grammar.specs.Reading.{Reads};
 ghost use Rattle.read_grammar.specs.ValueReading as values;
 ghost use Rattle.read_values.specs.Meanings.{in_file};
 ghost use Rattle.read_operations.specs.OperationSteps as steps;
+ghost use Rattle.read_operations.specs.PartViews.{variables_view, variables_and_set_view};
 
 use crate::selection_list::{directives_and_set, selection_set};
 use crate::variable_list::variable_definitions;
@@ -40,7 +39,7 @@ fn optional_variables(
     file: FileId,
     depth: usize,
 ) -> Result<Option<Vec<Node<VariableDefinition>>>, Stop>
-    ensures { Reads (option_map (λ v. map (node_tree variable_definition_tree) v.items)) (read.try kinds.is_open_paren (reading.variable_definitions (in_file file) depth) tokens.old) result tokens.new }
+    ensures { Reads variables_view (steps.optional_variables (in_file file) depth tokens.old) result tokens.new }
 {
     if !next_is(tokens, Terminal::OpenParen) {
         return Ok(None);
@@ -93,7 +92,7 @@ fn variables_and_set(
     ),
     Stop,
 >
-    ensures { Reads (λ x. (option_map (λ v. map (node_tree variable_definition_tree) v.items) x.0, (option_map directives_tree x.1.0, selection_trees selection_tree x.1.1.items))) (steps.variables_and_set (in_file file) depth tokens.old) result tokens.new }
+    ensures { Reads variables_and_set_view (steps.variables_and_set (in_file file) depth tokens.old) result tokens.new }
 {
     let variables = optional_variables(alloc, tokens, file, depth)?;
     let behind = directives_and_set(alloc, tokens, file, depth)?;

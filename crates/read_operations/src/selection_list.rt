@@ -2,31 +2,29 @@
 //! its kind alone.
 ghost use Rattle.std.specs.Prelude.{◌≡◌, map};
 ghost use Rattle.std.specs.Option.{option_map};
-ghost use Rattle.graphql_names.specs.Placed.{node_tree};
-ghost use Rattle.tree_directives.specs.DirectiveTree.{argument_tree, directives_tree};
+ghost use Rattle.tree_directives.specs.DirectiveTree.{directives_tree};
 ghost use Rattle.tree_operations.specs.SelectionTree.{selection_tree, selection_trees};
 ghost use Rattle.read_grammar.specs.Begins as begins;
-ghost use Rattle.read_grammar.specs.Kinds as kinds;
 ghost use Rattle.read_grammar.specs.OperationReading as reading;
 ghost use Rattle.read_grammar.specs.Reading as read;
 ghost use Rattle.read_grammar.specs.Reading.{Reads};
 ghost use Rattle.read_values.specs.Meanings.{in_file};
 ghost use Rattle.read_operations.specs.SelectionSteps as steps;
+ghost use Rattle.read_operations.specs.PartViews.{set_view, directives_and_any_set_view, after_name_view};
 
 use crate::condition::next_is_fragment_name;
 use crate::selection_parts::{
-    alias_and_name, begins_selection, optional_condition, placed_spread, selections_or_none,
+    alias_and_name, begins_selection, field_with, inline_with, optional_condition, placed_spread,
 };
 use graphql_names::{FileId, Node};
 use read_grammar::Stop;
 use read_tokens::{Source, Terminal};
 use read_values::{
-    arguments_or_none, begin, directives_or_none, expect, next_is, next_is_name, open,
-    optional_arguments, optional_directives, since,
+    begin, expect, next_is, next_is_name, open, optional_arguments, optional_directives, since,
 };
 use std::alloc::Global;
 use tree_directives::{Argument, DirectiveList};
-use tree_operations::{Field, InlineFragment, Selection};
+use tree_operations::Selection;
 
 /// SelectionSet, or nothing.
 #[cycle(selection)]
@@ -36,7 +34,7 @@ fn optional_selection_set(
     file: FileId,
     depth: usize,
 ) -> Result<Option<Vec<Selection>>, Stop>
-    ensures { Reads (option_map (λ v. selection_trees selection_tree v.items)) (read.try kinds.is_open_brace (reading.selection_set (in_file file) depth) tokens.old) result tokens.new }
+    ensures { Reads set_view (steps.optional_set (in_file file) depth tokens.old) result tokens.new }
 {
     if !next_is(tokens, Terminal::OpenBrace) {
         return Ok(None);
@@ -52,7 +50,7 @@ fn directives_and_any_set(
     file: FileId,
     depth: usize,
 ) -> Result<(Option<DirectiveList>, Option<Vec<Selection>>), Stop>
-    ensures { Reads (λ x. (option_map directives_tree x.0, option_map (λ v. selection_trees selection_tree v.items) x.1)) (steps.directives_and_any_set (in_file file) depth (reading.selection_set (in_file file) depth) tokens.old) result tokens.new }
+    ensures { Reads directives_and_any_set_view (steps.directives_and_optional_set (in_file file) depth tokens.old) result tokens.new }
 {
     let directives = optional_directives(alloc, tokens, file, false, depth)?;
     let selections = optional_selection_set(alloc, tokens, file, depth)?;
@@ -73,30 +71,14 @@ fn behind_name(
     ),
     Stop,
 >
-    ensures { Reads (λ x. (option_map (λ v. map (node_tree argument_tree) v.items) x.0, (option_map directives_tree x.1.0, option_map (λ v. selection_trees selection_tree v.items) x.1.1))) (steps.behind_name (in_file file) depth (reading.selection_set (in_file file) depth) tokens.old) result tokens.new }
+    ensures { Reads after_name_view (steps.behind_name (in_file file) depth (reading.selection_set (in_file file) depth) tokens.old) result tokens.new }
 {
     let arguments = optional_arguments(alloc, tokens, file, false, depth)?;
     let behind = directives_and_any_set(alloc, tokens, file, depth)?;
     Ok((arguments, behind))
 }
 
-/// Field: `Alias? Name Arguments? Directives? SelectionSet?`.
-#[cycle(selection)]
-fn field(alloc: Global, tokens: &mut Source<'_>, file: FileId, depth: usize) -> Result<Field, Stop>
-    ensures { Reads steps.field_view (steps.field_parts (in_file file) depth (reading.selection_set (in_file file) depth) tokens.old) result tokens.new }
-{
-    let (alias, name) = alias_and_name(tokens, file)?;
-    let (arguments, (directives, selections)) = behind_name(alloc, tokens, file, depth)?;
-    Ok(Field {
-        alias,
-        name,
-        arguments: arguments_or_none(alloc, arguments),
-        directives: directives_or_none(alloc, directives),
-        selection_set: selections_or_none(alloc, selections),
-    })
-}
-
-/// A field with its place.
+/// Field: `Alias? Name Arguments? Directives? SelectionSet?`, with its place.
 #[cycle(selection)]
 #[inline(never)]
 fn placed_field(
@@ -108,9 +90,10 @@ fn placed_field(
     ensures { Reads selection_tree (reading.field (in_file file) depth (reading.selection_set (in_file file) depth) tokens.old) result tokens.new }
 {
     let begin = begin(tokens);
-    let found = field(alloc, tokens, file, depth)?;
+    let names = alias_and_name(tokens, file)?;
+    let behind = behind_name(alloc, tokens, file, depth)?;
     let place = since(tokens, file, begin);
-    Ok(Selection::Field(Node::new_parsed(alloc, found, place)?))
+    Ok(field_with(alloc, place, names, behind)?)
 }
 
 /// `Directives? SelectionSet`
@@ -128,26 +111,7 @@ pub fn directives_and_set(
     Ok((directives, selections))
 }
 
-/// `TypeCondition? Directives? SelectionSet`
-#[cycle(selection)]
-fn inline(
-    alloc: Global,
-    tokens: &mut Source<'_>,
-    file: FileId,
-    depth: usize,
-) -> Result<InlineFragment, Stop>
-    ensures { Reads steps.inline_view (steps.inline_parts (in_file file) depth (reading.selection_set (in_file file) depth) tokens.old) result tokens.new }
-{
-    let type_condition = optional_condition(tokens, file)?;
-    let (directives, selection_set) = directives_and_set(alloc, tokens, file, depth)?;
-    Ok(InlineFragment {
-        type_condition,
-        directives: directives_or_none(alloc, directives),
-        selection_set,
-    })
-}
-
-/// InlineFragment, of which the dots are read that begin it.
+/// InlineFragment, of which the dots are read that begin it: `TypeCondition? Directives? SelectionSet`.
 #[cycle(selection)]
 #[inline(never)]
 fn placed_inline(
@@ -159,9 +123,10 @@ fn placed_inline(
 ) -> Result<Selection, Stop>
     ensures { Reads selection_tree (steps.inline_since (in_file file) begin depth (reading.selection_set (in_file file) depth) tokens.old) result tokens.new }
 {
-    let found = inline(alloc, tokens, file, depth)?;
+    let type_condition = optional_condition(tokens, file)?;
+    let behind = directives_and_set(alloc, tokens, file, depth)?;
     let place = since(tokens, file, begin);
-    Ok(Selection::InlineFragment(Node::new_parsed(alloc, found, place)?))
+    Ok(inline_with(alloc, place, type_condition, behind)?)
 }
 
 /// FragmentSpread or InlineFragment: what begins with `...`.
@@ -206,7 +171,7 @@ fn some_selections(
     file: FileId,
     depth: usize,
 ) -> Result<Vec<Selection>, Stop>
-    ensures { Reads (λ v. map selection_tree v.items) (read.some begins.begins_selection (reading.selection (in_file file) depth (reading.selection_set (in_file file) depth)) tokens.old) result tokens.new }
+    ensures { Reads (λ v. map selection_tree v.items) (steps.some_selections (in_file file) depth tokens.old) result tokens.new }
 {
     if !begins_selection(tokens) {
         return Err(Stop::Unexpected);

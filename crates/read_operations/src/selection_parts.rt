@@ -1,5 +1,5 @@
 //! Parts of selections that hold no selections (sections 2.4, 2.5, 2.7 and 2.8).
-ghost use Rattle.std.specs.Prelude.{◌≡◌, unwrap_or};
+ghost use Rattle.std.specs.Prelude.{◌≡◌, IfOk, unwrap_or};
 ghost use Rattle.std.specs.Option.{option_map};
 ghost use Rattle.read_tokens.specs.Input as input;
 ghost use Rattle.graphql_names.specs.Placed.{name_tree};
@@ -11,16 +11,19 @@ ghost use Rattle.read_grammar.specs.Reading as read;
 ghost use Rattle.read_grammar.specs.Reading.{Reads};
 ghost use Rattle.read_values.specs.Meanings.{in_file};
 ghost use Rattle.read_operations.specs.SelectionSteps as steps;
+ghost use Rattle.read_operations.specs.PartViews.{directives_and_set_view, after_name_view};
 
 use crate::condition::{fragment_name, type_condition};
-use graphql_names::{FileId, Name, Node};
+use graphql_names::{FileId, Name, Node, SourceSpan};
 use read_grammar::Stop;
 use read_tokens::{Source, Terminal};
 use read_values::{
-    directives_or_none, expect, name, next_is, next_is_name, optional_directives, since,
+    arguments_or_none, directives_or_none, expect, name, next_is, next_is_name,
+    optional_directives, since,
 };
-use std::alloc::Global;
-use tree_operations::{FragmentSpread, Selection};
+use std::alloc::{AllocError, Global};
+use tree_directives::{Argument, DirectiveList};
+use tree_operations::{Field, FragmentSpread, InlineFragment, Selection};
 
 /// Whether a selection may begin with the next token.
 pub fn begins_selection(tokens: &Source<'_>) -> bool
@@ -85,6 +88,51 @@ pub fn placed_spread(
     let found = spread(alloc, tokens, file, depth)?;
     let place = since(tokens, file, begin);
     Ok(Selection::FragmentSpread(Node::new_parsed(alloc, found, place)?))
+}
+
+/// The field of which this is read, at a place.
+// It and `inline_with` are not inlined, so that what they hold takes no stack at each level of selections.
+#[inline(never)]
+pub fn field_with(
+    alloc: Global,
+    place: SourceSpan,
+    names: (Option<Name>, Name),
+    behind: (
+        Option<Vec<Node<Argument>>>,
+        (Option<DirectiveList>, Option<Vec<Selection>>),
+    ),
+) -> Result<Selection, AllocError>
+    ensures { IfOk result (λ s. selection_tree s ≡ steps.field_with (Some place) (steps.alias_view names, after_name_view behind)) }
+{
+    let (alias, name) = names;
+    let (arguments, (directives, selections)) = behind;
+    let found = Field {
+        alias,
+        name,
+        arguments: arguments_or_none(alloc, arguments),
+        directives: directives_or_none(alloc, directives),
+        selection_set: selections_or_none(alloc, selections),
+    };
+    Ok(Selection::Field(Node::new_parsed(alloc, found, place)?))
+}
+
+/// The inline fragment of which this is read, at a place.
+#[inline(never)]
+pub fn inline_with(
+    alloc: Global,
+    place: SourceSpan,
+    type_condition: Option<Name>,
+    behind: (Option<DirectiveList>, Vec<Selection>),
+) -> Result<Selection, AllocError>
+    ensures { IfOk result (λ s. selection_tree s ≡ steps.inline_with (Some place) (option_map name_tree type_condition, directives_and_set_view behind)) }
+{
+    let (directives, selection_set) = behind;
+    let found = InlineFragment {
+        type_condition,
+        directives: directives_or_none(alloc, directives),
+        selection_set,
+    };
+    Ok(Selection::InlineFragment(Node::new_parsed(alloc, found, place)?))
 }
 
 /// The selections, of which there are none where they are left out.

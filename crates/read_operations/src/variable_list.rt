@@ -1,17 +1,12 @@
 //! Definitions of variables (section 2.10).
 ghost use Rattle.std.specs.Prelude.{◌≡◌, map};
-ghost use Rattle.std.specs.Option.{option_map};
 ghost use Rattle.graphql_names.specs.Placed.{node_tree};
-ghost use Rattle.tree_literals.specs.TypeTree.{type_tree};
-ghost use Rattle.tree_literals.specs.ValueTree.{value_tree};
-ghost use Rattle.tree_directives.specs.DirectiveTree.{directives_tree};
 ghost use Rattle.tree_operations.specs.OperationTree.{variable_definition_tree};
-ghost use Rattle.read_grammar.specs.Kinds as kinds;
 ghost use Rattle.read_grammar.specs.OperationReading as reading;
-ghost use Rattle.read_grammar.specs.Reading as read;
 ghost use Rattle.read_grammar.specs.Reading.{Reads};
 ghost use Rattle.read_values.specs.Meanings.{in_file};
 ghost use Rattle.read_operations.specs.OperationSteps as steps;
+ghost use Rattle.read_operations.specs.PartViews.{type_and_default_view};
 
 use graphql_names::{FileId, Node};
 use read_grammar::Stop;
@@ -32,7 +27,7 @@ fn type_and_default(
     file: FileId,
     depth: usize,
 ) -> Result<(Node<Type>, (Option<Node<Value>>, Option<DirectiveList>)), Stop>
-    ensures { Reads (λ x. (node_tree type_tree x.0, (option_map (node_tree value_tree) x.1.0, option_map directives_tree x.1.1))) (steps.type_and_default (in_file file) depth tokens.old) result tokens.new }
+    ensures { Reads type_and_default_view (steps.type_and_default (in_file file) depth tokens.old) result tokens.new }
 {
     let ty = placed_type(alloc, tokens, file, depth)?;
     let default_value = optional_default(alloc, tokens, file, depth)?;
@@ -68,7 +63,7 @@ fn placed_variable_definition(
     file: FileId,
     depth: usize,
 ) -> Result<Node<VariableDefinition>, Stop>
-    ensures { Reads (node_tree variable_definition_tree) (read.placed (in_file file) (reading.variable_definition (in_file file) depth) tokens.old) result tokens.new }
+    ensures { Reads (node_tree variable_definition_tree) (steps.placed_variable (in_file file) depth tokens.old) result tokens.new }
 {
     let begin = begin(tokens);
     let found = variable_definition(alloc, tokens, file, depth)?;
@@ -83,7 +78,7 @@ fn some_variable_definitions(
     file: FileId,
     depth: usize,
 ) -> Result<Vec<Node<VariableDefinition>>, Stop>
-    ensures { Reads (λ v. map (node_tree variable_definition_tree) v.items) (read.some kinds.is_dollar (read.placed (in_file file) (reading.variable_definition (in_file file) depth)) tokens.old) result tokens.new }
+    ensures { Reads (λ v. map (node_tree variable_definition_tree) v.items) (steps.some_variables (in_file file) depth tokens.old) result tokens.new }
 {
     if !next_is(tokens, Terminal::Dollar) {
         return Err(Stop::Unexpected);

@@ -198,6 +198,7 @@ pub(crate) fn push_block(out: &mut String, raw: &str) -> Result<(), AllocError>
 {
     let line = first_line(raw);
     let behind = behind_line(raw, line.len());
+    // The lines are passed several times, for the indent, the end and the text: so no list of them is made.
     let indent = or_zero(common_indent(behind.as_bytes()));
     if is_blank(line.as_bytes()) {
         return push_from(out, behind, indent);

@@ -36,6 +36,7 @@ fn push_character<'a>(out: &mut String, text: &'a str) -> Result<&'a str, AllocE
 pub(crate) fn raw_value(alloc: Global, text: &str) -> Result<String, AllocError>
     ensures { IfOk result (λ raw. string_bytes raw ≡ replaced block_character_at 0 text.now) }
 {
+    // Room enough: what replaces `\"""` is shorter.
     let mut out = String::with_capacity(alloc, text.len())?;
     let mut rest = push_plain(&mut out, text)?;
     'characters: while !rest.is_empty() {

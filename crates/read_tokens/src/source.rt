@@ -106,6 +106,7 @@ impl<'a> Source<'a> {
         let token = token_text(self.text, self.at, length);
         let last = self.at + length;
         let at = past_ignored(self.text, last);
+        // Found once for each token, as `peek` is called many times before the token is taken.
         self.next = symbol_at(self.text, at);
         self.at = at;
         self.last = last;

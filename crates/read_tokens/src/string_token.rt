@@ -47,6 +47,7 @@ fn hexadecimal_at(i: usize, bytes: &[u8]) -> Option<u32>
 }
 
 /// The character whose number four hexadecimal digits write. A surrogate is none.
+// `\u{..}` and pairs of surrogates for one character came after October 2021.
 #[tactic(auto, unfolding(crate::specs::Strings::unicode_at))]
 fn unicode_at(bytes: &[u8]) -> Option<char>
     ensures value { result ≡ spec.unicode_at bytes.now }
@@ -113,6 +114,7 @@ fn count_plain_parts(bytes: &[u8]) -> usize
 }
 
 /// How many bytes string characters of one byte take at the front.
+// The same count with another contract: what it means for the rule on parts.
 fn plain_parts_len(bytes: &[u8]) -> usize
     ensures run { run_len spec.part_len 0 bytes.now ≡ result + run_len spec.part_len 0 (drop result bytes.now) }
     ensures within { result ≤ length bytes.now }

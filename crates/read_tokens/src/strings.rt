@@ -28,6 +28,7 @@ pub fn string_value(alloc: Global, token: &str) -> Result<String, AllocError>
     ensures { IfOk result (λ value. string_bytes value ≡ spec.string_value token.now) }
 {
     let text = between(token, 1);
+    // Room enough: no escape is shorter than what it stands for.
     let mut value = String::with_capacity(alloc, text.len())?;
     push_parts(&mut value, text)?;
     Ok(value)

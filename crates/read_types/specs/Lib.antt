@@ -1,2 +1,3 @@
 pub mod KindTrees
 pub mod KindSteps
+pub mod KindViews

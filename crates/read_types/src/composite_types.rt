@@ -1,13 +1,10 @@
 //! Objects, interfaces and unions (sections 3.6 to 3.8).
-ghost use Rattle.std.specs.Prelude.{◌≡◌, map};
-ghost use Rattle.std.specs.Option.{option_map};
-ghost use Rattle.tree_directives.specs.DirectiveTree.{directives_tree};
-ghost use Rattle.graphql_names.specs.Placed.{name_tree, node_tree};
-ghost use Rattle.tree_type_members.specs.TypeSystemTree.{field_definition_tree};
+ghost use Rattle.std.specs.Prelude.{◌≡◌};
 ghost use Rattle.read_grammar.specs.Reading.{Reads};
 ghost use Rattle.read_types.specs.KindSteps as steps;
 ghost use Rattle.read_types.specs.KindTrees.{kind_tree};
 ghost use Rattle.read_members.specs.in_read_values.Meanings.{in_file};
+ghost use Rattle.read_types.specs.KindViews.{fields_rest_view, union_rest_view};
 
 use crate::kind::Kind;
 use graphql_names::{FileId, Node};
@@ -38,7 +35,7 @@ fn fields_rest(
     ),
     Stop,
 >
-    ensures { Reads (λ x. (option_map (λ v. map name_tree v.items) x.0, (option_map directives_tree x.1, option_map (λ v. map (node_tree field_definition_tree) v.items) x.2))) (steps.fields_rest (in_file file) depth tokens.old) result tokens.new }
+    ensures { Reads fields_rest_view (steps.fields_rest (in_file file) depth tokens.old) result tokens.new }
 {
     let interfaces = optional_implements_interfaces(alloc, tokens, file)?;
     let directives = optional_directives(alloc, tokens, file, true, depth)?;
@@ -95,7 +92,7 @@ fn union_rest(
     file: FileId,
     depth: usize,
 ) -> Result<(Option<DirectiveList>, Option<Vec<NamedType>>), Stop>
-    ensures { Reads (λ x. (option_map directives_tree x.0, option_map (λ v. map name_tree v.items) x.1)) (steps.union_rest (in_file file) depth tokens.old) result tokens.new }
+    ensures { Reads union_rest_view (steps.union_rest (in_file file) depth tokens.old) result tokens.new }
 {
     let directives = optional_directives(alloc, tokens, file, true, depth)?;
     let members = optional_union_member_types(alloc, tokens, file)?;

@@ -67,33 +67,40 @@ fn defined(
     }
 }
 
-/// The definition of the schema or of a type that begins at this byte with this description.
+/// How a definition begins: at which byte, and with which description.
+#[derive(Drop)]
+struct Heading {
+    begin: usize,
+    description: Option<NodeStr>,
+}
+
+/// The definition of the schema or of a type, with this heading.
 fn described_kind(
     alloc: Global,
     tokens: &mut Source<'_>,
     file: FileId,
     depth: usize,
-    begin: usize,
-    description: Option<NodeStr>,
+    heading: Heading,
 ) -> Result<Definition, Stop>
-    ensures { Reads definition_tree (steps.kind_from (in_file file) begin (option_map text_tree description) depth tokens.old) result tokens.new }
+    ensures { Reads definition_tree (steps.kind_from (in_file file) heading.begin (option_map text_tree heading.description) depth tokens.old) result tokens.new }
 {
+    let Heading { begin, description } = heading;
     let kind = definition_kind(alloc, tokens, file, depth)?;
     let place = since(tokens, file, begin);
     Ok(defined(alloc, place, description, kind)?)
 }
 
-/// The definition of a directive that begins at this byte with this description.
+/// The definition of a directive, with this heading.
 fn described_directive(
     alloc: Global,
     tokens: &mut Source<'_>,
     file: FileId,
     depth: usize,
-    begin: usize,
-    description: Option<NodeStr>,
+    heading: Heading,
 ) -> Result<Definition, Stop>
-    ensures { Reads definition_tree (steps.directive_from (in_file file) begin (option_map text_tree description) depth tokens.old) result tokens.new }
+    ensures { Reads definition_tree (steps.directive_from (in_file file) heading.begin (option_map text_tree heading.description) depth tokens.old) result tokens.new }
 {
+    let Heading { begin, description } = heading;
     let mut found = directive_definition(alloc, tokens, file, depth)?;
     let place = since(tokens, file, begin);
     found.description = description;
@@ -112,8 +119,9 @@ pub fn type_system_definition(
 {
     let begin = begin(tokens);
     let description = optional_description(alloc, tokens, file)?;
+    let heading = Heading { begin, description };
     if next_is(tokens, Terminal::Directive) {
-        return described_directive(alloc, tokens, file, depth, begin, description);
+        return described_directive(alloc, tokens, file, depth, heading);
     }
-    described_kind(alloc, tokens, file, depth, begin, description)
+    described_kind(alloc, tokens, file, depth, heading)
 }

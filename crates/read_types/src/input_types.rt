@@ -1,13 +1,10 @@
 //! Types that input can have: scalars, enums and input objects (sections 3.5, 3.9 and 3.10).
-ghost use Rattle.std.specs.Prelude.{◌≡◌, map};
-ghost use Rattle.std.specs.Option.{option_map};
-ghost use Rattle.tree_directives.specs.DirectiveTree.{directives_tree, input_value_tree};
-ghost use Rattle.graphql_names.specs.Placed.{node_tree};
-ghost use Rattle.tree_type_members.specs.TypeSystemTree.{enum_value_tree};
+ghost use Rattle.std.specs.Prelude.{◌≡◌};
 ghost use Rattle.read_grammar.specs.Reading.{Reads};
 ghost use Rattle.read_types.specs.KindSteps as steps;
 ghost use Rattle.read_types.specs.KindTrees.{kind_tree};
 ghost use Rattle.read_members.specs.in_read_values.Meanings.{in_file};
+ghost use Rattle.read_types.specs.KindViews.{enum_rest_view, input_object_rest_view};
 
 use crate::kind::Kind;
 use graphql_names::{FileId, Node};
@@ -55,7 +52,7 @@ fn enum_rest(
     ),
     Stop,
 >
-    ensures { Reads (λ x. (option_map directives_tree x.0, option_map (λ v. map (node_tree enum_value_tree) v.items) x.1)) (steps.enum_rest (in_file file) depth tokens.old) result tokens.new }
+    ensures { Reads enum_rest_view (steps.enum_rest (in_file file) depth tokens.old) result tokens.new }
 {
     let directives = optional_directives(alloc, tokens, file, true, depth)?;
     let values = optional_enum_values_definition(alloc, tokens, file, depth)?;
@@ -95,7 +92,7 @@ fn input_object_rest(
     ),
     Stop,
 >
-    ensures { Reads (λ x. (option_map directives_tree x.0, option_map (λ v. map (node_tree input_value_tree) v.items) x.1)) (steps.input_object_rest (in_file file) depth tokens.old) result tokens.new }
+    ensures { Reads input_object_rest_view (steps.input_object_rest (in_file file) depth tokens.old) result tokens.new }
 {
     let directives = optional_directives(alloc, tokens, file, true, depth)?;
     let fields = optional_input_fields_definition(alloc, tokens, file, depth)?;

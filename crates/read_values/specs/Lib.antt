@@ -1,5 +1,6 @@
 pub mod Meanings
 pub mod TypeSteps
+pub mod ListSteps
 pub use Rattle.read_grammar.specs as in_grammar
 pub use Rattle.read_grammar.specs.in_definitions as in_definitions
 pub use Rattle.tree_directives.specs as in_directives

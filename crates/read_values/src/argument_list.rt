@@ -2,11 +2,11 @@
 ghost use Rattle.std.specs.Prelude.{◌≡◌, map};
 ghost use Rattle.graphql_names.specs.Placed.{node_tree};
 ghost use Rattle.tree_directives.specs.DirectiveTree.{argument_tree};
-ghost use Rattle.read_grammar.specs.Kinds as kinds;
 ghost use Rattle.read_grammar.specs.Reading as read;
 ghost use Rattle.read_grammar.specs.Reading.{Reads};
 ghost use Rattle.read_grammar.specs.ValueReading as reading;
 ghost use Rattle.read_values.specs.Meanings.{in_file};
+ghost use Rattle.read_values.specs.ListSteps as lists;
 
 use crate::name_token::name;
 use crate::steps::{begin, expect, next_is_name, open, since};
@@ -58,7 +58,7 @@ fn some_arguments(
     constant: bool,
     depth: usize,
 ) -> Result<Vec<Node<Argument>>, Stop>
-    ensures { Reads (λ v. map (node_tree argument_tree) v.items) (read.some kinds.is_name (read.placed (in_file file) (reading.argument (in_file file) constant depth)) tokens.old) result tokens.new }
+    ensures { Reads (λ v. map (node_tree argument_tree) v.items) (lists.some_arguments (in_file file) constant depth tokens.old) result tokens.new }
 {
     if !next_is_name(tokens) {
         return Err(Stop::Unexpected);

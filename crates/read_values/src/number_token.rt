@@ -13,6 +13,7 @@ use std::alloc::Global;
 use tree_literals::{FloatValue, IntValue, Value};
 
 /// IntValue.
+// `file` is for the contract alone, which says in which file the places of a value are.
 #[tactic(auto, using(crate::proofs::Tokens::next_is_int, crate::proofs::Tokens::int_refused))]
 pub fn int_value(alloc: Global, tokens: &mut Source<'_>, file: FileId) -> Result<Value, Stop>
     ensures { Reads value_tree (reading.int_value (in_file file) tokens.old) result tokens.new }

@@ -95,6 +95,7 @@ pub fn arguments_or_none(alloc: Global, found: Option<Vec<Node<Argument>>>) -> V
 }
 
 /// The directives, of which there are none where they are left out.
+// Apart from the call that reads: the grammar tells whether a part is there, the tree has a list in any case.
 pub fn directives_or_none(alloc: Global, found: Option<DirectiveList>) -> DirectiveList
     ensures { directives_tree result ≡ unwrap_or (option_map directives_tree found) [] }
 {

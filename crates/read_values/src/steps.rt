@@ -86,6 +86,7 @@ pub fn open(tokens: &mut Source<'_>, terminal: Terminal, depth: usize) -> Result
     if !next_is(tokens, terminal) {
         return Err(Stop::Unexpected);
     }
+    // Second: a bracket that may not stand here is `Unexpected`, however many are open.
     if depth == 0 {
         return Err(Stop::Nesting);
     }
@@ -101,6 +102,7 @@ pub fn since(tokens: &Source<'_>, file: FileId, begin: usize) -> SourceSpan
     SourceSpan {
         file_id: file,
         offset: begin,
+        // Saturating: that a token was passed over since need not be known here.
         length: tokens.last().saturating_sub(begin),
     }
 }

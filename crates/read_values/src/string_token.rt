@@ -44,6 +44,7 @@ fn string_text(alloc: Global, tokens: &mut Source<'_>) -> Result<String, Stop>
 }
 
 /// StringValue.
+// `file` is for the contract alone, which says in which file the places of a value are.
 pub fn string_value(alloc: Global, tokens: &mut Source<'_>, file: FileId) -> Result<Value, Stop>
     ensures { Reads value_tree (reading.string_value (in_file file) tokens.old) result tokens.new }
 {

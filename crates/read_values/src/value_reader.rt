@@ -9,6 +9,7 @@ ghost use Rattle.read_grammar.specs.Reading as read;
 ghost use Rattle.read_grammar.specs.Reading.{Reads};
 ghost use Rattle.read_grammar.specs.ValueReading as reading;
 ghost use Rattle.read_values.specs.Meanings.{in_file, entry_view, begins_nested};
+ghost use Rattle.read_values.specs.ListSteps as lists;
 
 use crate::name_token::name;
 use crate::steps::{begin, expect, is_name, next_is, next_is_name, since};
@@ -66,7 +67,7 @@ fn values(
     constant: bool,
     depth: usize,
 ) -> Result<Vec<Node<Value>>, Stop>
-    ensures { Reads (λ v. map (node_tree value_tree) v.items) (read.many begins.begins_value (read.placed (in_file file) (reading.value (in_file file) constant depth)) tokens.old) result tokens.new }
+    ensures { Reads (λ v. map (node_tree value_tree) v.items) (lists.values (in_file file) constant depth tokens.old) result tokens.new }
 {
     let mut found = Vec::new(alloc);
     'turns: while begins_value(tokens) {
@@ -121,7 +122,7 @@ fn object_fields(
     constant: bool,
     depth: usize,
 ) -> Result<Vec<(Name, Node<Value>)>, Stop>
-    ensures { Reads (λ v. map entry_view v.items) (read.many kinds.is_name (reading.object_field (in_file file) (reading.value (in_file file) constant depth)) tokens.old) result tokens.new }
+    ensures { Reads (λ v. map entry_view v.items) (lists.object_fields (in_file file) constant depth tokens.old) result tokens.new }
 {
     let mut found = Vec::new(alloc);
     'turns: while next_is_name(tokens) {

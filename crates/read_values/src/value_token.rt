@@ -73,6 +73,7 @@ fn next_is_boolean(tokens: &Source<'_>) -> bool
 }
 
 /// BooleanValue: `true` or `false`.
+// Here and in `null_value` `file` is for the contract alone.
 #[tactic(auto, unfolding(read_grammar::specs::ValueReading::boolean_value))]
 fn boolean_value(tokens: &mut Source<'_>, file: FileId) -> Result<Value, Stop>
     ensures { Reads value_tree (reading.boolean_value (in_file file) tokens.old) result tokens.new }

@@ -10,6 +10,7 @@ pub mod Noted
 pub mod Waiting
 pub mod SettingsView
 pub mod Settling
+pub mod ListView
 pub use Rattle.schema_built_in.specs as in_built_in
 pub use Rattle.schema_fold.specs as in_fold
 pub use Rattle.schema_fold_index.specs as in_fold_index

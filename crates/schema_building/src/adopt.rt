@@ -1,10 +1,9 @@
 //! Adoption: empty definitions for what is extended and not defined.
-ghost use Rattle.std.specs.Prelude.{◌≡◌, ◌++◌, ◌&&◌, [], ◌∷◌, not, map, is_some, if◌then◌else◌, OnOk};
-ghost use Rattle.std.specs.List.{list_any};
+ghost use Rattle.std.specs.Prelude.{map, OnOk};
 ghost use Rattle.schema_fold.specs.Listed.{definitions_of};
-ghost use Rattle.schema_fold.specs.ListedView.{listed_view};
 ghost use Rattle.schema_building.specs.Settling.{unnumbered, empty_of, adopted_schema};
 ghost use Rattle.schema_building.specs.Waiting.{orphan_kinds};
+ghost use Rattle.schema_building.specs.ListView.{listed_in, Lists};
 
 use crate::defined::{has_schema_extension, schema_is_defined};
 use crate::empty::{push_empty_type, push_unplaced};
@@ -22,9 +21,10 @@ pub(crate) fn adopt_types(
     index: &Index,
     list: &mut Vec<Listed>,
 ) -> Result<(), AllocError>
-    ensures { OnOk result (map listed_view list.new.items ≡ map listed_view list.old.items ++ map (λ k. unnumbered (empty_of k)) (orphan_kinds index.now)) }
+    ensures { OnOk result (Lists list.old list.new (map (λ k. unnumbered (empty_of k)) (orphan_kinds index.now))) }
 {
     let mut waiting = OrphanExtensionTypes::of(index);
+    // Not `for`: the iterator lends names alone, and here the kind is wanted as well.
     while let Some((name, kind)) = waiting.next_orphan() {
         push_empty_type(alloc, kind, name.clone()?, list)?;
     }
@@ -33,7 +33,7 @@ pub(crate) fn adopt_types(
 
 /// Puts an empty schema definition at the list's end, where the schema is extended and not defined.
 pub(crate) fn adopt_schema(alloc: Global, list: &mut Vec<Listed>) -> Result<(), AllocError>
-    ensures { OnOk result (map listed_view list.new.items ≡ map listed_view list.old.items ++ map unnumbered (adopted_schema (definitions_of (map listed_view list.old.items)))) }
+    ensures { OnOk result (Lists list.old list.new (map unnumbered (adopted_schema (definitions_of (listed_in list.old))))) }
 {
     if !has_schema_extension(list) {
         return Ok(());

@@ -89,6 +89,7 @@ impl Building {
         match add_document(self.alloc, &mut self.texts, &mut self.sources, document) {
             Ok(()) => Ok(()),
             Err(refusal) => {
+                // The list may now end amid a document, so nothing is added or built any more.
                 self.failed = true;
                 Err(refusal)
             }

@@ -9,6 +9,7 @@ ghost use Rattle.schema_built_in.specs.Table.{built_in_definitions};
 use schema_fold::{Definition, type_definition};
 
 /// Whether a type of that name is built in: a scalar (section 3.5) or a type of introspection (section 4.2).
+// By names alone, as this takes no memory: the definitions of `schema_built_in` would have to be made first.
 pub(crate) fn is_built_in_type(name: &str) -> bool
     ensures { result ≡ is_some (type_named name.now built_in_definitions) }
 {

@@ -1,10 +1,8 @@
 //! Definitions with nothing in them.
-ghost use Rattle.std.specs.Prelude.{◌≡◌, ◌++◌, [], ◌∷◌, map, None, OnOk};
-ghost use Rattle.graphql_names.specs.Node.{content, place};
-ghost use Rattle.graphql_names.specs.declared.node.Node.{Node};
+ghost use Rattle.std.specs.Prelude.{[], ◌∷◌, OnOk};
 ghost use Rattle.graphql_names.specs.Placed.{name_tree};
-ghost use Rattle.schema_fold.specs.ListedView.{listed_view};
 ghost use Rattle.schema_building.specs.Settling.{unnumbered, empty_of};
+ghost use Rattle.schema_building.specs.ListView.{Lists, ListsUnplaced};
 
 use graphql_names::{Name, Node};
 use schema_fold::{Definition, Listed, TypeKind};
@@ -20,7 +18,7 @@ pub(crate) fn push_empty_type(
     name: Name,
     list: &mut Vec<Listed>,
 ) -> Result<(), AllocError>
-    ensures { OnOk result (map listed_view list.new.items ≡ map listed_view list.old.items ++ unnumbered (empty_of (name_tree name, kind)) ∷ []) }
+    ensures { OnOk result (Lists list.old list.new (unnumbered (empty_of (name_tree name, kind)) ∷ [])) }
 {
     match kind {
         TypeKind::Scalar => push_unplaced(
@@ -88,6 +86,7 @@ pub(crate) fn push_empty_type(
 }
 
 /// Adds a definition of this content and no place, which is no extension, after the others of a list.
+// Over any content, so that the node and the push are proved once for all kinds.
 pub(crate) fn push_unplaced<T: Drop>(
     alloc: Global,
     value: T,
@@ -95,7 +94,7 @@ pub(crate) fn push_unplaced<T: Drop>(
 ) -> Result<(), AllocError>
 where
     Definition: From<Node<T>>,
-    ensures { OnOk result ((n : Node T) × (d : Definition) × ((content n ≡ value) × (place n ≡ None) × ⟦<Definition as From<Node<T>>>⟧.from_gives n d × (list.new.items ≡ list.old.items ++ record { definition = d; extension = None } ∷ []))) }
+    ensures { OnOk result (ListsUnplaced ⟦<Definition as From<Node<T>>>⟧.from_gives value list.old list.new) }
 {
     let node = Node::new(alloc, value)?;
     list.push(Listed {

@@ -1,15 +1,13 @@
 //! The list of definitions that counts: what is built in, and what the settings make of the texts.
-ghost use Rattle.std.specs.Prelude.{◌≡◌, ◌≤◌, ◌++◌, [], ◌∷◌, false, length, map, take, OnOk, IfOk};
+ghost use Rattle.std.specs.Prelude.{◌≡◌, ◌≤◌, [], false, length, map, take, OnOk, IfOk};
 ghost use Rattle.std.specs.List.{filter};
 ghost use Rattle.schema_fold.specs.in_definitions.DefinitionTree.{definition_tree};
 ghost use Rattle.schema_built_in.specs.Table.{built_in_definitions};
 ghost use Rattle.schema_fold.specs.Listed.{definitions_of};
 ghost use Rattle.schema_fold.specs.ListedView.{listed_view};
 ghost use Rattle.schema_fold_index.specs.Index.{IsIndexOf};
-ghost use Rattle.schema_building.specs.Settling.{unnumbered, is_kept, settled_from};
-ghost use Rattle.schema_building.specs.Waiting.{orphan_kinds};
-ghost use Rattle.schema_building.specs.TextsView.{texts_view};
-ghost use Rattle.schema_building.specs.SettingsView.{settings_view};
+ghost use Rattle.schema_building.specs.Settling.{unnumbered, is_kept};
+ghost use Rattle.schema_building.specs.ListView.{listed_in, settled_list, Lists};
 
 use crate::adopt::{adopt_schema, adopt_types};
 use crate::built_in_types::is_redefinition;
@@ -35,7 +33,7 @@ pub(crate) fn settle(
     list: &mut Vec<Listed>,
 ) -> Result<usize, AllocError>
     requires { list.old.items ≡ [] }
-    ensures settles { OnOk result (map listed_view list.new.items ≡ settled_from (settings_view settings) (texts_view texts.now).list (orphan_kinds texts.now.index) (map unnumbered built_in_definitions)) }
+    ensures settles { OnOk result (listed_in list.new ≡ settled_list settings texts.now) }
     ensures built_in { IfOk result (λ n. n ≡ length built_in_definitions) }
     ensures within { IfOk result (λ n. n ≤ length list.new.items) }
 {
@@ -44,6 +42,7 @@ pub(crate) fn settle(
     keep_texts(settings.ignores, &texts.list, list)?;
     if settings.adopts {
         adopt_types(alloc, &texts.index, list)?;
+        // After the types: an adopted object named `Query` is a root, and then the schema is defined.
         adopt_schema(alloc, list)?;
     }
     Ok(built_in)
@@ -60,6 +59,7 @@ pub(crate) fn settled_index(
     requires { ignores ≡ false → IsIndexOf (take (length texts.list.items) (definitions_of (map listed_view settled.now))) texts.index }
     ensures { IfOk result (λ index. IsIndexOf (definitions_of (map listed_view settled.now)) index) }
 {
+    // What was passed over has moved the positions of all that came after it.
     if ignores {
         return Index::of(alloc, settled);
     }
@@ -74,7 +74,7 @@ pub(crate) fn settled_index(
 
 /// Adds definitions that are no extensions after the others of the list.
 fn list_all(definitions: &[Definition], list: &mut Vec<Listed>) -> Result<(), AllocError>
-    ensures { OnOk result (map listed_view list.new.items ≡ map listed_view list.old.items ++ map unnumbered (map definition_tree definitions.now)) }
+    ensures { OnOk result (Lists list.old list.new (map unnumbered (map definition_tree definitions.now))) }
 {
     for definition in definitions {
         push_shared(list, definition, None)?;
@@ -85,7 +85,7 @@ fn list_all(definitions: &[Definition], list: &mut Vec<Listed>) -> Result<(), Al
 /// Adds the definitions of the texts after the others of the list, shared. Redefinitions are passed over, where
 /// they are ignored.
 fn keep_texts(ignores: bool, texts: &[Listed], list: &mut Vec<Listed>) -> Result<(), AllocError>
-    ensures { OnOk result (map listed_view list.new.items ≡ map listed_view list.old.items ++ filter (is_kept ignores) (map listed_view texts.now)) }
+    ensures { OnOk result (Lists list.old list.new (filter (is_kept ignores) (map listed_view texts.now))) }
 {
     for listed in texts {
         if ignores && is_redefinition(&listed.definition) {

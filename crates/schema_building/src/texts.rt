@@ -4,10 +4,10 @@ ghost use Rattle.std.specs.Option.{option_map};
 ghost use Rattle.schema_fold.specs.in_definitions.DefinitionTree.{definition_tree};
 ghost use Rattle.schema_fold.specs.in_definitions.Queries.{is_extension, definition_place};
 ghost use Rattle.schema_components.specs.Given.{extension_tree};
-ghost use Rattle.schema_fold.specs.ListedView.{listed_view};
 ghost use Rattle.schema_building.specs.KeptView.{definitions, KeepsIndex};
 ghost use Rattle.schema_building.specs.TextsView.{texts_view};
 ghost use Rattle.schema_building.specs.TextsList.{AddsDefinitions, IsListRefusal};
+ghost use Rattle.schema_building.specs.ListView.{Lists};
 
 use crate::refusal::BuilderRefusal;
 use schema_components::{ExtensionId, Extensions};
@@ -57,12 +57,13 @@ impl Texts {
 }
 
 /// Adds a definition, shared, after the others of a list.
+// The copy and the push, each with its `?`, are here once for all callers.
 pub(crate) fn push_shared(
     list: &mut Vec<Listed>,
     definition: &Definition,
     extension: Option<ExtensionId>,
 ) -> Result<(), AllocError>
-    ensures { OnOk result (map listed_view list.new.items ≡ map listed_view list.old.items ++ record { definition = definition_tree definition.now; extension = option_map extension_tree extension } ∷ []) }
+    ensures { OnOk result (Lists list.old list.new (record { definition = definition_tree definition.now; extension = option_map extension_tree extension } ∷ [])) }
 {
     let definition = definition.clone()?;
     list.push(Listed {

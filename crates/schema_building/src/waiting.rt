@@ -44,6 +44,7 @@ impl<'a> OrphanExtensionTypes<'a> {
     {
         while let Some(((name, filed), others)) = self.extended.split_first() {
             self.extended = others;
+            // A built-in type is defined, though by none of the texts.
             if !self.defined.contains_key(name) && !is_built_in_type(name.as_str()) {
                 return Some((name, filed.kind));
             }

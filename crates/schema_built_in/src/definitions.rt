@@ -137,6 +137,7 @@ fn add_definition(
 }
 
 /// The definitions of the rows.
+// A loop over rows of a table: a call with its `?` for each definition would cost far more to prove.
 fn definitions_of(alloc: Global, rows: &[Row]) -> Result<Vec<Definition>, AllocError>
     requires { IsTrue (list_all has_names rows.now) }
     ensures { IfOk result (λ v. map definition_tree v.items ≡ map row_definition rows.now) }

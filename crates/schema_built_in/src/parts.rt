@@ -114,6 +114,7 @@ fn argument_of(alloc: Global, row: ArgumentRow) -> Result<Node<InputValueDefinit
 }
 
 /// Adds the argument of the row.
+// It makes one and pushes it, so that the loop of its caller has one `?`.
 fn add_argument(
     alloc: Global,
     arguments: &mut Vec<Node<InputValueDefinition>>,

@@ -31,6 +31,7 @@ impl ComponentOrigin {
 /// A node, and where it comes from. Equality and hash are those of the node.
 #[derive_where(PartialEq, Eq, Hash; T)]
 pub struct Component<T> {
+    // Not compared: a schema says the same, however it is cut into extensions.
     #[derive_where(skip)]
     pub origin: ComponentOrigin,
     pub node: Node<T>,

@@ -30,6 +30,7 @@ fn check_name(text: &str) -> Result<(), SchemaCoordinateParseError>
 
 impl TypeCoordinate {
     /// The coordinate that is printed so: `T`.
+    // Not the trait `FromStr`, which does not take the `alloc` that names need.
     pub fn from_str(alloc: Global, text: &str) -> Result<TypeCoordinate, SchemaCoordinateParseError>
         ensures read { IfOk result (λ c. printed (type_coordinate c) ≡ text.now) }
         ensures error { IfErr result (ParseErrorIsDue type_form text.now) }
@@ -79,6 +80,7 @@ impl TypeAttributeCoordinate {
         ensures read { IfOk result (λ c. attribute_coordinate c ≡ OfAttribute ty.now attribute.now) }
         ensures error { IfErr result (PartsErrorIsDue (ty.now ∷ attribute.now ∷ [])) }
     {
+        // All are tested before the first takes memory.
         check_name(ty)?;
         check_name(attribute)?;
         let ty = Name::new_unchecked(alloc, ty)?;

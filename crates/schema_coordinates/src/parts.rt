@@ -42,6 +42,7 @@ pub(crate) fn parts_of(text: &str) -> Result<Parts<'_>, SchemaCoordinateParseErr
     ensures error { IfErr result (λ e. (form : Coordinate → Bool) → ParseErrorIsDue form text.now e) }
 {
     match cut_parts(text) {
+        // Cut at the first of each sign, a part may hold a further one: then the text has none of the forms.
         Some(parts) if parts.are_signless() => Ok(parts),
         _ => Err(SchemaCoordinateParseError::InvalidFormat),
     }

@@ -13,6 +13,7 @@ pub mod Keeping
 pub mod Collected
 pub mod ListedView
 pub mod Kept
+pub mod Steps
 pub mod Made
 pub use Rattle.schema_types.specs as in_schema_types
 pub use Rattle.schema_types.specs.in_components as in_components

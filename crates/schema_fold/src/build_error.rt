@@ -1,6 +1,7 @@
 //! What breaks a folding rule.
 ghost use Rattle.std.specs.Prelude.{◌≡◌, ◌++◌, [], ◌∷◌, OnOk};
 ghost use Rattle.schema_fold.specs.FaultView.{faults_of, breach_of, repeat_breach};
+ghost use Rattle.schema_fold.specs.Steps.{repeat_fault};
 
 use graphql_names::{Name, SourceSpan};
 use std::alloc::AllocError;
@@ -148,7 +149,7 @@ pub(crate) fn note_repeat(
     name: &Name,
     location: Option<SourceSpan>,
 ) -> Result<(), AllocError>
-    ensures { OnOk result (faults_of faults.new ≡ faults_of faults.old ++ record { place = location; breach = repeat_breach repeat type_name.now.text name.now.text } ∷ []) }
+    ensures { OnOk result (faults_of faults.new ≡ faults_of faults.old ++ repeat_fault location repeat type_name.now.text name.now.text ∷ []) }
 {
     let type_name = type_name.clone()?;
     let name = name.clone()?;

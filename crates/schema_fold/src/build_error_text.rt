@@ -22,6 +22,7 @@ impl fmt::Display for BuildError {
     ghost output = { λ e. Some (message (breach_of e)) };
 
     fn fmt<W: fmt::Write>(&self, f: &mut fmt::Formatter<W>) -> fmt::Result {
+        // One `write!` for all variants: one in each arm would cost several times as much to prove.
         let Template {
             front,
             first,

@@ -1,10 +1,11 @@
 //! All that a type is given, repeated components too.
 ghost use Rattle.std.specs.Prelude.{◌≡◌, ◌++◌, [], map, OnOk};
 ghost use Rattle.graphql_names.specs.Placed.{name_tree, node_tree};
-ghost use Rattle.schema_types.specs.in_components.Given.{origin_tree, component_name_tree};
+ghost use Rattle.schema_types.specs.in_components.Given.{origin_tree};
 ghost use Rattle.schema_fold.specs.Components.{all_given};
 ghost use Rattle.schema_fold.specs.PartsView.{itself, given_contents, parts_view};
 ghost use Rattle.schema_fold.specs.Collected.{collected, collected_from, collected_and};
+ghost use Rattle.schema_fold.specs.Steps.{AddsNames};
 
 use crate::parts::Parts;
 use graphql_names::{Name, Node};
@@ -35,7 +36,7 @@ pub(crate) fn add_names(
     origin: ComponentOrigin,
     names: &[Name],
 ) -> Result<(), AllocError>
-    ensures { OnOk result (map component_name_tree all.new.items ≡ map component_name_tree all.old.items ++ all_given (origin_tree origin) (map name_tree names.now)) }
+    ensures { OnOk result (AddsNames all.old all.new (all_given (origin_tree origin) (map name_tree names.now))) }
 {
     for name in names {
         let name = name.clone()?;

@@ -32,6 +32,8 @@ pub fn fold_type(
     ensures folded { IfOk result (λ t. extended_type t ≡ folded_type (map listed_view list.now) (defined_view defined.now)) }
     ensures faults { OnOk result (faults_of faults.new ≡ faults_of faults.old ++ component_faults defined.now.parts.kind defined.now.parts.name.now.text (collected_from (parts_of (map listed_view list.now) (defined_view defined.now)))) }
 {
+    // The lists and maps are owned here and filled by calls that borrow them: a loop that owned them would cost more to
+    // prove.
     let mut all = Collected::new(alloc);
     collect_type(&defined.parts, list, &mut all)?;
     let mut kept = Kept::new(alloc);

@@ -17,6 +17,7 @@ pub fn insert_new<T: Drop>(
     requires { get (same_text name_text) map.old name.now ≡ None }
     ensures { OnOk result (map.new.entries ≡ map.old.entries ++ (name.now, value) ∷ []) }
 {
+    // Both `?` stand here once, and not in each caller with what it owns.
     let name = name.clone()?;
     map.insert(name, value)?;
     Ok(())

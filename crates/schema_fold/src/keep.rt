@@ -1,14 +1,15 @@
 //! The first component of each name.
 ghost use Rattle.std.specs.Prelude.{◌≡◌, ◌++◌, [], map, OnOk};
 ghost use Rattle.graphql_names.specs.NameValue.{NameValue};
-ghost use Rattle.schema_types.specs.in_components.Lists.{firsts, repeats};
+ghost use Rattle.schema_types.specs.in_components.Lists.{firsts};
 ghost use Rattle.schema_types.specs.in_components.Names.{entries_of};
 ghost use Rattle.schema_types.specs.in_components.Given.{component_tree, component_name_tree, given_name};
 ghost use Rattle.schema_types.specs.TypeView.{name_text};
 ghost use Rattle.schema_fold.specs.Components.{keyed_firsts};
 ghost use Rattle.schema_fold.specs.FaultView.{faults_of};
 ghost use Rattle.schema_fold.specs.PartsView.{itself, given_contents};
-ghost use Rattle.schema_fold.specs.Keeping.{content_key, component_fault, name_fault};
+ghost use Rattle.schema_fold.specs.Keeping.{content_key};
+ghost use Rattle.schema_fold.specs.Steps.{told_of_components, told_of_names};
 
 use crate::build_error::{BuildError, Repeat, note_repeat};
 use crate::insert::insert_new;
@@ -62,7 +63,7 @@ pub(crate) fn keep_components<T: Keyed + Drop>(
 ) -> Result<(), AllocError>
     requires { kept.old.entries ≡ [] }
     ensures kept { OnOk result (entries_of name_text (component_tree itself) kept.new ≡ keyed_firsts (content_key T.key_of) (given_contents all.now)) }
-    ensures faults { OnOk result (faults_of faults.new ≡ faults_of faults.old ++ map (component_fault T.key_of repeat type_name.now.text) (repeats (content_key T.key_of) (given_contents all.now))) }
+    ensures faults { OnOk result (faults_of faults.new ≡ faults_of faults.old ++ told_of_components T.key_of repeat type_name.now.text (given_contents all.now)) }
 {
     for component in all {
         let name = component.node.content().key();
@@ -86,7 +87,7 @@ pub(crate) fn keep_names(
 ) -> Result<(), AllocError>
     requires { kept.old.keys ≡ [] }
     ensures kept { OnOk result (map component_name_tree kept.new.keys ≡ firsts given_name (map component_name_tree all.now)) }
-    ensures faults { OnOk result (faults_of faults.new ≡ faults_of faults.old ++ map (name_fault repeat type_name.now.text) (repeats given_name (map component_name_tree all.now))) }
+    ensures faults { OnOk result (faults_of faults.new ≡ faults_of faults.old ++ told_of_names repeat type_name.now.text (map component_name_tree all.now)) }
 {
     for component in all {
         if kept.contains(component) {

@@ -65,6 +65,7 @@ impl Kept {
         ensures kept { OnOk result (kept self.new ≡ kept_from (collected all.old)) }
         ensures faults { OnOk result (faults_of faults.new ≡ faults_of faults.old ++ component_faults kind type_name.now.text (collected all.old)) }
     {
+        // A directive may be applied twice, if it is repeatable: that is judged with its uses, so none is dropped here.
         mem::swap(&mut self.directives, &mut all.directives);
         keep_names(
             type_name,
@@ -106,6 +107,7 @@ impl Kept {
 }
 
 /// The rule that a second interface breaks.
+// Besides objects, only interfaces list any.
 fn interface_repeat(kind: TypeKind) -> Repeat
     ensures { result ≡ interface_repeat kind }
 {
@@ -116,6 +118,7 @@ fn interface_repeat(kind: TypeKind) -> Repeat
 }
 
 /// The rule that a second field breaks.
+// Besides objects, only interfaces have any: input fields are apart.
 fn field_repeat(kind: TypeKind) -> Repeat
     ensures { result ≡ field_repeat kind }
 {

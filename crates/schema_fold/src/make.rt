@@ -26,6 +26,7 @@ struct Head {
 }
 
 /// The type with that definition and these components, which are taken.
+// The parts are lent and taken one by one: six owned lists and maps would live across each `?`.
 pub(crate) fn make_type(
     alloc: Global,
     defined: &Defined<'_>,

@@ -37,6 +37,7 @@ pub struct Defined<'a> {
 }
 
 /// The type that is defined, if it is a definition of one.
+// The kinds are matched here once, and what they have is lent: a match in each caller would be proved again.
 pub fn type_definition(d: &Definition) -> Option<Defined<'_>>
     ensures { option_map defined_view result ≡ type_here (definition_tree d.now) }
 {

@@ -18,6 +18,7 @@ use std::alloc::{AllocError, Global};
 
 /// What is filed under the name of a type: the kind and the position of the first, and the positions of the others,
 /// in the order of the list.
+// Positions and not references: a schema builder owns the list and its index together.
 pub struct Filed {
     pub kind: TypeKind,
     pub first: usize,

@@ -38,6 +38,7 @@ pub fn fold_list(
     requires faultless { faults.old.items ≡ [] }
     ensures { IfOk result (λ folded. FoldsList (map listed_view list.now) built_in (folded_view folded) (faults_of faults.new)) }
 {
+    // What is built in is folded with the texts, since a text may extend it.
     let (first, texts) = list.split_at(built_in);
     tell_misplaced(alloc, first, texts, index, faults)?;
     let schema_definition = fold_schema(alloc, list, faults)?;

@@ -10,10 +10,10 @@ ghost use Rattle.schema_fold.specs.Components.{keyed_firsts};
 ghost use Rattle.schema_fold.specs.Fold.{folded_directives};
 ghost use Rattle.schema_fold.specs.FaultView.{faults_of};
 ghost use Rattle.schema_fold.specs.BuildErrors.{DirectiveDefinitionCollision};
-ghost use Rattle.schema_fold.specs.Keeping.{KeepsOn};
 ghost use Rattle.schema_fold.specs.ListedView.{listed_view};
-ghost use Rattle.schema_fold_roots.specs.DirectiveFold.{directive_fault, directive_faults, chosen_of, chosen_firsts, Chooses, TellsDirectives};
+ghost use Rattle.schema_fold_roots.specs.DirectiveFold.{directive_faults, chosen_of, chosen_firsts, Chooses, TellsDirectives};
 ghost use Rattle.schema_fold_roots.specs.DirectivesView.{directive_view, entries_view};
+ghost use Rattle.schema_fold_roots.specs.Steps.{directives_listed, KeepsDirective};
 
 use graphql_names::{Name, Node, SourceSpan};
 use indexmap::IndexMap;
@@ -38,13 +38,14 @@ pub fn fold_directives(
 }
 
 /// Chooses a definition for each name of what is built in and of the texts.
+// It owns the map of what is chosen, its caller that of the texts: a function with two owned maps costs more to prove.
 fn choose_directives(
     alloc: Global,
     own: &IndexMap<Name, Node<DirectiveDefinition>>,
     built_in: &[Listed],
     texts: &[Listed],
 ) -> Result<IndexMap<Name, Node<DirectiveDefinition>>, AllocError>
-    ensures { IfOk result (λ m. entries_view m ≡ chosen_firsts (entries_view own.now) (directives_in (definitions_of (map listed_view built_in.now)) ++ directives_in (definitions_of (map listed_view texts.now)))) }
+    ensures { IfOk result (λ m. entries_view m ≡ chosen_firsts (entries_view own.now) (directives_listed built_in.now ++ directives_listed texts.now)) }
 {
     let mut chosen = IndexMap::new(alloc);
     choose_all(own, built_in, &mut chosen)?;
@@ -86,7 +87,7 @@ fn keep_directive(
     node: &Node<DirectiveDefinition>,
     faults: &mut Vec<(Option<SourceSpan>, BuildError)>,
 ) -> Result<(), AllocError>
-    ensures { OnOk result (KeepsOn directive_name directive_fault (directive_view node.now) (entries_view kept.old) (faults_of faults.old) (entries_view kept.new) (faults_of faults.new)) }
+    ensures { OnOk result (KeepsDirective (directive_view node.now) kept.old faults.old kept.new faults.new) }
 {
     let name = &node.content().name;
     if kept.contains_key(name) {
@@ -131,7 +132,7 @@ fn choose_all(
     list: &[Listed],
     chosen: &mut IndexMap<Name, Node<DirectiveDefinition>>,
 ) -> Result<(), AllocError>
-    ensures { OnOk result (Chooses (entries_view own.now) (directives_in (definitions_of (map listed_view list.now))) (entries_view chosen.old) (entries_view chosen.new)) }
+    ensures { OnOk result (Chooses (entries_view own.now) (directives_listed list.now) (entries_view chosen.old) (entries_view chosen.new)) }
 {
     for listed in list {
         if let Some(node) = directive_definition(&listed.definition) {

@@ -1,14 +1,11 @@
 //! All that the schema definition is given, repeated roots too.
 ghost use Rattle.std.specs.Prelude.{◌≡◌, ◌++◌, [], map, OnOk};
 ghost use Rattle.std.specs.List.{flat_map};
-ghost use Rattle.graphql_names.specs.Placed.{node_tree};
-ghost use Rattle.tree_directives.specs.DirectiveTree.{directives_tree};
-ghost use Rattle.schema_fold.specs.in_definitions.DefinitionTree.{root_tree};
-ghost use Rattle.schema_components.specs.Given.{origin_tree};
 ghost use Rattle.schema_fold.specs.ListedView.{listed_view};
 ghost use Rattle.schema_fold.specs.SchemaFold.{extends_schema};
 ghost use Rattle.schema_fold_roots.specs.RootFold.{all_from, all_and, CollectsParts};
 ghost use Rattle.schema_fold_roots.specs.RootsView.{all_of_schema};
+ghost use Rattle.schema_fold_roots.specs.Steps.{parts_at};
 
 use crate::defined::schema_extension;
 use graphql_names::Node;
@@ -53,7 +50,7 @@ impl SchemaComponents {
         directives: &DirectiveList,
         roots: &[Node<(OperationType, NamedType)>],
     ) -> Result<(), AllocError>
-        ensures { OnOk result (all_of_schema self.new ≡ all_and (all_of_schema self.old) (record { extension = origin_tree origin; it = record { directives = directives_tree directives.now; roots = map (node_tree root_tree) roots.now } })) }
+        ensures { OnOk result (all_of_schema self.new ≡ all_and (all_of_schema self.old) (parts_at origin directives.now roots.now)) }
     {
         add_components(&mut self.directives, origin, &directives.0)?;
         add_components(&mut self.roots, origin, roots)

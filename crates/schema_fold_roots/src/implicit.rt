@@ -1,11 +1,8 @@
 //! The roots of a schema without a schema definition.
-ghost use Rattle.std.specs.Prelude.{◌≡◌, ◌++◌, None, map, OnOk};
+ghost use Rattle.std.specs.Prelude.{◌≡◌, None, OnOk};
 ghost use Rattle.schema_components.specs.in_values.OperationQueries.{default_root_name};
-ghost use Rattle.schema_fold.specs.Components.{all_given};
-ghost use Rattle.schema_fold.specs.Listed.{definitions_of};
 ghost use Rattle.schema_fold.specs.SchemaFold.{implicit_root, implicit_roots};
-ghost use Rattle.schema_fold.specs.ListedView.{listed_view};
-ghost use Rattle.schema_fold_roots.specs.RootsView.{roots_given_by};
+ghost use Rattle.schema_fold_roots.specs.Steps.{definitions_listed, AddsRoots};
 
 use crate::defined::is_object;
 use graphql_names::{Name, Node};
@@ -21,7 +18,7 @@ pub(crate) fn add_implicit_roots(
     list: &[Listed],
     roots: &mut Vec<Component<(OperationType, NamedType)>>,
 ) -> Result<(), AllocError>
-    ensures { OnOk result (roots_given_by roots.new.items ≡ roots_given_by roots.old.items ++ all_given None (implicit_roots (definitions_of (map listed_view list.now)))) }
+    ensures { OnOk result (AddsRoots roots.old roots.new (implicit_roots (definitions_listed list.now))) }
 {
     add_implicit_root(alloc, list, OperationType::Query, roots)?;
     add_implicit_root(alloc, list, OperationType::Mutation, roots)?;
@@ -35,11 +32,12 @@ fn add_implicit_root(
     operation: OperationType,
     roots: &mut Vec<Component<(OperationType, NamedType)>>,
 ) -> Result<(), AllocError>
-    ensures { OnOk result (roots_given_by roots.new.items ≡ roots_given_by roots.old.items ++ all_given None (implicit_root (definitions_of (map listed_view list.now)) operation)) }
+    ensures { OnOk result (AddsRoots roots.old roots.new (implicit_root (definitions_listed list.now) operation)) }
 {
     if !is_object(list, operation.default_type_name()) {
         return Ok(());
     }
+    // As if a schema definition had given it, though there is none: it has no place.
     let root = Node::new(alloc, (operation, default_name(operation)))?;
     roots.push(Component::new(ComponentOrigin::Definition, root))?;
     Ok(())

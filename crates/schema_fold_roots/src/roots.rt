@@ -1,12 +1,12 @@
 //! The first root of each operation.
 ghost use Rattle.std.specs.Prelude.{◌≡◌, ◌++◌, [], ◌∷◌, IfOk, OnOk, is_some};
-ghost use Rattle.schema_fold.specs.in_definitions.DefinitionTree.{root_tree};
-ghost use Rattle.schema_components.specs.Given.{component_tree, component_name_tree};
+ghost use Rattle.schema_components.specs.Given.{component_name_tree};
 ghost use Rattle.schema_fold.specs.BuildErrors.{DuplicateRootOperation};
 ghost use Rattle.schema_fold.specs.FaultView.{faults_of};
 ghost use Rattle.schema_fold_roots.specs.ListFold.{root_faults};
-ghost use Rattle.schema_fold_roots.specs.RootFold.{root_for, with_root, first_roots, KeepsRoot};
+ghost use Rattle.schema_fold_roots.specs.RootFold.{root_for, with_root, first_roots};
 ghost use Rattle.schema_fold_roots.specs.RootsView.{root_names, roots_given_by};
+ghost use Rattle.schema_fold_roots.specs.Steps.{KeepsRootGiven};
 
 use graphql_names::SourceSpan;
 use schema_components::{Component, ComponentName};
@@ -72,7 +72,7 @@ fn keep_root(
     root: &Component<(OperationType, NamedType)>,
     faults: &mut Vec<(Option<SourceSpan>, BuildError)>,
 ) -> Result<(), AllocError>
-    ensures { OnOk result (KeepsRoot (component_tree root_tree root.now) (root_names kept.old) (faults_of faults.old) (root_names kept.new) (faults_of faults.new)) }
+    ensures { OnOk result (KeepsRootGiven root.now kept.old faults.old kept.new faults.new) }
 {
     let (operation, name) = root.node.content();
     if kept.has(*operation) {

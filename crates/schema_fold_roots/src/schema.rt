@@ -1,17 +1,15 @@
 //! What the schema definition folds to.
-ghost use Rattle.std.specs.Prelude.{◌≡◌, ◌++◌, ◌∷◌, None, map, IfOk, OnOk};
-ghost use Rattle.std.specs.List.{flat_map};
+ghost use Rattle.std.specs.Prelude.{◌≡◌, ◌++◌, None, map, IfOk, OnOk};
 ghost use Rattle.std.specs.Option.{option_map};
 ghost use Rattle.graphql_names.specs.Node.{place, content};
 ghost use Rattle.graphql_names.specs.Placed.{text_tree};
-ghost use Rattle.schema_fold.specs.in_definitions.DefinitionTree.{schema_parts};
 ghost use Rattle.schema_fold.specs.in_schema_types.TypeView.{schema_roots};
-ghost use Rattle.schema_fold.specs.SchemaFold.{extends_schema};
 ghost use Rattle.schema_fold.specs.FaultView.{faults_of};
 ghost use Rattle.schema_fold.specs.ListedView.{listed_view};
 ghost use Rattle.schema_fold_roots.specs.ListFold.{parts_given, roots_from, implicit_parts, schema_from, schema_of, root_faults, IsFoldOf, TellsRoots};
 ghost use Rattle.schema_fold_roots.specs.RootFold.{all_from, made_from};
 ghost use Rattle.schema_fold_roots.specs.RootsView.{all_of_schema};
+ghost use Rattle.schema_fold_roots.specs.Steps.{defined_parts, defined_schema};
 
 use crate::defined::first_schema;
 use crate::given::SchemaComponents;
@@ -37,6 +35,7 @@ pub fn fold_schema(
     ensures is_fold { IfOk result (λ n. IsFoldOf (map listed_view list.now) (schema_roots n)) }
     ensures tells { OnOk result (TellsRoots (map listed_view list.now) (faults_of faults.old) (faults_of faults.new)) }
 {
+    // A second one is told where definitions collide, and gives nothing.
     match first_schema(list) {
         None => fold_implicit(alloc, list, faults),
         Some(defined) => fold_defined(alloc, defined, list, faults),
@@ -50,8 +49,8 @@ fn fold_defined(
     list: &[Listed],
     faults: &mut Vec<(Option<SourceSpan>, BuildError)>,
 ) -> Result<Node<SchemaDefinition>, AllocError>
-    ensures folded { IfOk result (λ n. schema_roots n ≡ schema_from (place defined.now) (option_map text_tree (content defined.now).description) (record { extension = None; it = schema_parts (content defined.now) } ∷ flat_map extends_schema (map listed_view list.now))) }
-    ensures faults { OnOk result (faults_of faults.new ≡ faults_of faults.old ++ root_faults (roots_from (record { extension = None; it = schema_parts (content defined.now) } ∷ flat_map extends_schema (map listed_view list.now)))) }
+    ensures folded { IfOk result (λ n. schema_roots n ≡ defined_schema defined.now list.now) }
+    ensures faults { OnOk result (faults_of faults.new ≡ faults_of faults.old ++ root_faults (roots_from (defined_parts (content defined.now) list.now))) }
 {
     let mut all = collect_defined(alloc, defined.content(), list)?;
     let description = clone_description(&defined.content().description)?;
@@ -77,7 +76,7 @@ fn collect_defined(
     defined: &SchemaNode,
     list: &[Listed],
 ) -> Result<SchemaComponents, AllocError>
-    ensures { IfOk result (λ all. all_of_schema all ≡ all_from (record { extension = None; it = schema_parts defined.now } ∷ flat_map extends_schema (map listed_view list.now))) }
+    ensures { IfOk result (λ all. all_of_schema all ≡ all_from (defined_parts defined.now list.now)) }
 {
     let mut all = SchemaComponents::new(alloc);
     all.add(
@@ -95,6 +94,7 @@ fn collect_implicit(alloc: Global, list: &[Listed]) -> Result<SchemaComponents, 
 {
     let mut all = SchemaComponents::new(alloc);
     add_implicit_roots(alloc, list, &mut all.roots)?;
+    // Then the schema is not defined: its extensions are told as orphans, and give nothing.
     if all.roots.is_empty() {
         return Ok(all);
     }

@@ -7,9 +7,10 @@ ghost use Rattle.schema_fold.specs.Listed.{definitions_of};
 ghost use Rattle.schema_fold.specs.ListedView.{listed_view};
 ghost use Rattle.schema_fold.specs.SchemaFold.{schema_definition_in};
 ghost use Rattle.schema_fold_index.specs.Index.{AreFiled, standing_in_list, parts_here};
-ghost use Rattle.schema_fold_types.specs.Seen.{kind_in, type_faults, faults_behind, collision_faults};
+ghost use Rattle.schema_fold_types.specs.Seen.{kind_in, type_faults, collision_faults};
 ghost use Rattle.schema_fold_types.specs.SeenView.{seen_view};
 ghost use Rattle.schema_fold_types.specs.OwnView.{is_defined_before};
+ghost use Rattle.schema_fold_types.specs.Steps.{AddsFaults, definitions_listed, faults_after};
 
 use crate::seen::{Seen, is_schema_definition};
 use graphql_names::{Name, SourceSpan};
@@ -33,6 +34,7 @@ impl<'a> Before<'a> {
     {
         match self.defined.get(name) {
             None => false,
+            // The index has the first of each name: an earlier one is there exactly if the first is earlier.
             Some(filed) => filed.first < self.position,
         }
     }
@@ -48,7 +50,7 @@ pub(crate) fn tell_collisions(
 ) -> Result<bool, AllocError>
     requires { AreFiled (standing_in_list parts_here (definitions_of (map listed_view texts.now))) defined.now.entries }
     ensures schema { IfOk result (λ schema. schema ≡ is_some (schema_definition_in (definitions_of (map listed_view texts.now)))) }
-    ensures faults { OnOk result (faults_of faults.new ≡ faults_of faults.old ++ collision_faults (seen_view built_in.now) (definitions_of (map listed_view texts.now))) }
+    ensures faults { OnOk result (AddsFaults faults.old faults.new (collision_faults (seen_view built_in.now) (definitions_listed texts.now))) }
 {
     let mut schema = false;
     for position in 0..texts.len() {
@@ -71,7 +73,7 @@ fn tell_definition(
     d: &Definition,
     faults: &mut Vec<(Option<SourceSpan>, BuildError)>,
 ) -> Result<(), AllocError>
-    ensures { OnOk result (faults_of faults.new ≡ faults_of faults.old ++ faults_behind (seen_view built_in.now) before.now.schema (is_defined_before before.now) (definition_tree d.now)) }
+    ensures { OnOk result (AddsFaults faults.old faults.new (faults_after (seen_view built_in.now) before.now (definition_tree d.now))) }
 {
     if d.is_executable_definition() {
         return executable_definition(d.location(), faults);
@@ -93,8 +95,9 @@ fn tell_type(
     location: Option<SourceSpan>,
     faults: &mut Vec<(Option<SourceSpan>, BuildError)>,
 ) -> Result<(), AllocError>
-    ensures { OnOk result (faults_of faults.new ≡ faults_of faults.old ++ type_faults (seen_view built_in.now) (is_defined_before before.now) location name.now.text) }
+    ensures { OnOk result (AddsFaults faults.old faults.new (type_faults (seen_view built_in.now) (is_defined_before before.now) location name.now.text)) }
 {
+    // The name of a built-in scalar is told by this rule alone, whatever kind is defined under it.
     if built_in.has_scalar(name) {
         return built_in_scalar_type_redefinition(name, location, faults);
     }

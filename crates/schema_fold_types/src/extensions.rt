@@ -41,6 +41,7 @@ fn gather(alloc: Global, texts: &[Listed], filed: &Filed) -> Result<Vec<Listed>,
 fn push_at(texts: &[Listed], position: usize, gathered: &mut Vec<Listed>) -> Result<(), AllocError>
     ensures { OnOk result (map listed_view gathered.new.items ≡ map listed_view gathered.old.items ++ listed_at (map listed_view texts.now) position) }
 {
+    // Each position that is filed is there, but this function need not know it.
     let Some(listed) = texts.get(position) else {
         return Ok(());
     };

@@ -30,6 +30,7 @@ pub fn tell_misplaced(
 {
     let built_in = Seen::of(alloc, built_in)?;
     let schema = tell_collisions(&built_in, texts, &index.defined, faults)?;
+    // After all definitions: an extension may stand before what it extends.
     let own = Own {
         defined: &index.defined,
         schema,

@@ -1,15 +1,13 @@
 //! The rules that are judged by what the whole list defines.
-ghost use Rattle.std.specs.Prelude.{◌≡◌, ◌++◌, [], ◌∷◌, map, is_some, OnOk};
-ghost use Rattle.std.specs.List.{flat_map};
+ghost use Rattle.std.specs.Prelude.{◌≡◌, ◌++◌, [], ◌∷◌, is_some, OnOk};
 ghost use Rattle.schema_fold.specs.in_definitions.DefinitionTree.{definition_tree};
 ghost use Rattle.schema_fold.specs.BuildErrors.{OrphanSchemaExtension, OrphanTypeExtension, TypeExtensionKindMismatch};
 ghost use Rattle.schema_fold.specs.FaultView.{faults_of};
-ghost use Rattle.schema_fold.specs.Listed.{definitions_of};
-ghost use Rattle.schema_fold.specs.ListedView.{listed_view};
 ghost use Rattle.schema_fold.specs.SchemaFold.{schema_extension_here};
-ghost use Rattle.schema_fold_types.specs.Seen.{type_extension_faults, extension_faults};
+ghost use Rattle.schema_fold_types.specs.Seen.{extension_faults};
 ghost use Rattle.schema_fold_types.specs.SeenView.{seen_view};
 ghost use Rattle.schema_fold_types.specs.OwnView.{own_view};
+ghost use Rattle.schema_fold_types.specs.Steps.{AddsFaults, all_extension_faults, faults_of_extension};
 
 use crate::seen::{Own, Seen, kind_of, schema_is_defined};
 use graphql_names::{Name, SourceSpan};
@@ -23,7 +21,7 @@ pub(crate) fn tell_extensions(
     texts: &[Listed],
     faults: &mut Vec<(Option<SourceSpan>, BuildError)>,
 ) -> Result<(), AllocError>
-    ensures { OnOk result (faults_of faults.new ≡ faults_of faults.old ++ flat_map (extension_faults (seen_view built_in.now) (own_view own.now)) (definitions_of (map listed_view texts.now))) }
+    ensures { OnOk result (AddsFaults faults.old faults.new (all_extension_faults (seen_view built_in.now) (own_view own.now) texts.now)) }
 {
     for listed in texts {
         tell_extension(built_in, own, &listed.definition, faults)?;
@@ -64,9 +62,10 @@ fn tell_type_extension(
     location: Option<SourceSpan>,
     faults: &mut Vec<(Option<SourceSpan>, BuildError)>,
 ) -> Result<(), AllocError>
-    ensures { OnOk result (faults_of faults.new ≡ faults_of faults.old ++ type_extension_faults (seen_view built_in.now) (own_view own.now) location parts.now.name.now.text parts.now.kind) }
+    ensures { OnOk result (AddsFaults faults.old faults.new (faults_of_extension (seen_view built_in.now) (own_view own.now) location parts.now)) }
 {
     match kind_of(built_in, own, parts.name) {
+        // What a builder adopts is defined by now: it is put into the list before that is folded.
         None => orphan_type_extension(parts.name, location, faults),
         Some(defined) => {
             if defined.is(parts.kind) {

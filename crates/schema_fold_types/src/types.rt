@@ -1,17 +1,14 @@
 //! What the definitions of types fold to.
-ghost use Rattle.std.specs.Prelude.{◌≡◌, ◌++◌, ◌∷◌, [], map, IfOk, OnOk, option_to_list};
-ghost use Rattle.std.specs.List.{flat_map};
-ghost use Rattle.schema_fold.specs.in_definitions.DefinitionTree.{definition_tree};
+ghost use Rattle.std.specs.Prelude.{◌≡◌, ◌++◌, ◌∷◌, [], map, IfOk, OnOk};
 ghost use Rattle.schema_fold.specs.in_schema_types.SchemaView.{types_view};
-ghost use Rattle.schema_fold.specs.in_schema_types.TypeParts.{type_here};
 ghost use Rattle.schema_fold.specs.FaultView.{faults_of};
 ghost use Rattle.schema_fold.specs.Listed.{types_in, definitions_of};
 ghost use Rattle.schema_fold.specs.ListedView.{listed_view};
 ghost use Rattle.schema_fold.specs.Made.{defined_view, IsDefinition};
-ghost use Rattle.schema_fold_index.specs.Index.{IsIndexOf, extensions_under, defined_at};
+ghost use Rattle.schema_fold_index.specs.Index.{IsIndexOf, defined_at};
 ghost use Rattle.schema_fold_types.specs.ListTypes.{types_from, faults_from, FoldsTypes, TellsTypes};
 ghost use Rattle.schema_fold_types.specs.OwnNames.{TypesUnderOwnNames};
-ghost use Rattle.schema_fold_types.specs.Filing.{FoldsOn};
+ghost use Rattle.schema_fold_types.specs.Steps.{definitions_listed, defined_filed, FoldsMore, defined_here};
 
 use crate::extensions::extensions_of;
 use graphql_names::{Name, SourceSpan};
@@ -21,6 +18,13 @@ use schema_fold::{
 };
 use schema_fold_index::{Filed, Index};
 use std::alloc::{AllocError, Global};
+
+/// The texts, and the positions in them at which types are extended, filed under their names.
+#[derive(Clone, Copy)]
+struct Extended<'a> {
+    texts: &'a [Listed],
+    filed: &'a IndexMap<Name, Filed>,
+}
 
 /// Folds the types (sections 3.4 to 3.10): the first definition of each name, with each extension of its name and kind.
 /// Tells each component that is not the first of its name.
@@ -38,10 +42,15 @@ pub fn fold_types(
     ensures tells { OnOk result (TellsTypes (map listed_view built_in.now) (map listed_view texts.now) (faults_of faults.old) (faults_of faults.new)) }
     ensures own_names { IfOk result (λ m. TypesUnderOwnNames (types_view m)) }
 {
+    // The map is owned here and filled by loops that borrow it.
     let mut types = IndexMap::new(alloc);
-    fold_built_in(alloc, built_in, texts, &index.extended, &mut types, faults)?;
+    let extended = Extended {
+        texts,
+        filed: &index.extended,
+    };
+    fold_built_in(alloc, built_in, &extended, &mut types, faults)?;
     let filed = index.defined.values().as_slice();
-    fold_filed(alloc, texts, filed, &index.extended, &mut types, faults)?;
+    fold_filed(alloc, filed, &extended, &mut types, faults)?;
     Ok(types)
 }
 
@@ -49,32 +58,32 @@ pub fn fold_types(
 fn fold_built_in(
     alloc: Global,
     built_in: &[Listed],
-    texts: &[Listed],
-    extended: &IndexMap<Name, Filed>,
+    extended: &Extended<'_>,
     types: &mut IndexMap<Name, ExtendedType>,
     faults: &mut Vec<(Option<SourceSpan>, BuildError)>,
 ) -> Result<(), AllocError>
-    ensures { OnOk result (FoldsOn (extensions_under (map listed_view texts.now) extended.now.entries) (types_in (definitions_of (map listed_view built_in.now))) (types_view types.old) (faults_of faults.old) (types_view types.new) (faults_of faults.new)) }
+    ensures { OnOk result (FoldsMore extended.now (types_in (definitions_listed built_in.now)) types.old faults.old types.new faults.new) }
 {
     for listed in built_in {
-        fold_here(alloc, listed, texts, extended, types, faults)?;
+        fold_here(alloc, listed, extended, types, faults)?;
     }
     Ok(())
 }
 
 /// Folds the first definition of each name that is filed, with its extensions.
+// A step has a function of its own from here to `fold_first`: the position, the definition there, the first of its
+// name. So each is proved by itself, and what is built in joins at `fold_here`.
 fn fold_filed(
     alloc: Global,
-    texts: &[Listed],
     defined: &[Filed],
-    extended: &IndexMap<Name, Filed>,
+    extended: &Extended<'_>,
     types: &mut IndexMap<Name, ExtendedType>,
     faults: &mut Vec<(Option<SourceSpan>, BuildError)>,
 ) -> Result<(), AllocError>
-    ensures { OnOk result (FoldsOn (extensions_under (map listed_view texts.now) extended.now.entries) (flat_map (λ f. defined_at (definitions_of (map listed_view texts.now)) f.first) defined.now) (types_view types.old) (faults_of faults.old) (types_view types.new) (faults_of faults.new)) }
+    ensures { OnOk result (FoldsMore extended.now (defined_filed extended.now.texts.now defined.now) types.old faults.old types.new faults.new) }
 {
     for filed in defined {
-        fold_at(alloc, filed.first, texts, extended, types, faults)?;
+        fold_at(alloc, filed.first, extended, types, faults)?;
     }
     Ok(())
 }
@@ -83,16 +92,15 @@ fn fold_filed(
 fn fold_at(
     alloc: Global,
     position: usize,
-    texts: &[Listed],
-    extended: &IndexMap<Name, Filed>,
+    extended: &Extended<'_>,
     types: &mut IndexMap<Name, ExtendedType>,
     faults: &mut Vec<(Option<SourceSpan>, BuildError)>,
 ) -> Result<(), AllocError>
-    ensures { OnOk result (FoldsOn (extensions_under (map listed_view texts.now) extended.now.entries) (defined_at (definitions_of (map listed_view texts.now)) position) (types_view types.old) (faults_of faults.old) (types_view types.new) (faults_of faults.new)) }
+    ensures { OnOk result (FoldsMore extended.now (defined_at (definitions_listed extended.now.texts.now) position) types.old faults.old types.new faults.new) }
 {
-    match texts.get(position) {
+    match extended.texts.get(position) {
         None => Ok(()),
-        Some(listed) => fold_here(alloc, listed, texts, extended, types, faults),
+        Some(listed) => fold_here(alloc, listed, extended, types, faults),
     }
 }
 
@@ -100,16 +108,15 @@ fn fold_at(
 fn fold_here(
     alloc: Global,
     listed: &Listed,
-    texts: &[Listed],
-    extended: &IndexMap<Name, Filed>,
+    extended: &Extended<'_>,
     types: &mut IndexMap<Name, ExtendedType>,
     faults: &mut Vec<(Option<SourceSpan>, BuildError)>,
 ) -> Result<(), AllocError>
-    ensures { OnOk result (FoldsOn (extensions_under (map listed_view texts.now) extended.now.entries) (option_to_list (type_here (definition_tree listed.now.definition))) (types_view types.old) (faults_of faults.old) (types_view types.new) (faults_of faults.new)) }
+    ensures { OnOk result (FoldsMore extended.now (defined_here listed.now) types.old faults.old types.new faults.new) }
 {
     match type_definition(&listed.definition) {
         None => Ok(()),
-        Some(defined) => fold_first(alloc, &defined, texts, extended, types, faults),
+        Some(defined) => fold_first(alloc, &defined, extended, types, faults),
     }
 }
 
@@ -117,19 +124,18 @@ fn fold_here(
 fn fold_first(
     alloc: Global,
     defined: &Defined<'_>,
-    texts: &[Listed],
-    extended: &IndexMap<Name, Filed>,
+    extended: &Extended<'_>,
     types: &mut IndexMap<Name, ExtendedType>,
     faults: &mut Vec<(Option<SourceSpan>, BuildError)>,
 ) -> Result<(), AllocError>
     requires { IsDefinition (defined_view defined.now) }
-    ensures { OnOk result (FoldsOn (extensions_under (map listed_view texts.now) extended.now.entries) (defined_view defined.now ∷ []) (types_view types.old) (faults_of faults.old) (types_view types.new) (faults_of faults.new)) }
+    ensures { OnOk result (FoldsMore extended.now (defined_view defined.now ∷ []) types.old faults.old types.new faults.new) }
 {
     let name = defined.parts.name;
     if types.contains_key(name) {
         return Ok(());
     }
-    let extensions = extensions_of(alloc, texts, extended, name)?;
+    let extensions = extensions_of(alloc, extended.texts, extended.filed, name)?;
     let folded = fold_type(alloc, defined, &extensions, faults)?;
     insert_new(types, name, folded)
 }

@@ -17,6 +17,7 @@ pub struct ScalarType {
     pub directives: DirectiveList,
 }
 
+// Not derived: a derived drop is proved again in each crate that drops one.
 impl Drop for ScalarType {
     fn drop(self) {
         let ScalarType {
@@ -37,6 +38,7 @@ pub struct ObjectType {
     pub fields: IndexMap<Name, Component<FieldDefinition>>,
 }
 
+// Not derived: a derived drop is proved again in each crate that drops one.
 impl Drop for ObjectType {
     fn drop(self) {
         let ObjectType {
@@ -59,6 +61,7 @@ pub struct InterfaceType {
     pub fields: IndexMap<Name, Component<FieldDefinition>>,
 }
 
+// Not derived: a derived drop is proved again in each crate that drops one.
 impl Drop for InterfaceType {
     fn drop(self) {
         let InterfaceType {
@@ -80,6 +83,7 @@ pub struct UnionType {
     pub members: IndexSet<ComponentName>,
 }
 
+// Not derived: a derived drop is proved again in each crate that drops one.
 impl Drop for UnionType {
     fn drop(self) {
         let UnionType {
@@ -100,6 +104,7 @@ pub struct EnumType {
     pub values: IndexMap<Name, Component<EnumValueDefinition>>,
 }
 
+// Not derived: a derived drop is proved again in each crate that drops one.
 impl Drop for EnumType {
     fn drop(self) {
         let EnumType {
@@ -120,6 +125,7 @@ pub struct InputObjectType {
     pub fields: IndexMap<Name, Component<InputValueDefinition>>,
 }
 
+// Not derived: a derived drop is proved again in each crate that drops one.
 impl Drop for InputObjectType {
     fn drop(self) {
         let InputObjectType {

@@ -12,6 +12,7 @@ use tree_type_members::{EnumValueDefinition, FieldDefinition};
 
 /// Where the components that are left come from: applied directives, then roots, then interfaces or members,
 /// then fields, values or input fields.
+// One form for the schema and all kinds of types, where what a kind lacks is empty: so one iterator is proved.
 #[derive(Drop)]
 pub struct Origins<'a> {
     pub(crate) directives: &'a [Component<Directive>],

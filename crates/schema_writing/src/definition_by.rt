@@ -1,13 +1,6 @@
 //! The definition of a type of each kind.
-ghost use Rattle.std.specs.Prelude.{◌≡◌, ◌++◌, [], ◌∷◌, map, OnOk};
-ghost use Rattle.std.specs.Option.{option_map};
-ghost use Rattle.graphql_names.specs.Node.{content, place};
-ghost use Rattle.graphql_names.specs.declared.node.Node.{Node};
-ghost use Rattle.graphql_names.specs.Placed.{name_tree, text_tree};
-ghost use Rattle.tree_definitions.specs.DefinitionTree.{definition_tree};
-ghost use Rattle.schema_types.specs.TypeParts.{definition_by};
-ghost use Rattle.schema_writing.specs.Contents.{named_parts};
-ghost use Rattle.schema_writing.specs.ContentsView.{parts_view};
+ghost use Rattle.std.specs.Prelude.{[], ◌∷◌, OnOk};
+ghost use Rattle.schema_writing.specs.Writing.{Writes, WritesPlaced, headed_definition};
 
 use crate::extension_by::{
     enum_extension, input_object_extension, interface_extension, object_extension,
@@ -19,7 +12,16 @@ use schema_types::{TypeKind, node_at};
 use std::alloc::{AllocError, Global};
 use tree_definitions::Definition;
 
+/// What a type is called, of which kind it is, and where its definition or an extension of it is.
+#[derive(Drop)]
+pub(crate) struct Heading {
+    pub(crate) kind: TypeKind,
+    pub(crate) location: Option<SourceSpan>,
+    pub(crate) name: Name,
+}
+
 /// Writes a definition or an extension of this content, at that place.
+// Over any content, so that the node and the push are proved once for all kinds.
 pub(crate) fn write_placed<T: Drop>(
     alloc: Global,
     location: Option<SourceSpan>,
@@ -28,7 +30,7 @@ pub(crate) fn write_placed<T: Drop>(
 ) -> Result<(), AllocError>
 where
     Definition: From<Node<T>>,
-    ensures { OnOk result ((n : Node T) × (d : Definition) × ((content n ≡ value) × (place n ≡ location) × ⟦<Definition as From<Node<T>>>⟧.from_gives n d × (out.new.items ≡ out.old.items ++ d ∷ []))) }
+    ensures { OnOk result (WritesPlaced ⟦<Definition as From<Node<T>>>⟧.from_gives location value out.old out.new) }
 {
     let node = node_at(alloc, location, value)?;
     out.push(Definition::from(node))?;
@@ -38,15 +40,19 @@ where
 /// Writes the definition of a type of that kind: what an extension says, with a description. The parts are taken.
 pub(crate) fn write_definition_by(
     alloc: Global,
-    kind: TypeKind,
-    location: Option<SourceSpan>,
+    heading: Heading,
     description: Option<NodeStr>,
-    name: Name,
     parts: &mut Parts,
     out: &mut Vec<Definition>,
 ) -> Result<(), AllocError>
-    ensures { OnOk result (map definition_tree out.new.items ≡ map definition_tree out.old.items ++ definition_by kind location (option_map text_tree description) (named_parts kind (name_tree name) (parts_view parts.old)) ∷ []) }
+    ensures { OnOk result (Writes out.old out.new (headed_definition heading description parts.old ∷ [])) }
 {
+    let Heading {
+        kind,
+        location,
+        name,
+    } = heading;
+    // By way of the extension, so that each kind is put together in one function for both.
     match kind {
         TypeKind::Scalar => {
             let said = scalar_extension(alloc, name, parts);

@@ -1,8 +1,8 @@
 //! The definitions of directives.
-ghost use Rattle.std.specs.Prelude.{◌≡◌, ◌++◌, map, OnOk};
+ghost use Rattle.std.specs.Prelude.{OnOk};
 ghost use Rattle.std.specs.List.{flat_map};
-ghost use Rattle.tree_definitions.specs.DefinitionTree.{definition_tree};
 ghost use Rattle.schema_writing.specs.SchemaParts.{written_node};
+ghost use Rattle.schema_writing.specs.Writing.{Writes};
 
 use graphql_names::Node;
 use std::alloc::AllocError;
@@ -14,7 +14,7 @@ pub(crate) fn write_directives(
     directives: &[Node<DirectiveDefinition>],
     out: &mut Vec<Definition>,
 ) -> Result<(), AllocError>
-    ensures { OnOk result (map definition_tree out.new.items ≡ map definition_tree out.old.items ++ flat_map written_node directives.now) }
+    ensures { OnOk result (Writes out.old out.new (flat_map written_node directives.now)) }
 {
     for directive in directives {
         if directive.is_built_in() {

@@ -1,15 +1,13 @@
 //! An extension of a type of each kind.
-ghost use Rattle.std.specs.Prelude.{◌≡◌, ◌++◌, [], ◌∷◌, map, OnOk};
-ghost use Rattle.graphql_names.specs.Placed.{name_tree};
-ghost use Rattle.tree_definitions.specs.DefinitionTree.{definition_tree, scalar_extension_parts, object_extension_parts, interface_extension_parts, union_extension_parts, enum_extension_parts, input_object_extension_parts};
-ghost use Rattle.schema_types.specs.TypeParts.{extension_by, fields_parts};
+ghost use Rattle.std.specs.Prelude.{◌≡◌, [], ◌∷◌, OnOk};
+ghost use Rattle.tree_definitions.specs.DefinitionTree.{scalar_extension_parts, object_extension_parts, interface_extension_parts, union_extension_parts, enum_extension_parts, input_object_extension_parts};
+ghost use Rattle.schema_types.specs.TypeParts.{fields_parts};
 ghost use Rattle.schema_types.specs.declared.type_kind.TypeKind.TheVariants as kind;
-ghost use Rattle.schema_writing.specs.Contents.{named_parts};
-ghost use Rattle.schema_writing.specs.ContentsView.{parts_view};
+ghost use Rattle.schema_writing.specs.Writing.{Writes, headed_extension, parts_of, scalar_of, union_of, enum_of, input_object_of};
 
-use crate::definition_by::write_placed;
+use crate::definition_by::{Heading, write_placed};
 use crate::parts::Parts;
-use graphql_names::{Name, SourceSpan};
+use graphql_names::Name;
 use schema_types::TypeKind;
 use std::alloc::{AllocError, Global};
 use std::mem;
@@ -21,14 +19,17 @@ use tree_input_types::{EnumTypeExtension, InputObjectTypeExtension, ScalarTypeEx
 /// Writes an extension of a type of that kind. The parts are taken.
 pub(crate) fn write_extension_by(
     alloc: Global,
-    kind: TypeKind,
-    location: Option<SourceSpan>,
-    name: Name,
+    heading: Heading,
     parts: &mut Parts,
     out: &mut Vec<Definition>,
 ) -> Result<(), AllocError>
-    ensures { OnOk result (map definition_tree out.new.items ≡ map definition_tree out.old.items ++ extension_by kind location (named_parts kind (name_tree name) (parts_view parts.old)) ∷ []) }
+    ensures { OnOk result (Writes out.old out.new (headed_extension heading parts.old ∷ [])) }
 {
+    let Heading {
+        kind,
+        location,
+        name,
+    } = heading;
     match kind {
         TypeKind::Scalar => write_placed(
             alloc,
@@ -61,7 +62,7 @@ pub(crate) fn write_extension_by(
 
 /// What an extension of a scalar type says (section 3.5.7).
 pub(crate) fn scalar_extension(alloc: Global, name: Name, parts: &mut Parts) -> ScalarTypeExtension
-    ensures { scalar_extension_parts result ≡ record { name = name_tree name; directives = (parts_view parts.old).directives } }
+    ensures { scalar_extension_parts result ≡ scalar_of name parts.old }
 {
     ScalarTypeExtension {
         name,
@@ -71,7 +72,7 @@ pub(crate) fn scalar_extension(alloc: Global, name: Name, parts: &mut Parts) -> 
 
 /// What an extension of an object type says (section 3.6.3).
 pub(crate) fn object_extension(alloc: Global, name: Name, parts: &mut Parts) -> ObjectTypeExtension
-    ensures { object_extension_parts result ≡ fields_parts (named_parts kind.Object (name_tree name) (parts_view parts.old)) }
+    ensures { object_extension_parts result ≡ fields_parts (parts_of kind.Object name parts.old) }
 {
     ObjectTypeExtension {
         name,
@@ -87,7 +88,7 @@ pub(crate) fn interface_extension(
     name: Name,
     parts: &mut Parts,
 ) -> InterfaceTypeExtension
-    ensures { interface_extension_parts result ≡ fields_parts (named_parts kind.Interface (name_tree name) (parts_view parts.old)) }
+    ensures { interface_extension_parts result ≡ fields_parts (parts_of kind.Interface name parts.old) }
 {
     InterfaceTypeExtension {
         name,
@@ -99,7 +100,7 @@ pub(crate) fn interface_extension(
 
 /// What an extension of a union type says (section 3.8.1).
 pub(crate) fn union_extension(alloc: Global, name: Name, parts: &mut Parts) -> UnionTypeExtension
-    ensures { union_extension_parts result ≡ record { name = name_tree name; directives = (parts_view parts.old).directives; members = (parts_view parts.old).members } }
+    ensures { union_extension_parts result ≡ union_of name parts.old }
 {
     UnionTypeExtension {
         name,
@@ -110,7 +111,7 @@ pub(crate) fn union_extension(alloc: Global, name: Name, parts: &mut Parts) -> U
 
 /// What an extension of an enum type says (section 3.9.1).
 pub(crate) fn enum_extension(alloc: Global, name: Name, parts: &mut Parts) -> EnumTypeExtension
-    ensures { enum_extension_parts result ≡ record { name = name_tree name; directives = (parts_view parts.old).directives; values = (parts_view parts.old).values } }
+    ensures { enum_extension_parts result ≡ enum_of name parts.old }
 {
     EnumTypeExtension {
         name,
@@ -125,7 +126,7 @@ pub(crate) fn input_object_extension(
     name: Name,
     parts: &mut Parts,
 ) -> InputObjectTypeExtension
-    ensures { input_object_extension_parts result ≡ record { name = name_tree name; directives = (parts_view parts.old).directives; fields = (parts_view parts.old).inputs } }
+    ensures { input_object_extension_parts result ≡ input_object_of name parts.old }
 {
     InputObjectTypeExtension {
         name,

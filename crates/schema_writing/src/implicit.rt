@@ -1,15 +1,14 @@
 //! Whether the schema definition is left out.
-ghost use Rattle.std.specs.Prelude.{◌≡◌, ◌&&◌, is_none, is_some};
+ghost use Rattle.std.specs.Prelude.{◌≡◌, ◌&&◌, is_none};
 ghost use Rattle.std.specs.Option.{option_map};
 ghost use Rattle.graphql_names.specs.Node.{content};
 ghost use Rattle.schema_types.specs.in_values.OperationQueries.{default_root_name};
 ghost use Rattle.schema_components.specs.Given.{component_name_tree};
-ghost use Rattle.tree_directives.specs.declared.operation_type.OperationType.TheVariants as operation;
 ghost use Rattle.schema_types.specs.SchemaView.{types_view};
 ghost use Rattle.schema_types.specs.TypeView.{schema_roots};
 ghost use Rattle.schema_types.specs.Origins.{schema_origins, extensions_in};
 ghost use Rattle.schema_types.specs.Out.{is_empty, is_implicit_root, is_left_out, is_object_named};
-ghost use Rattle.schema_writing.specs.SchemaParts.{schema_and_types};
+ghost use Rattle.schema_writing.specs.SchemaParts.{schema_and_types, has_implicit_roots};
 
 use graphql_names::{Name, Node};
 use indexmap::IndexMap;
@@ -45,7 +44,7 @@ fn has_implicit_roots(
     definition: &Node<SchemaDefinition>,
     types: &IndexMap<Name, ExtendedType>,
 ) -> bool
-    ensures { result ≡ (is_implicit_root (types_view types.now) operation.Query (schema_roots definition.now).query && is_implicit_root (types_view types.now) operation.Mutation (schema_roots definition.now).mutation && is_implicit_root (types_view types.now) operation.Subscription (schema_roots definition.now).subscription && is_some (schema_roots definition.now).query) }
+    ensures { result ≡ has_implicit_roots (types_view types.now) (schema_roots definition.now) }
 {
     let schema = definition.content();
     is_implicit_root(types, OperationType::Query, &schema.query)
@@ -64,6 +63,7 @@ fn is_implicit_root(
 {
     let is_object = is_default_object(types, operation);
     match root {
+        // Beside a schema definition an object named `Mutation` need be no root: without one it would become a root.
         None => !is_object,
         Some(root) => root.name.as_str() == operation.default_type_name() && is_object,
     }

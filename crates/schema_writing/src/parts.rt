@@ -132,6 +132,7 @@ impl Parts {
     }
 
     /// Takes, shared, what this giver gave to the type.
+    // The lists are filled one by one in what the caller owns: as locals here they would live across each `?`.
     pub(crate) fn take_given(
         &mut self,
         filed: &FiledType,

@@ -1,11 +1,12 @@
 //! The roots that each giver gave to the schema.
-ghost use Rattle.std.specs.Prelude.{◌≡◌, ◌++◌, [], map, None, OnOk};
+ghost use Rattle.std.specs.Prelude.{◌≡◌, [], map, None, OnOk};
 ghost use Rattle.std.specs.Option.{option_map};
 ghost use Rattle.graphql_names.specs.Placed.{node_tree};
 ghost use Rattle.tree_definitions.specs.DefinitionTree.{root_tree};
 ghost use Rattle.schema_components.specs.Given.{origin_tree, component_name_tree};
 ghost use Rattle.schema_types.specs.TypeView.{schema_roots};
 ghost use Rattle.schema_types.specs.Out.{same_giver, root_given_by, schema_parts_given_by};
+ghost use Rattle.schema_writing.specs.Writing.{AddsRoots};
 
 use graphql_names::Node;
 use schema_components::{ComponentName, ComponentOrigin};
@@ -50,7 +51,7 @@ fn add_root(
     root: &Option<ComponentName>,
     roots: &mut Vec<Node<(OperationType, NamedType)>>,
 ) -> Result<(), AllocError>
-    ensures { OnOk result (map (node_tree root_tree) roots.new.items ≡ map (node_tree root_tree) roots.old.items ++ root_given_by None (origin_tree giver) operation (option_map component_name_tree root.now)) }
+    ensures { OnOk result (AddsRoots roots.old roots.new (root_given_by None (origin_tree giver) operation (option_map component_name_tree root.now))) }
 {
     let Some(root) = root else {
         return Ok(());

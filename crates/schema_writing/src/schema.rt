@@ -1,13 +1,12 @@
 //! The schema definition and its extensions.
-ghost use Rattle.std.specs.Prelude.{◌≡◌, ◌++◌, [], ◌∷◌, map, None, Some, IfOk, OnOk};
-ghost use Rattle.graphql_names.specs.Placed.{node_tree};
-ghost use Rattle.tree_directives.specs.DirectiveTree.{directive_tree};
-ghost use Rattle.tree_definitions.specs.DefinitionTree.{definition_tree, schema_extension_parts};
+ghost use Rattle.std.specs.Prelude.{◌≡◌, [], ◌∷◌, map, None, IfOk, OnOk};
+ghost use Rattle.tree_definitions.specs.DefinitionTree.{schema_extension_parts};
 ghost use Rattle.schema_components.specs.Given.{extension_tree, origin_tree};
 ghost use Rattle.schema_types.specs.TypeView.{schema_roots};
-ghost use Rattle.schema_types.specs.Out.{written_schema, schema_parts_given_by};
-ghost use Rattle.schema_writing.specs.Filed.{filed_under};
-ghost use Rattle.schema_writing.specs.SchemaParts.{schema_and_types, schema_from, schema_extended_from, whole_schema};
+ghost use Rattle.schema_types.specs.Out.{written_schema};
+ghost use Rattle.schema_writing.specs.SchemaParts.{schema_and_types, schema_from, whole_schema};
+ghost use Rattle.schema_writing.specs.Writing.{Writes};
+ghost use Rattle.schema_writing.specs.FiledView.{filed_directives, schema_given, schema_extension};
 
 use crate::definition_by::write_placed;
 use crate::filing::{file_components, take};
@@ -29,12 +28,13 @@ pub(crate) fn write_schema(
     types: &IndexMap<Name, ExtendedType>,
     out: &mut Vec<Definition>,
 ) -> Result<(), AllocError>
-    ensures { OnOk result (map definition_tree out.new.items ≡ map definition_tree out.old.items ++ written_schema (schema_and_types definition.now types.now)) }
+    ensures { OnOk result (Writes out.old out.new (written_schema (schema_and_types definition.now types.now))) }
 {
     let extensions = definition.content().extensions(alloc)?;
     if is_left_out(definition, extensions.as_slice(), types) {
         return Ok(());
     }
+    // The map is owned here and borrowed by the call, which has a `?` in each step.
     let mut directives = IndexMap::new(alloc);
     write_whole_schema(
         alloc,
@@ -54,7 +54,7 @@ fn write_whole_schema(
     out: &mut Vec<Definition>,
 ) -> Result<(), AllocError>
     requires { directives.old.entries ≡ [] }
-    ensures { OnOk result (map definition_tree out.new.items ≡ map definition_tree out.old.items ++ whole_schema (schema_roots definition.now) (map extension_tree extensions.now)) }
+    ensures { OnOk result (Writes out.old out.new (whole_schema (schema_roots definition.now) (map extension_tree extensions.now))) }
 {
     file_components(alloc, &definition.content().directives.0, directives)?;
     write_definition(alloc, definition, directives, out)?;
@@ -68,7 +68,7 @@ fn write_definition(
     directives: &IndexMap<ComponentOrigin, Vec<Node<Directive>>>,
     out: &mut Vec<Definition>,
 ) -> Result<(), AllocError>
-    ensures { OnOk result (map definition_tree out.new.items ≡ map definition_tree out.old.items ++ schema_from (schema_roots definition.now) (map (node_tree directive_tree) (filed_under None directives.now.entries)) ∷ []) }
+    ensures { OnOk result (Writes out.old out.new (schema_from (schema_roots definition.now) (filed_directives None directives.now) ∷ [])) }
 {
     let description = shared_description(definition.content().description.as_ref())?;
     let said = schema_parts(alloc, definition, directives, ComponentOrigin::Definition)?;
@@ -88,7 +88,7 @@ fn write_schema_extensions(
     extensions: &[ExtensionId],
     out: &mut Vec<Definition>,
 ) -> Result<(), AllocError>
-    ensures { OnOk result (map definition_tree out.new.items ≡ map definition_tree out.old.items ++ map (λ id. schema_extended_from (schema_roots definition.now) (extension_tree id) (map (node_tree directive_tree) (filed_under (Some (extension_tree id)) directives.now.entries))) extensions.now) }
+    ensures { OnOk result (Writes out.old out.new (map (λ id. schema_extension definition.now directives.now id) extensions.now)) }
 {
     for id in extensions {
         write_extension(alloc, definition, directives, *id, out)?;
@@ -104,7 +104,7 @@ fn write_extension(
     id: ExtensionId,
     out: &mut Vec<Definition>,
 ) -> Result<(), AllocError>
-    ensures { OnOk result (map definition_tree out.new.items ≡ map definition_tree out.old.items ++ schema_extended_from (schema_roots definition.now) (extension_tree id) (map (node_tree directive_tree) (filed_under (Some (extension_tree id)) directives.now.entries)) ∷ []) }
+    ensures { OnOk result (Writes out.old out.new (schema_extension definition.now directives.now id ∷ [])) }
 {
     let said = schema_parts(
         alloc,
@@ -122,7 +122,7 @@ fn schema_parts(
     directives: &IndexMap<ComponentOrigin, Vec<Node<Directive>>>,
     giver: ComponentOrigin,
 ) -> Result<SchemaExtension, AllocError>
-    ensures { IfOk result (λ s. schema_extension_parts s ≡ record { directives = map (node_tree directive_tree) (filed_under (origin_tree giver) directives.now.entries); roots = (schema_parts_given_by None (origin_tree giver) (schema_roots definition.now)).roots }) }
+    ensures { IfOk result (λ s. schema_extension_parts s ≡ schema_given (origin_tree giver) definition.now directives.now) }
 {
     let mut said = SchemaExtension {
         directives: DirectiveList(Vec::new(alloc)),

@@ -1,13 +1,12 @@
 //! The definitions and extensions of types.
-ghost use Rattle.std.specs.Prelude.{◌≡◌, ◌++◌, [], ◌∷◌, map, None, Some, OnOk, if◌then◌else◌};
+ghost use Rattle.std.specs.Prelude.{[], ◌∷◌, map, OnOk};
 ghost use Rattle.std.specs.List.{flat_map};
-ghost use Rattle.graphql_names.specs.Places.{is_built_in};
-ghost use Rattle.tree_definitions.specs.DefinitionTree.{definition_tree};
-ghost use Rattle.schema_components.specs.Given.{extension_tree, place_of};
-ghost use Rattle.schema_writing.specs.Contents.{type_contents, written_contents, defined_from, extended_from};
-ghost use Rattle.schema_writing.specs.ContentsView.{HoldsNothing, filed_parts};
+ghost use Rattle.schema_writing.specs.Contents.{type_contents, written_contents};
+ghost use Rattle.schema_writing.specs.ContentsView.{HoldsNothing};
+ghost use Rattle.schema_writing.specs.Writing.{Writes};
+ghost use Rattle.schema_writing.specs.FiledView.{type_definition, type_extension};
 
-use crate::definition_by::write_definition_by;
+use crate::definition_by::{Heading, write_definition_by};
 use crate::extension_by::write_extension_by;
 use crate::parts::{FiledType, Parts};
 use schema_components::{ComponentOrigin, ExtensionId};
@@ -21,7 +20,7 @@ pub(crate) fn write_types(
     types: &[ExtendedType],
     out: &mut Vec<Definition>,
 ) -> Result<(), AllocError>
-    ensures { OnOk result (map definition_tree out.new.items ≡ map definition_tree out.old.items ++ flat_map (λ t. written_contents (type_contents t)) types.now) }
+    ensures { OnOk result (Writes out.old out.new (flat_map (λ t. written_contents (type_contents t)) types.now)) }
 {
     for t in types {
         write_type(alloc, t, out)?;
@@ -31,8 +30,9 @@ pub(crate) fn write_types(
 
 /// Writes a type: its definition, if it is not built in, and then its extensions.
 fn write_type(alloc: Global, t: &ExtendedType, out: &mut Vec<Definition>) -> Result<(), AllocError>
-    ensures { OnOk result (map definition_tree out.new.items ≡ map definition_tree out.old.items ++ written_contents (type_contents t.now)) }
+    ensures { OnOk result (Writes out.old out.new (written_contents (type_contents t.now))) }
 {
+    // The six maps are owned here and borrowed by the call, which has a `?` in each step.
     let mut filed = FiledType::new(alloc);
     write_filed(alloc, t, &mut filed, out)
 }
@@ -45,7 +45,7 @@ fn write_filed(
     out: &mut Vec<Definition>,
 ) -> Result<(), AllocError>
     requires { HoldsNothing filed.old }
-    ensures { OnOk result (map definition_tree out.new.items ≡ map definition_tree out.old.items ++ written_contents (type_contents t.now)) }
+    ensures { OnOk result (Writes out.old out.new (written_contents (type_contents t.now))) }
 {
     filed.file(alloc, t)?;
     write_definition(alloc, t, filed, out)?;
@@ -60,7 +60,7 @@ fn write_definition(
     filed: &FiledType,
     out: &mut Vec<Definition>,
 ) -> Result<(), AllocError>
-    ensures { OnOk result (map definition_tree out.new.items ≡ map definition_tree out.old.items ++ (if is_built_in (type_contents t.now).place then [] else defined_from (type_contents t.now) (filed_parts None filed.now) ∷ [])) }
+    ensures { OnOk result (Writes out.old out.new (type_definition t.now filed.now)) }
 {
     if t.is_built_in() {
         return Ok(());
@@ -68,16 +68,12 @@ fn write_definition(
     let mut parts = Parts::new(alloc);
     parts.take_given(filed, ComponentOrigin::Definition)?;
     let description = shared_description(t.description())?;
-    let name = t.name().clone()?;
-    write_definition_by(
-        alloc,
-        t.kind(),
-        t.location(),
-        description,
-        name,
-        &mut parts,
-        out,
-    )
+    let heading = Heading {
+        kind: t.kind(),
+        location: t.location(),
+        name: t.name().clone()?,
+    };
+    write_definition_by(alloc, heading, description, &mut parts, out)
 }
 
 /// Writes the extensions of a type, in order.
@@ -88,7 +84,7 @@ fn write_extensions(
     extensions: &[ExtensionId],
     out: &mut Vec<Definition>,
 ) -> Result<(), AllocError>
-    ensures { OnOk result (map definition_tree out.new.items ≡ map definition_tree out.old.items ++ map (λ id. extended_from (type_contents t.now) (place_of id) (filed_parts (Some (extension_tree id)) filed.now)) extensions.now) }
+    ensures { OnOk result (Writes out.old out.new (map (λ id. type_extension t.now filed.now id) extensions.now)) }
 {
     for id in extensions {
         write_extension(alloc, t, filed, *id, out)?;
@@ -104,10 +100,14 @@ fn write_extension(
     id: ExtensionId,
     out: &mut Vec<Definition>,
 ) -> Result<(), AllocError>
-    ensures { OnOk result (map definition_tree out.new.items ≡ map definition_tree out.old.items ++ extended_from (type_contents t.now) (place_of id) (filed_parts (Some (extension_tree id)) filed.now) ∷ []) }
+    ensures { OnOk result (Writes out.old out.new (type_extension t.now filed.now id ∷ [])) }
 {
     let mut parts = Parts::new(alloc);
     parts.take_given(filed, ComponentOrigin::Extension(id))?;
-    let name = t.name().clone()?;
-    write_extension_by(alloc, t.kind(), id.location(), name, &mut parts, out)
+    let heading = Heading {
+        kind: t.kind(),
+        location: id.location(),
+        name: t.name().clone()?,
+    };
+    write_extension_by(alloc, heading, &mut parts, out)
 }

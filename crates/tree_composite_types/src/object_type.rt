@@ -20,6 +20,7 @@ pub struct ObjectTypeDefinition {
     pub fields: Vec<Node<FieldDefinition>>,
 }
 
+// Not derived: a derived drop is proved again in each crate that drops one.
 impl Drop for ObjectTypeDefinition {
     fn drop(self) {
         let ObjectTypeDefinition {
@@ -41,6 +42,7 @@ pub struct ObjectTypeExtension {
     pub fields: Vec<Node<FieldDefinition>>,
 }
 
+// Not derived: a derived drop is proved again in each crate that drops one.
 impl Drop for ObjectTypeExtension {
     fn drop(self) {
         let ObjectTypeExtension {

@@ -16,6 +16,7 @@ pub struct UnionTypeDefinition {
     pub members: Vec<NamedType>,
 }
 
+// Not derived: a derived drop is proved again in each crate that drops one.
 impl Drop for UnionTypeDefinition {
     fn drop(self) {
         let UnionTypeDefinition {
@@ -35,6 +36,7 @@ pub struct UnionTypeExtension {
     pub members: Vec<NamedType>,
 }
 
+// Not derived: a derived drop is proved again in each crate that drops one.
 impl Drop for UnionTypeExtension {
     fn drop(self) {
         let UnionTypeExtension {

@@ -33,6 +33,7 @@ pub fn copies_of_four<A: Clone, B: Clone, C: Clone, D: Clone>(
     ensures { IfOk result (λ r. A.is_clone a.now r.0 × B.is_clone b.now r.1 × C.is_clone c.now r.2 × D.is_clone d.now r.3) }
 {
     let front = copies_of_two(a, b)?;
+    // In pairs, so that few values are owned at each `?`.
     let back = copies_of_two(c, d)?;
     Ok((front.0, front.1, back.0, back.1))
 }

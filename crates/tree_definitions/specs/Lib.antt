@@ -3,6 +3,7 @@ pub mod DefinitionTree
 pub mod Sources
 pub mod DocumentLayout
 pub mod Writable
+pub mod Printed
 pub use Rattle.tree_meaning.specs.Queries
 pub use Rattle.tree_composite_types.specs as in_composite_types
 pub use Rattle.tree_input_types.specs as in_input_types

@@ -1,8 +1,8 @@
 //! What a document holds.
 ghost use Rattle.std.specs.Prelude.{◌≡◌, IfOk};
-ghost use Rattle.graphql_names.specs.Node.{content, place};
 ghost use Rattle.graphql_names.specs.declared.node.Node.{Node};
 ghost use Rattle.tree_definitions.specs.DefinitionTree.{definition_tree};
+ghost use Rattle.tree_definitions.specs.Printed.{IsFromCopy};
 
 use graphql_values::{DirectiveDefinition, FragmentDefinition, Node, OperationDefinition};
 use std::alloc::AllocError;
@@ -62,10 +62,11 @@ impl Drop for Definition {
 }
 
 /// A definition of a copy of the node.
+// The clone and its `?` are proved here once, and not in each of seventeen arms.
 fn copied<T: Drop>(node: &Node<T>) -> Result<Definition, AllocError>
 where
     Definition: From<Node<T>>,
-    ensures { IfOk result (λ d. (copy : Node T) × ((content copy ≡ content node.now) × ((place copy ≡ place node.now) × ⟦<Definition as From<Node<T>>>⟧.from_gives copy d))) }
+    ensures { IfOk result (λ d. IsFromCopy ⟦<Definition as From<Node<T>>>⟧.from_gives node.now d) }
 {
     Ok(Definition::from(node.clone()?))
 }

@@ -31,6 +31,7 @@ pub struct Document {
     pub definitions: Vec<Definition>,
 }
 
+// Not derived: a derived drop is proved again in each crate that drops one.
 impl Drop for Document {
     fn drop(self) {
         let Document {

@@ -1,10 +1,10 @@
 //! Definitions in general, and whole documents.
 ghost use Rattle.std.specs.Prelude.{map};
 ghost use Rattle.std.specs.Option.{option_copied};
-ghost use Rattle.graphql_values.specs.Joined.{joined};
 ghost use Rattle.graphql_values.specs.Levels.{level_depth};
 ghost use Rattle.tree_definitions.specs.DefinitionTree.{definition_tree};
 ghost use Rattle.tree_definitions.specs.DocumentLayout.{definition_text, between_text, next_definition_text, end_text, document_text};
+ghost use Rattle.tree_definitions.specs.Printed.{further_definitions_text};
 
 use crate::definition::Definition;
 use tree_composite_types::{
@@ -169,7 +169,7 @@ fn put_further_definitions<S: Sink>(
     level: &Level,
     definitions: &[Definition],
 )
-    ensures { S.puts sink.old (joined (map (next_definition_text (option_copied prefix.entry) (level_depth level.now)) (map definition_tree definitions.now))) sink.new }
+    ensures { S.puts sink.old (further_definitions_text (option_copied prefix.entry) (level_depth level.now) (map definition_tree definitions.now)) sink.new }
 {
     for definition in definitions {
         put_next_definition(sink, prefix, level, definition);

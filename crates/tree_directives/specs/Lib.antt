@@ -8,6 +8,7 @@ pub mod OperationQueries
 pub mod DirectiveLayout
 pub mod InputLayout
 pub mod DirectiveWritable
+pub mod Printed
 pub use Rattle.graphql_names.specs.Placed
 pub use Rattle.tree_printing.specs.Joined
 pub use Rattle.tree_printing.specs.Levels

@@ -34,6 +34,7 @@ pub struct Directive {
     pub arguments: Vec<Node<Argument>>,
 }
 
+// Not derived: a derived drop is proved again in each crate that drops one.
 impl Drop for Directive {
     fn drop(self) {
         let Directive {
@@ -64,6 +65,7 @@ pub struct DirectiveDefinition {
     pub locations: Vec<DirectiveLocation>,
 }
 
+// Not derived: a derived drop is proved again in each crate that drops one.
 impl Drop for DirectiveDefinition {
     fn drop(self) {
         let DirectiveDefinition {

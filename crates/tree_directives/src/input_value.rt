@@ -21,6 +21,7 @@ pub struct InputValueDefinition {
     pub directives: DirectiveList,
 }
 
+// Not derived: a derived drop is proved again in each crate that drops one.
 impl Drop for InputValueDefinition {
     fn drop(self) {
         let InputValueDefinition {

@@ -5,10 +5,9 @@ ghost use Rattle.graphql_names.specs.Placed.{Place};
 ghost use Rattle.tree_directives.specs.DirectiveTree.{input_value_tree, input_value_trees, directive_definition_tree};
 ghost use Rattle.tree_printing.specs.Joined.{joined, after, further_text};
 ghost use Rattle.tree_printing.specs.Levels.{level_depth};
-ghost use Rattle.tree_printing.specs.LineLayout.{member_text};
-ghost use Rattle.tree_printing.specs.LineLayout.{texts_of};
-ghost use Rattle.tree_directives.specs.InputLayout.{input_value_text, input_members_text, stand_on_lines, arguments_in_line, arguments_on_lines, argument_definitions_text, repeatable_text, locations_text, undescribed_directive_text, directive_definition_text};
+ghost use Rattle.tree_directives.specs.InputLayout.{input_value_text, input_members_text, stand_on_lines, arguments_in_line, arguments_on_lines, argument_definitions_text, repeatable_text, locations_text, directive_definition_text};
 ghost use Rattle.tree_directives.specs.DirectivePlaces.{location_keyword};
+ghost use Rattle.tree_directives.specs.Printed.{further_inputs_text, input_member_text, undescribed_text};
 
 use crate::directive::DirectiveDefinition;
 use crate::directive_location::DirectiveLocation;
@@ -34,6 +33,7 @@ pub fn put_input_value<S: Sink>(
     put_directives(sink, &input.directives);
 }
 
+// A description is on a line of its own: where one argument has one, each argument takes a line.
 fn stand_on_lines(arguments: &[Node<InputValueDefinition>]) -> bool
     ensures { result ≡ stand_on_lines (input_value_trees arguments.now) }
 {
@@ -63,7 +63,7 @@ fn put_further_inputs<S: Sink>(
     level: &Level,
     inputs: &[Node<InputValueDefinition>],
 )
-    ensures { S.puts sink.old (further_text (codes ", ") (texts_of (λ v. input_value_text (option_copied prefix.entry) v (level_depth level.now)) (input_value_trees inputs.now))) sink.new }
+    ensures { S.puts sink.old (further_inputs_text (option_copied prefix.entry) inputs.now (level_depth level.now)) sink.new }
 {
     for input in inputs {
         put_next_input(sink, prefix, level, input.content());
@@ -95,7 +95,7 @@ fn put_input_member<S: Sink>(
     level: &Level,
     input: &InputValueDefinition,
 )
-    ensures { S.puts sink.old (member_text (option_copied prefix.entry) (level_depth level.now) (input_value_text (option_copied prefix.entry) (input_value_tree input.now))) sink.new }
+    ensures { S.puts sink.old (input_member_text (option_copied prefix.entry) (level_depth level.now) input.now) sink.new }
 {
     put_break(sink, prefix, level);
     put_input_value(sink, prefix, level, input);
@@ -199,7 +199,7 @@ fn put_undescribed_directive<S: Sink>(
     level: &Level,
     definition: &DirectiveDefinition,
 )
-    ensures { S.puts sink.old (undescribed_directive_text (option_copied prefix.entry) (directive_definition_tree definition.now) (level_depth level.now)) sink.new }
+    ensures { S.puts sink.old (undescribed_text (option_copied prefix.entry) definition.now (level_depth level.now)) sink.new }
 {
     sink.put("directive @");
     sink.put(definition.name.as_str());

@@ -1,1 +1,2 @@
 pub mod InputTypeTree
+pub mod Printed

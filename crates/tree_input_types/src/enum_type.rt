@@ -17,6 +17,7 @@ pub struct EnumTypeDefinition {
     pub values: Vec<Node<EnumValueDefinition>>,
 }
 
+// Not derived: a derived drop is proved again in each crate that drops one.
 impl Drop for EnumTypeDefinition {
     fn drop(self) {
         let EnumTypeDefinition {
@@ -36,6 +37,7 @@ pub struct EnumTypeExtension {
     pub values: Vec<Node<EnumValueDefinition>>,
 }
 
+// Not derived: a derived drop is proved again in each crate that drops one.
 impl Drop for EnumTypeExtension {
     fn drop(self) {
         let EnumTypeExtension {

@@ -17,6 +17,7 @@ pub struct InputObjectTypeDefinition {
     pub fields: Vec<Node<InputValueDefinition>>,
 }
 
+// Not derived: a derived drop is proved again in each crate that drops one.
 impl Drop for InputObjectTypeDefinition {
     fn drop(self) {
         let InputObjectTypeDefinition {
@@ -36,6 +37,7 @@ pub struct InputObjectTypeExtension {
     pub fields: Vec<Node<InputValueDefinition>>,
 }
 
+// Not derived: a derived drop is proved again in each crate that drops one.
 impl Drop for InputObjectTypeExtension {
     fn drop(self) {
         let InputObjectTypeExtension {

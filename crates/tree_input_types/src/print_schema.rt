@@ -3,11 +3,12 @@ ghost use Rattle.std.specs.Prelude.{map};
 ghost use Rattle.std.specs.Option.{option_copied, option_map};
 ghost use Rattle.graphql_names.specs.Placed.{node_tree, name_tree, text_tree};
 ghost use Rattle.tree_printing.specs.Levels.{level_depth};
-ghost use Rattle.tree_printing.specs.LineLayout.{member_text, members_text, set_text};
+ghost use Rattle.tree_printing.specs.LineLayout.{set_text};
 ghost use Rattle.tree_printing.specs.StringLayout.{description_text};
 ghost use Rattle.tree_printing.specs.LineLayout.{texts_of};
 ghost use Rattle.tree_type_members.specs.TypeSystemLayout.{extend, root_text, schema_text};
 ghost use Rattle.tree_input_types.specs.InputTypeTree.{root_tree, schema_parts, schema_extension_parts};
+ghost use Rattle.tree_input_types.specs.Printed.{root_member_text, root_members_text};
 
 use crate::schema::{SchemaDefinition, SchemaExtension};
 use graphql_names::Node;
@@ -29,7 +30,7 @@ fn put_root_member<S: Sink>(
     operation: OperationType,
     name: &NamedType,
 )
-    ensures { S.puts sink.old (member_text (option_copied prefix.entry) (level_depth level.now) (root_text (record { operation_type = operation; name = name_tree name.now }))) sink.new }
+    ensures { S.puts sink.old (root_member_text (option_copied prefix.entry) (level_depth level.now) operation name.now) sink.new }
 {
     put_break(sink, prefix, level);
     put_root(sink, operation, name);
@@ -41,7 +42,7 @@ fn put_root_members<S: Sink>(
     level: &Level,
     roots: &[Node<(OperationType, NamedType)>],
 )
-    ensures { S.puts sink.old (members_text (option_copied prefix.entry) (level_depth level.now) (texts_of root_text (map (node_tree root_tree) roots.now))) sink.new }
+    ensures { S.puts sink.old (root_members_text (option_copied prefix.entry) (level_depth level.now) roots.now) sink.new }
 {
     for root in roots {
         put_root_member(sink, prefix, level, root.content().0, &root.content().1);

@@ -16,6 +16,7 @@ pub struct ScalarTypeDefinition {
     pub directives: DirectiveList,
 }
 
+// Not derived: a derived drop is proved again in each crate that drops one.
 impl Drop for ScalarTypeDefinition {
     fn drop(self) {
         let ScalarTypeDefinition {
@@ -33,6 +34,7 @@ pub struct ScalarTypeExtension {
     pub directives: DirectiveList,
 }
 
+// Not derived: a derived drop is proved again in each crate that drops one.
 impl Drop for ScalarTypeExtension {
     fn drop(self) {
         let ScalarTypeExtension {

@@ -148,6 +148,7 @@ impl Clone for Type {
         match self {
             Type::Named(name) => Ok(Type::Named(name.clone()?)),
             Type::NonNullNamed(name) => Ok(Type::NonNullNamed(name.clone()?)),
+            // The copy takes its memory where the original did, as `clone` is given none.
             Type::List(item) => Ok(Type::List(Box::new(*Box::allocator(item), (**item).clone()?)?)),
             Type::NonNullList(item) => Ok(Type::NonNullList(Box::new(
                 *Box::allocator(item),

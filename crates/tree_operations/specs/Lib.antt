@@ -2,6 +2,7 @@ pub mod SelectionTree
 pub mod SelectionParts
 pub mod OperationTree
 pub mod OperationLayout
+pub mod Printed
 pub mod OperationWritable
 pub use Rattle.graphql_names.specs.Placed
 pub use Rattle.tree_printing.specs.Joined

@@ -19,6 +19,7 @@ pub struct VariableDefinition {
     pub directives: DirectiveList,
 }
 
+// Not derived: a derived drop is proved again in each crate that drops one.
 impl Drop for VariableDefinition {
     fn drop(self) {
         let VariableDefinition {
@@ -40,6 +41,7 @@ pub struct OperationDefinition {
     pub selection_set: Vec<Selection>,
 }
 
+// Not derived: a derived drop is proved again in each crate that drops one.
 impl Drop for OperationDefinition {
     fn drop(self) {
         let OperationDefinition {
@@ -61,6 +63,7 @@ pub struct FragmentDefinition {
     pub selection_set: Vec<Selection>,
 }
 
+// Not derived: a derived drop is proved again in each crate that drops one.
 impl Drop for FragmentDefinition {
     fn drop(self) {
         let FragmentDefinition {

@@ -7,10 +7,11 @@ ghost use Rattle.tree_operations.specs.SelectionParts.{field_tree, spread_tree, 
 ghost use Rattle.tree_operations.specs.OperationTree.{variable_definition_tree, operation_tree, fragment_tree};
 ghost use Rattle.tree_printing.specs.Joined.{joined, after, further_text};
 ghost use Rattle.tree_printing.specs.Levels.{level_depth};
-ghost use Rattle.tree_printing.specs.LineLayout.{member_text, members_text, braced_text, set_text};
+ghost use Rattle.tree_printing.specs.LineLayout.{braced_text};
 ghost use Rattle.tree_printing.specs.LineLayout.{texts_of};
 ghost use Rattle.tree_operations.specs.OperationLayout.{alias_text, condition_text, selection_text, selection_texts, variable_text, variables_text, operation_name_text, is_bare_query, full_operation_text, operation_text, begins_output, fragment_text};
 ghost use Rattle.tree_directives.specs.OperationQueries.{operation_keyword};
+ghost use Rattle.tree_operations.specs.Printed.{selection_member_text, selection_members_text, selection_set_text};
 
 use crate::operation::{FragmentDefinition, OperationDefinition, VariableDefinition};
 use crate::selection::{Field, FragmentSpread, InlineFragment, Selection};
@@ -58,7 +59,7 @@ pub fn put_spread<S: Sink>(
 
 #[cycle(selections)]
 fn put_members<S: Sink>(sink: &mut S, prefix: Option<&str>, level: &Level, selections: &[Selection])
-    ensures { S.puts sink.old (members_text (option_copied prefix.entry) (level_depth level.now) (selection_texts (option_copied prefix.entry) (selection_trees selection_tree selections.now))) sink.new }
+    ensures { S.puts sink.old (selection_members_text (option_copied prefix.entry) (level_depth level.now) selections.now) sink.new }
 {
     for selection in selections {
         put_member(sink, prefix, level, selection);
@@ -67,7 +68,7 @@ fn put_members<S: Sink>(sink: &mut S, prefix: Option<&str>, level: &Level, selec
 
 #[cycle(selections)]
 fn put_member<S: Sink>(sink: &mut S, prefix: Option<&str>, level: &Level, selection: &Selection)
-    ensures { S.puts sink.old (member_text (option_copied prefix.entry) (level_depth level.now) (selection_text (option_copied prefix.entry) (selection_tree selection.now))) sink.new }
+    ensures { S.puts sink.old (selection_member_text (option_copied prefix.entry) (level_depth level.now) selection.now) sink.new }
 {
     put_break(sink, prefix, level);
     put_selection(sink, prefix, level, selection);
@@ -93,7 +94,7 @@ pub fn put_braced<S: Sink>(
 
 #[cycle(selections)]
 fn put_set<S: Sink>(sink: &mut S, prefix: Option<&str>, level: &Level, selections: &[Selection])
-    ensures { S.puts sink.old (set_text (option_copied prefix.entry) (level_depth level.now) (selection_texts (option_copied prefix.entry) (selection_trees selection_tree selections.now))) sink.new }
+    ensures { S.puts sink.old (selection_set_text (option_copied prefix.entry) (level_depth level.now) selections.now) sink.new }
 {
     if selections.is_empty() {
         return;
@@ -239,6 +240,7 @@ pub fn put_operation<S: Sink>(
 )
     ensures { S.puts sink.old (operation_text at_start (option_copied prefix.entry) (operation_tree operation.now) (level_depth level.now)) sink.new }
 {
+    // Only at the start: after a type without fields a `{` would be read as its fields.
     if at_start && is_bare_query(operation) {
         put_braced(sink, prefix, level, &operation.selection_set);
     } else {

@@ -60,6 +60,7 @@ pub struct FragmentSpread {
     pub directives: DirectiveList,
 }
 
+// Not derived: a derived drop is proved again in each crate that drops one.
 impl Drop for FragmentSpread {
     fn drop(self) {
         let FragmentSpread {

@@ -74,6 +74,7 @@ fn lines_end_well(text: &str) -> bool
 }
 
 /// Whether the text's lines, set as a block string, are read back as they are.
+// Reading drops blank lines at both ends and the common indent, and takes `\r` for the end of a line (section 2.9.4).
 fn can_be_block_string(text: &str) -> bool
     ensures { result ≡ can_be_block_string text.now }
 {

@@ -11,10 +11,12 @@ use crate::sink::Sink;
 fn put_times<S: Sink>(sink: &mut S, text: &str, times: usize)
     ensures { S.puts sink.old (joined (replicate times text.now)) sink.new }
 {
+    // A caller may ask for any number of empty prefixes.
     if text.is_empty() {
         return;
     }
     for _ in 0..times {
+        // A level may be large: once the sink has failed the rest is not counted out.
         if sink.is_stopped() {
             return;
         }

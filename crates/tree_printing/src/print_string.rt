@@ -9,6 +9,7 @@ ghost use Rattle.tree_printing.specs.EscapeRuns.{must_escape, FirstEscape};
 
 use crate::sink::Sink;
 
+// `|` and not `||`: without branches the compiler can test many bytes at a time.
 fn must_escape(byte: u8) -> bool
     ensures { result ≡ must_escape byte }
 {

@@ -15,6 +15,7 @@ pub struct EnumValueDefinition {
     pub directives: DirectiveList,
 }
 
+// Not derived: a derived drop is proved again in each crate that drops one.
 impl Drop for EnumValueDefinition {
     fn drop(self) {
         let EnumValueDefinition {

@@ -1,9 +1,9 @@
 //! The fields of objects and interfaces.
-ghost use Rattle.std.specs.Prelude.{◌≡◌, map, IfOk};
+ghost use Rattle.std.specs.Prelude.{◌≡◌, IfOk};
 ghost use Rattle.std.specs.Option.{option_map};
 ghost use Rattle.graphql_names.specs.Placed.{node_tree};
 ghost use Rattle.tree_literals.specs.TypeTree.{type_tree};
-ghost use Rattle.tree_directives.specs.DirectiveTree.{input_value_tree};
+ghost use Rattle.tree_directives.specs.DirectiveTree.{input_value_tree, input_value_trees};
 ghost use Rattle.tree_type_members.specs.TypeSystemTree.{field_definition_tree};
 ghost use Rattle.tree_type_members.specs.ArgumentQueries.{argument_named};
 
@@ -23,6 +23,7 @@ pub struct FieldDefinition {
     pub directives: DirectiveList,
 }
 
+// Not derived: a derived drop is proved again in each crate that drops one.
 impl Drop for FieldDefinition {
     fn drop(self) {
         let FieldDefinition {
@@ -54,7 +55,7 @@ fn clone_signature(
     arguments: &Vec<Node<InputValueDefinition>>,
     ty: &Type,
 ) -> Result<(Vec<Node<InputValueDefinition>>, Type), AllocError>
-    ensures { IfOk result (λ copy. (map (node_tree input_value_tree) copy.0.items ≡ map (node_tree input_value_tree) arguments.now.items) × (type_tree copy.1 ≡ type_tree ty.now)) }
+    ensures { IfOk result (λ copy. (input_value_trees copy.0.items ≡ input_value_trees arguments.now.items) × (type_tree copy.1 ≡ type_tree ty.now)) }
 {
     Ok((arguments.clone()?, ty.clone()?))
 }

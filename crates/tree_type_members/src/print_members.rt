@@ -4,11 +4,12 @@ ghost use Rattle.std.specs.Option.{option_copied};
 ghost use Rattle.graphql_names.specs.Placed.{node_tree};
 ghost use Rattle.tree_directives.specs.DirectiveTree.{input_value_tree};
 ghost use Rattle.tree_printing.specs.Levels.{level_depth};
-ghost use Rattle.tree_printing.specs.LineLayout.{member_text, members_text, set_text};
+ghost use Rattle.tree_printing.specs.LineLayout.{set_text};
 ghost use Rattle.tree_printing.specs.LineLayout.{texts_of};
 ghost use Rattle.tree_directives.specs.InputLayout.{input_value_text};
 ghost use Rattle.tree_type_members.specs.TypeSystemTree.{field_definition_tree, enum_value_tree};
 ghost use Rattle.tree_type_members.specs.TypeSystemLayout.{undescribed_field_text, field_definition_text, enum_value_text};
+ghost use Rattle.tree_type_members.specs.Printed.{field_member_text, field_members_text, value_member_text, value_members_text};
 
 use crate::enum_value::EnumValueDefinition;
 use crate::field_definition::FieldDefinition;
@@ -65,7 +66,7 @@ fn put_field_member<S: Sink>(
     level: &Level,
     field: &FieldDefinition,
 )
-    ensures { S.puts sink.old (member_text (option_copied prefix.entry) (level_depth level.now) (field_definition_text (option_copied prefix.entry) (field_definition_tree field.now))) sink.new }
+    ensures { S.puts sink.old (field_member_text (option_copied prefix.entry) (level_depth level.now) field.now) sink.new }
 {
     put_break(sink, prefix, level);
     put_field_definition(sink, prefix, level, field);
@@ -77,7 +78,7 @@ fn put_field_members<S: Sink>(
     level: &Level,
     fields: &[Node<FieldDefinition>],
 )
-    ensures { S.puts sink.old (members_text (option_copied prefix.entry) (level_depth level.now) (texts_of (field_definition_text (option_copied prefix.entry)) (map (node_tree field_definition_tree) fields.now))) sink.new }
+    ensures { S.puts sink.old (field_members_text (option_copied prefix.entry) (level_depth level.now) fields.now) sink.new }
 {
     for field in fields {
         put_field_member(sink, prefix, level, field.content());
@@ -110,7 +111,7 @@ fn put_value_member<S: Sink>(
     level: &Level,
     value: &EnumValueDefinition,
 )
-    ensures { S.puts sink.old (member_text (option_copied prefix.entry) (level_depth level.now) (enum_value_text (option_copied prefix.entry) (enum_value_tree value.now))) sink.new }
+    ensures { S.puts sink.old (value_member_text (option_copied prefix.entry) (level_depth level.now) value.now) sink.new }
 {
     put_break(sink, prefix, level);
     put_enum_value(sink, prefix, level, value);
@@ -122,7 +123,7 @@ fn put_value_members<S: Sink>(
     level: &Level,
     values: &[Node<EnumValueDefinition>],
 )
-    ensures { S.puts sink.old (members_text (option_copied prefix.entry) (level_depth level.now) (texts_of (enum_value_text (option_copied prefix.entry)) (map (node_tree enum_value_tree) values.now))) sink.new }
+    ensures { S.puts sink.old (value_members_text (option_copied prefix.entry) (level_depth level.now) values.now) sink.new }
 {
     for value in values {
         put_value_member(sink, prefix, level, value.content());

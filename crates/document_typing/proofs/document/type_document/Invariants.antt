@@ -9,6 +9,6 @@ use Rattle.document_typing.proofs.document.type_document.Given as goal
 
 abbrev pub invariant-loop-definition : goal.invariant-loop-definition
 invariant-loop-definition l =
-    (fold (and_definition (meanings_under l.schema) l.beside) (typed_view l.typed) (map definition_tree (drop l.definition-index l.definitions))
-    ≡ typed_in (meanings_under l.schema) (map definition_tree l.definitions))
-    × IsDefinedDocument (schema_under l.schema) (kept_tree l.typed)
+    (fold (and_definition (meanings_under l.typing.schema) l.beside) (typed_view l.typed) (map definition_tree (drop l.definition-index l.definitions))
+    ≡ typed_in (meanings_under l.typing.schema) (map definition_tree l.definitions))
+    × IsDefinedDocument (schema_under l.typing.schema) (kept_tree l.typed)

@@ -17,6 +17,6 @@ returns-clause-kept c =
     let p = place c.args.operation.now in
     let tree = operation_tree (content c.args.operation.now) in
     let variables = nodes-copies variable_definition_tree _ _ c.in_ok-name.ensures.1.0 in
-    let same : operation_meant c.in_ok-same_location.field-0 ≡ meant_operation_with p tree (meant_of_set (typed_set_tree c.in_ok-set.set)) = search (rules, variables) in
+    let same : operation_meant c.in_ok-same_location.field-0 ≡ meant_operation_with p tree (meant_of_set (typed_set_tree c.in_ok-set.set)) = search (rules, variables, c.in_ok-same_location.ensures, c.in_ok-name.ensures, c.content-tree.ensures) in
     let items = c.deref.ensures.value ∙ ap (λ o. o.selection_set.items) c.content-tree.ensures in
-    same ∙ ap (meant_operation_with p tree) (c.in_ok-set.ensures.kept ∙ ap (λ l. set_on t (kept_all (meanings_under c.args.schema) (selection_trees selection_tree l) t)) items)
+    same ∙ ap (meant_operation_with p tree) (c.in_ok-set.ensures.kept ∙ ap (λ l. set_on t (kept_all (meanings_under c.args.typing.now.schema) (selection_trees selection_tree l) t)) items)

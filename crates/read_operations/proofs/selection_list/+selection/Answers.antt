@@ -12,7 +12,6 @@ use Rattle.read_grammar.proofs.Steady.{Steady}
 use Rattle.read_grammar.proofs.Steps.{viewed_turn, turn_stops_with, turns_end, turn_takes, some_starts, some_not}
 use Rattle.read_grammar.proofs.Opened.{selection_set_is}
 use Rattle.read_grammar.proofs.Views.{selections_viewed}
-use Rattle.tree_operations.proofs.SelectionTrees.{selection_tree_field, selection_tree_inline}
 use Rattle.read_operations.proofs.SelectionRules.{field_is, dots_spread, dots_inline, selection_field, selection_dots}
 use Rattle.read_values.specs.Meanings.{in_file}
 use Rattle.read_operations.proofs.selection_list.+selection.Goals as goal
@@ -60,15 +59,16 @@ dots-returns t c =
     rw (dots_inline (in_file c.args.file) c.args.depth (reading.selection_set (in_file c.args.file) c.args.depth) c.args.tokens.now c.expect.new.tokens c.in_ok-expect.ensures other) (search rules)
 
 pub placed_inline-returns : goal.placed_inline-returns
-placed_inline-returns t c =
-    rw (selection_tree_inline c.in_ok-new_parsed.field-0, c.in_ok-new_parsed.ensures.content, c.in_ok-new_parsed.ensures.place) (search rules)
+placed_inline-returns t c = rw c.in_ok-inline_with.ensures (search rules)
 
-pub placed_field-returns-in_err-found : goal.placed_field-returns-in_err-found
-placed_field-returns-in_err-found t c = rw (field_is (in_file c.args.file) c.args.depth (reading.selection_set (in_file c.args.file) c.args.depth) c.args.tokens.now) (search rules)
+pub placed_field-returns-in_err-names : goal.placed_field-returns-in_err-names
+placed_field-returns-in_err-names t c = rw (field_is (in_file c.args.file) c.args.depth (reading.selection_set (in_file c.args.file) c.args.depth) c.args.tokens.now) (search rules)
+
+pub placed_field-returns-in_err-behind : goal.placed_field-returns-in_err-behind
+placed_field-returns-in_err-behind t c = rw (field_is (in_file c.args.file) c.args.depth (reading.selection_set (in_file c.args.file) c.args.depth) c.args.tokens.now) (search rules)
 
 pub placed_field-returns : goal.placed_field-returns
-placed_field-returns t c =
-    rw (field_is (in_file c.args.file) c.args.depth (reading.selection_set (in_file c.args.file) c.args.depth) c.args.tokens.now, selection_tree_field c.in_ok-new_parsed.field-0, c.in_ok-new_parsed.ensures.content, c.in_ok-new_parsed.ensures.place) (search rules)
+placed_field-returns t c = rw (field_is (in_file c.args.file) c.args.depth (reading.selection_set (in_file c.args.file) c.args.depth) c.args.tokens.now, c.in_ok-field_with.ensures) (search rules)
 
 pub selection-returns-then-next_is_name : goal.selection-returns-then-next_is_name
 selection-returns-then-next_is_name t c =

@@ -9,40 +9,34 @@ use Rattle.read_values.specs.Meanings.{in_file}
 use Rattle.read_operations.proofs.selection_list.+selection.Given as goal
 
 abbrev pub decreases-selection_set : goal.decreases-selection_set
-decreases-selection_set l = 8 * l.depth
+decreases-selection_set l = 7 * l.depth
 
 abbrev pub decreases-optional_selection_set : goal.decreases-optional_selection_set
-decreases-optional_selection_set l = 8 * l.depth + 1
+decreases-optional_selection_set l = 7 * l.depth + 1
 
 abbrev pub decreases-directives_and_set : goal.decreases-directives_and_set
-decreases-directives_and_set l = 8 * l.depth + 1
+decreases-directives_and_set l = 7 * l.depth + 1
 
 abbrev pub decreases-directives_and_any_set : goal.decreases-directives_and_any_set
-decreases-directives_and_any_set l = 8 * l.depth + 2
+decreases-directives_and_any_set l = 7 * l.depth + 2
 
 abbrev pub decreases-behind_name : goal.decreases-behind_name
-decreases-behind_name l = 8 * l.depth + 3
-
-abbrev pub decreases-inline : goal.decreases-inline
-decreases-inline l = 8 * l.depth + 2
-
-abbrev pub decreases-field : goal.decreases-field
-decreases-field l = 8 * l.depth + 4
+decreases-behind_name l = 7 * l.depth + 3
 
 abbrev pub decreases-placed_inline : goal.decreases-placed_inline
-decreases-placed_inline l = 8 * l.depth + 3
+decreases-placed_inline l = 7 * l.depth + 2
 
 abbrev pub decreases-placed_field : goal.decreases-placed_field
-decreases-placed_field l = 8 * l.depth + 5
+decreases-placed_field l = 7 * l.depth + 4
 
 abbrev pub decreases-dots : goal.decreases-dots
-decreases-dots l = 8 * l.depth + 4
+decreases-dots l = 7 * l.depth + 3
 
 abbrev pub decreases-selection : goal.decreases-selection
-decreases-selection l = 8 * l.depth + 6
+decreases-selection l = 7 * l.depth + 5
 
 abbrev pub decreases-some_selections : goal.decreases-some_selections
-decreases-some_selections l = 8 * l.depth + 7
+decreases-some_selections l = 7 * l.depth + 6
 
 abbrev pub invariant-some_selections-turns : goal.invariant-some_selections-turns
 invariant-some_selections-turns l =

@@ -13,7 +13,7 @@ use Rattle.schema_fold_index.proofs.Listing.{definitions_more}
 use Rattle.schema_fold_types.proofs.types.fold_built_in.Goals as goal
 
 pub loop-listed-init : goal.loop-listed-init
-loop-listed-init c = folds_none (extensions_under (map listed_view c.args.texts.now) c.args.extended.now.entries) (types_view c.args.types.now) (faults_of c.args.faults.now)
+loop-listed-init c = folds_none (extensions_under (map listed_view c.args.extended.now.texts.now) c.args.extended.now.filed.now.entries) (types_view c.args.types.now) (faults_of c.args.faults.now)
 
 pub loop-listed-preserved : goal.loop-listed-preserved
 loop-listed-preserved c =
@@ -21,7 +21,7 @@ loop-listed-preserved c =
     let i = c.loop-listed.listed-index in
     let x = c.listed-item.result in
     let h : i < length xs = omega arith in
-    let extensions = extensions_under (map listed_view c.args.texts.now) c.args.extended.now.entries in
+    let extensions = extensions_under (map listed_view c.args.extended.now.texts.now) c.args.extended.now.filed.now.entries in
     let before = definitions_of (map listed_view (take i xs)) in
     let types = types_view c.args.types.now in
     let faults = faults_of c.args.faults.now in
@@ -35,6 +35,6 @@ loop-listed-preserved c =
 
 pub returns : goal.returns
 returns c =
-    folds_same (extensions_under (map listed_view c.args.texts.now) c.args.extended.now.entries) _ _
+    folds_same (extensions_under (map listed_view c.args.extended.now.texts.now) c.args.extended.now.filed.now.entries) _ _
     (types_view c.args.types.now) (types_view c.loop-listed.types) (faults_of c.args.faults.now) (faults_of c.loop-listed.faults)
     (ap (λ l. types_in (definitions_of (map listed_view l))) (take_all c.loop-listed.listed-index c.args.built_in.now c.loop-listed-test.false)) c.loop-listed.invariant

@@ -13,7 +13,7 @@ use Rattle.schema_fold_index.proofs.Listing.{flat_map-push}
 use Rattle.schema_fold_types.proofs.types.fold_filed.Goals as goal
 
 pub loop-filed-init : goal.loop-filed-init
-loop-filed-init c = folds_none (extensions_under (map listed_view c.args.texts.now) c.args.extended.now.entries) (types_view c.args.types.now) (faults_of c.args.faults.now)
+loop-filed-init c = folds_none (extensions_under (map listed_view c.args.extended.now.texts.now) c.args.extended.now.filed.now.entries) (types_view c.args.types.now) (faults_of c.args.faults.now)
 
 pub loop-filed-preserved : goal.loop-filed-preserved
 loop-filed-preserved c =
@@ -21,8 +21,8 @@ loop-filed-preserved c =
     let i = c.loop-filed.filed-index in
     let x = c.filed-item.result in
     let h : i < length xs = omega arith in
-    let extensions = extensions_under (map listed_view c.args.texts.now) c.args.extended.now.entries in
-    let ds = definitions_of (map listed_view c.args.texts.now) in
+    let extensions = extensions_under (map listed_view c.args.extended.now.texts.now) c.args.extended.now.filed.now.entries in
+    let ds = definitions_of (map listed_view c.args.extended.now.texts.now) in
     let types = types_view c.args.types.now in
     let faults = faults_of c.args.faults.now in
     let types' = types_view c.fold_at.new.types in
@@ -34,7 +34,7 @@ loop-filed-preserved c =
 
 pub returns : goal.returns
 returns c =
-    let ds = definitions_of (map listed_view c.args.texts.now) in
-    folds_same (extensions_under (map listed_view c.args.texts.now) c.args.extended.now.entries) _ _
+    let ds = definitions_of (map listed_view c.args.extended.now.texts.now) in
+    folds_same (extensions_under (map listed_view c.args.extended.now.texts.now) c.args.extended.now.filed.now.entries) _ _
     (types_view c.args.types.now) (types_view c.loop-filed.types) (faults_of c.args.faults.now) (faults_of c.loop-filed.faults)
     (ap (flat_map (λ f. defined_at ds f.first)) (take_all c.loop-filed.filed-index c.args.defined.now c.loop-filed-test.false)) c.loop-filed.invariant

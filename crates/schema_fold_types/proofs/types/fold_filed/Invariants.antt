@@ -10,5 +10,5 @@ use Rattle.schema_fold_types.proofs.types.fold_filed.Given as goal
 
 abbrev pub invariant-loop-filed : goal.invariant-loop-filed
 invariant-loop-filed l =
-    FoldsOn (extensions_under (map listed_view l.texts) l.extended.entries) (flat_map (λ f. defined_at (definitions_of (map listed_view l.texts)) f.first) (take l.filed-index l.defined))
+    FoldsOn (extensions_under (map listed_view l.extended.texts.now) l.extended.filed.now.entries) (flat_map (λ f. defined_at (definitions_of (map listed_view l.extended.texts.now)) f.first) (take l.filed-index l.defined))
     (types_view l.fn.types) (faults_of l.fn.faults) (types_view l.types) (faults_of l.faults)

@@ -17,7 +17,7 @@ use Rattle.schema_fold_types.proofs.types.fold_first.Goals as goal
 
 pub returns-then-contains_key : goal.returns-then-contains_key
 returns-then-contains_key c =
-    folds_seen (extensions_under (map listed_view c.args.texts.now) c.args.extended.now.entries) c.args.types.now.entries (defined_view c.args.defined.now) (faults_of c.args.faults.now)
+    folds_seen (extensions_under (map listed_view c.args.extended.now.texts.now) c.args.extended.now.filed.now.entries) c.args.types.now.entries (defined_view c.args.defined.now) (faults_of c.args.faults.now)
     (sym c.contains_key.ensures ∙ c.if-contains_key.true)
 
 pub insert_new-requires : goal.insert_new-requires
@@ -31,6 +31,6 @@ returns c =
     let faults = faults_of c.args.faults.now in
     let given = ap (map listed_view) c.deref.ensures.value ∙ c.in_ok-extensions.ensures in
     let absent = sym c.contains_key.ensures ∙ c.if-contains_key.false in
-    IfOk-weaker _ _ _ (λ _ h. folds_new (extensions_under (map listed_view c.args.texts.now) c.args.extended.now.entries) es t (types_view c.insert_new.new.map) faults (faults_of c.fold_type.new.faults) absent
+    IfOk-weaker _ _ _ (λ _ h. folds_new (extensions_under (map listed_view c.args.extended.now.texts.now) c.args.extended.now.filed.now.entries) es t (types_view c.insert_new.new.map) faults (faults_of c.fold_type.new.faults) absent
     (ap (map entry_view) h ∙ map-append entry_view es ((name, c.in_ok-folded.folded) ∷ []) ∙ ap (λ x. map entry_view es ++ (name.text, x) ∷ []) (c.in_ok-folded.ensures.folded ∙ ap (λ l. folded_type l t) given))
     (c.in_ok-folded.ensures.faults ∙ ap (λ l. faults ++ faults_of_type l t) given)) c.insert_new.ensures

@@ -12,4 +12,4 @@ fold_first-requires c = (definition_tree c.args.listed.now.definition, sym c.in-
 
 pub returns-in-None : goal.returns-in-None
 returns-in-None c =
-    folds_nothing (extensions_under (map listed_view c.args.texts.now) c.args.extended.now.entries) _ (types_view c.args.types.now) (faults_of c.args.faults.now) (ap option_to_list (sym c.in-None.ensures))
+    folds_nothing (extensions_under (map listed_view c.args.extended.now.texts.now) c.args.extended.now.filed.now.entries) _ (types_view c.args.types.now) (faults_of c.args.faults.now) (ap option_to_list (sym c.in-None.ensures))

@@ -17,7 +17,7 @@ use Rattle.document_typing.proofs.document.TypedDocument.add_fragment.Goals as g
 
 pub returns-then-not-has_type-clause-view : goal.returns-then-not-has_type-clause-view
 returns-then-not-has_type-clause-view c =
-    let m = meanings_under c.args.schema in
+    let m = meanings_under c.args.typing.now.schema in
     let p = place c.args.fragment.now in
     let f = fragment_tree (content c.args.fragment.now) in
     let st = typed_view c.args.self.now in
@@ -34,7 +34,7 @@ returns-then-not-has_type-clause-view c =
 
 pub returns-then-is_known-clause-view : goal.returns-then-is_known-clause-view
 returns-then-is_known-clause-view c =
-    let m = meanings_under c.args.schema in
+    let m = meanings_under c.args.typing.now.schema in
     let p = place c.args.fragment.now in
     let f = fragment_tree (content c.args.fragment.now) in
     let st = typed_view c.args.self.now in
@@ -47,7 +47,7 @@ returns-then-is_known-clause-view c =
 
 pub returns-clause-view : goal.returns-clause-view
 returns-clause-view c =
-    let m = meanings_under c.args.schema in
+    let m = meanings_under c.args.typing.now.schema in
     let p = place c.args.fragment.now in
     let f = fragment_tree (content c.args.fragment.now) in
     let st = typed_view c.args.self.now in
@@ -65,4 +65,4 @@ returns-clause-view c =
 
 pub returns-clause-defined : goal.returns-clause-defined
 returns-clause-defined c h =
-    (h.0, h.1, insert-defined (schema_under c.args.schema) (λ f. f.set) (node_tree typed_fragment_tree) c.args.self.now.fragments c.insert.new.self c.in_ok-clone.field-0 c.in_ok-typed.typed c.in_ok-insert.ensures.entries c.in_ok-typed.ensures.defined h.2)
+    (h.0, h.1, insert-defined (schema_under c.args.typing.now.schema) (λ f. f.set) (node_tree typed_fragment_tree) c.args.self.now.fragments c.insert.new.self c.in_ok-clone.field-0 c.in_ok-typed.typed c.in_ok-insert.ensures.entries c.in_ok-typed.ensures.defined h.2)

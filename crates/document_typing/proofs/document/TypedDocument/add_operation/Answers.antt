@@ -18,7 +18,7 @@ use Rattle.document_typing.proofs.document.TypedDocument.add_operation.Goals as 
 
 pub returns-clause-view : goal.returns-clause-view
 returns-clause-view c =
-    let m = meanings_under c.args.schema in
+    let m = meanings_under c.args.typing.now.schema in
     let p = place c.args.operation.now in
     let o = operation_tree (content c.args.operation.now) in
     let t = c.in-Some.root.text in
@@ -37,7 +37,7 @@ returns-clause-view c =
 
 pub returns-clause-defined : goal.returns-clause-defined
 returns-clause-defined c h =
-    let s = schema_under c.args.schema in
+    let s = schema_under c.args.typing.now.schema in
     let between = c.check_name.new.self in
     operation-defined s (entries_of name_text (node_tree typed_fragment_tree) between.fragments) (node_tree typed_operation_tree c.in_ok-typed.typed) (typed_operations_tree between.operations) (typed_operations_tree c.insert.new.self)
     c.in_ok-insert.ensures.stands c.in_ok-typed.ensures.defined (subst (IsDefinedDocument s) (sym c.in_ok-is_known.ensures.kept) h)

@@ -1,0 +1,10 @@
+//! What typing is given at each level.
+use graphql_schema::Schema;
+use std::alloc::Global;
+
+/// The schema under which a document is typed, if there is one, and where memory comes from.
+#[derive(Clone, Copy)]
+pub(crate) struct Typing<'schema> {
+    pub(crate) alloc: Global,
+    pub(crate) schema: Option<&'schema Schema>,
+}

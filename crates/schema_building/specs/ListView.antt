@@ -1,0 +1,33 @@
+-- Private: leads to `specs/Building.antt`. What is added to the list of definitions that counts.
+use Rattle.std.specs.Prelude.{◌≡◌, ◌++◌, List, [], ◌∷◌, map, None, Vec}
+use Rattle.std.specs.declared.alloc.Global.{Global}
+use Rattle.graphql_names.specs.Node.{content, place}
+use Rattle.graphql_names.specs.declared.node.Node.{Node}
+use Rattle.schema_fold.specs.in_definitions.declared.definition.Definition.{Definition}
+use Rattle.schema_built_in.specs.Table.{built_in_definitions}
+use Rattle.schema_fold.specs.Listed.{Listed}
+use Rattle.schema_fold.specs.ListedView.{listed_view}
+use Rattle.schema_fold.specs.declared.listed.Listed.{Listed as Rust}
+use Rattle.schema_building.specs.Settling.{unnumbered, settled_from}
+use Rattle.schema_building.specs.SettingsView.{settings_view}
+use Rattle.schema_building.specs.TextsView.{texts_view}
+use Rattle.schema_building.specs.Waiting.{orphan_kinds}
+use Rattle.schema_building.specs.declared.settle.Settings.{Settings}
+use Rattle.schema_building.specs.declared.texts.Texts.{Texts}
+
+-- what a list has
+abbrev pub listed_in : Vec Rust Global → List Listed
+listed_in list = map listed_view list.items
+
+-- what the list had, and after it these
+abbrev pub Lists : Vec Rust Global → Vec Rust Global → List Listed → Type 0
+Lists old new more = listed_in new ≡ listed_in old ++ more
+
+-- what the list had, and after it a definition of this content and no place, which is no extension
+abbrev pub ListsUnplaced : {T : Type 0} → (Node T → Definition → Type 0) → T → Vec Rust Global → Vec Rust Global → Type 0
+ListsUnplaced {T} gives value old new = (n : Node T) × (d : Definition) × (
+    (content n ≡ value) × (place n ≡ None) × gives n d × (new.items ≡ old.items ++ record { definition = d; extension = None } ∷ []))
+
+-- what the settings make of these texts, after what is built in
+abbrev pub settled_list : Settings → Texts → List Listed
+settled_list settings texts = settled_from (settings_view settings) (texts_view texts).list (orphan_kinds texts.index) (map unnumbered built_in_definitions)
