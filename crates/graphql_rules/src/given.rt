@@ -49,6 +49,7 @@ pub fn validate_directives<D: Deref<Target = Node<Directive>> + Drop, I: IntoIte
     ensures told { OnOk result (UsesTold I.into_iter_gives I.IntoIter.next_gives D.deref_gives directives schema.entry variables.now location list.old list.new) }
     ensures begins { OnErr result (BeginsAs (diagnostics_of list.old) (diagnostics_of list.new)) }
 {
+    // The rules take a slice, so what the iterator gives is gathered, shared.
     let nodes = nodes_of(alloc, directives)?;
     let mut faults = Vec::new(alloc);
     let variables = DefinedVariables::new(alloc, variables)?;

@@ -58,6 +58,7 @@ fn keep_type(
 }
 
 /// Whether it is a built-in scalar to which nothing refers.
+// Section 3.5: a built-in scalar to which nothing in a schema refers must not be included in it.
 fn is_dropped(schema: &Schema, name: &Name, ty: &ExtendedType) -> bool
     ensures { result ≡ is_dropped (schema_tree schema.now) (name.now.text, extended_type ty.now) }
 {
@@ -70,6 +71,7 @@ fn is_dropped(schema: &Schema, name: &Name, ty: &ExtendedType) -> bool
 }
 
 /// Puts back each of the five built-in scalars (section 3.5) to which something refers and that is not there.
+// One may be missing from a schema that was made by hand, or from which an earlier call dropped it.
 fn put_back_scalars(
     alloc: Global,
     schema: &Schema,

@@ -26,6 +26,7 @@ fn is_inside(name: &str, ty: &Type) -> bool
 }
 
 /// Whether it stands inside the type of one of these arguments.
+// Loops here and below: `any` with a closure costs more to prove.
 fn is_inside_arguments(name: &str, arguments: &[Node<InputValueDefinition>]) -> bool
     ensures { result ≡ is_inside_arguments name.now (map (node_tree input_value_tree) arguments.now) }
 {

@@ -46,10 +46,12 @@ pub fn validate_schema(
     ensures unchanged { OnErr result (schema.new ≡ schema.old) }
     ensures begins { OnErr result (BeginsAs (diagnostics_of list.old) (diagnostics_of list.new)) }
 {
+    // For its contract alone: no two things of one kind have one name, which the rules take for granted.
     names_differ(schema);
     let faults = schema_faults(alloc, schema)?;
     let types = kept_types(alloc, schema)?;
     list.append_faults(faults)?;
+    // Last, as nothing fails after it: a refusal leaves the schema as it was.
     schema.types = types;
     Ok(())
 }

@@ -3,10 +3,7 @@ ghost use Rattle.std.specs.Prelude.{IfOk, OnOk};
 ghost use Rattle.document_typing.specs.DocumentView.{document_meant, operation_meant};
 ghost use Rattle.fault_data.specs.Adds.{Adds};
 ghost use Rattle.fault_data.specs.FaultView.{faults_of};
-ghost use Rattle.rule_document_definitions.specs.Reached.{AtOperation};
-ghost use Rattle.rule_document_ground.specs.NotedNames.{noted_names};
-ghost use Rattle.rule_fragments.specs.Used.{AreUnderOwnNames};
-ghost use Rattle.graphql_validation.specs.Operations.{OperationFailsAlone, ReachesNamed, NotesNames, TellsData, AllAlone};
+ghost use Rattle.graphql_validation.specs.Steps.{FindsAlone, NotesReached, FindsAllAlone, NotesAllReached, TellsAlone};
 
 use crate::found::{Found, check_fragments, note_fragments};
 use document_typed_operations::{ExecutableDocument, Operation};
@@ -24,8 +21,8 @@ fn check_operation(
     operation: &Node<Operation>,
     found: &mut Found,
 ) -> Result<(), AllocError>
-    ensures told { OnOk result (Adds found.old.faults found.new.faults (OperationFailsAlone (document_meant document.now) (operation_meant operation.now))) }
-    ensures noted { OnOk result (NotesNames (noted_names found.old.used) (noted_names found.new.used) (ReachesNamed (document_meant document.now) (operation_meant operation.now))) }
+    ensures told { OnOk result (FindsAlone (document_meant document.now) (operation_meant operation.now) found.old found.new) }
+    ensures noted { OnOk result (NotesReached (document_meant document.now) (operation_meant operation.now) found.old found.new) }
 {
     let alloc = *found.faults.allocator();
     let fragments = &document.fragments;
@@ -38,8 +35,8 @@ fn check_operation(
 
 /// Adds the faults of each operation without a schema, and notes the fragments that one of them reaches.
 fn check_operations(document: &ExecutableDocument, found: &mut Found) -> Result<(), AllocError>
-    ensures told { OnOk result (Adds found.old.faults found.new.faults (λ f. AtOperation (document_meant document.now) (λ o. OperationFailsAlone (document_meant document.now) o f))) }
-    ensures noted { OnOk result (NotesNames (noted_names found.old.used) (noted_names found.new.used) (λ n. AtOperation (document_meant document.now) (λ o. ReachesNamed (document_meant document.now) o n))) }
+    ensures told { OnOk result (FindsAllAlone (document_meant document.now) found.old found.new) }
+    ensures noted { OnOk result (NotesAllReached (document_meant document.now) found.old found.new) }
 {
     for operation in document.operations.iter() {
         check_operation(document, operation, found)?;
@@ -52,7 +49,7 @@ pub(crate) fn faults_alone(
     alloc: Global,
     document: &ExecutableDocument,
 ) -> Result<Vec<Fault>, AllocError>
-    ensures { IfOk result (λ r. AreUnderOwnNames (document_meant document.now) → TellsData (document_meant document.now) (AllAlone (document_meant document.now)) (OperationFailsAlone (document_meant document.now)) (faults_of r)) }
+    ensures { IfOk result (λ r. TellsAlone (document_meant document.now) (faults_of r)) }
 {
     let mut found = Found::new(alloc);
     check_operations(document, &mut found)?;

@@ -1,17 +1,13 @@
 //! Every rule on a document under a schema.
-ghost use Rattle.std.specs.Prelude.{◌≡◌, ◌↔◌, [], false, Contains, IsTrue, OnErr, OnOk};
-ghost use Rattle.graphql_names.specs.Placed.{Place};
+ghost use Rattle.std.specs.Prelude.{◌≡◌, ◌↔◌, [], false, IsTrue, OnErr, OnOk};
 ghost use Rattle.graphql_schema.specs.SchemaOf.{schema_tree};
-ghost use Rattle.document_meaning.specs.MeantTree.{MeantOperation};
 ghost use Rattle.document_typing.specs.DocumentView.{document_meant};
-ghost use Rattle.rule_definitions.specs.Judged.{judged};
-ghost use Rattle.rule_document_definitions.specs.Merging.{FieldsMerge};
 ghost use Rattle.rule_document_definitions.specs.Selected.{operations};
 ghost use Rattle.fault_data.specs.FaultView.{faults_of};
 ghost use Rattle.graphql_faults.specs.DetailsView.{diagnostics_of, BeginsAs};
 ghost use Rattle.rule_document_ground.specs.Broken.{brokens_of};
-ghost use Rattle.rule_merging.specs.Merged.{DocumentMergingTold};
 ghost use Rattle.graphql_validation.specs.TellsDocument.{TypedDocumentTold, SilenceMeansValid, ValidMeansSilence};
+ghost use Rattle.graphql_validation.specs.Steps.{TellsMerging, AllMerge};
 
 use crate::found::fragments_differ;
 use crate::told::append_all;
@@ -38,8 +34,8 @@ fn merge_operations(
     schema: &Schema,
     document: &ExecutableDocument,
 ) -> Result<(), AllocError>
-    ensures told { OnOk result (DocumentMergingTold (judged (schema_tree schema.now)) (document_meant document.now) (diagnostics_of list.old) (diagnostics_of list.new)) }
-    ensures merged { OnOk result (diagnostics_of list.new ≡ diagnostics_of list.old → (o : MeantOperation Place) → Contains (operations (document_meant document.now)) o → FieldsMerge (judged (schema_tree schema.now)) (document_meant document.now) o) }
+    ensures told { OnOk result (TellsMerging (schema_tree schema.now) (document_meant document.now) list.old list.new) }
+    ensures merged { OnOk result (diagnostics_of list.new ≡ diagnostics_of list.old → AllMerge (schema_tree schema.now) (document_meant document.now)) }
     ensures begins { OnErr result (BeginsAs (diagnostics_of list.old) (diagnostics_of list.new)) }
 {
     let mut merger = FieldsInSetCanMerge::new(alloc, schema, document);
@@ -64,6 +60,7 @@ pub fn validate_executable_document(
     ensures accepts { OnOk result (ValidMeansSilence (schema_tree schema.now) (document_meant document.now) (diagnostics_of list.old) (diagnostics_of list.new)) }
     ensures begins { OnErr result (BeginsAs (diagnostics_of list.old) (diagnostics_of list.new)) }
 {
+    // For its contract alone: no two fragments have one name, which the rules take for granted.
     fragments_differ(document);
     let faults = faults_under(alloc, schema, document)?;
     let breaches = document_breaches(alloc, document)?;

@@ -62,6 +62,7 @@ pub fn validate_field_set(
     ensures accepts { OnOk result (ValidSetMeansSilence (schema_tree schema.now) (set_meant field_set.now) (diagnostics_of list.old) (diagnostics_of list.new)) }
     ensures begins { OnErr result (BeginsAs (diagnostics_of list.old) (diagnostics_of list.new)) }
 {
+    // As a document of one query, so that no rule is written a second time for sets.
     let document = document_of_set(alloc, field_set)?;
     let faults = faults_under(alloc, schema, &document)?;
     let is_passed = passes_path_bound(&document);

@@ -7,8 +7,8 @@ ghost use Rattle.document_typing.specs.DocumentView.{document_meant};
 ghost use Rattle.rule_document_ground.specs.Reach.{reached_fragments_of};
 ghost use Rattle.rule_document_ground.specs.NotedNames.{noted_names};
 ghost use Rattle.fault_data.specs.FaultView.{faults_of};
-ghost use Rattle.rule_fragments.specs.Used.{AreUnderOwnNames, AreUsed};
-ghost use Rattle.graphql_validation.specs.Operations.{with_fragments, FragmentsTold};
+ghost use Rattle.graphql_validation.specs.Operations.{with_fragments};
+ghost use Rattle.graphql_validation.specs.Steps.{TellsFragments};
 
 use document_typed_operations::ExecutableDocument;
 use fault_data::Fault;
@@ -55,6 +55,7 @@ pub(crate) fn note_fragments(
 pub(crate) fn fragments_differ(document: &ExecutableDocument)
     ensures { IsDistinct bytes_eq (keys_of (document_meant document.now).fragments) }
 {
+    // The length is dropped: a map that is asked for it says by contract that its names differ.
     let _ = document.fragments.len();
 }
 
@@ -64,10 +65,11 @@ pub(crate) fn check_fragments(
     document: &ExecutableDocument,
     found: Found,
 ) -> Result<Vec<Fault>, AllocError>
-    ensures { IfOk result (λ r. AreUnderOwnNames (document_meant document.now) → AreUsed (document_meant document.now) (noted_names found.used) → FragmentsTold (document_meant document.now) (faults_of found.faults) (faults_of r)) }
+    ensures { IfOk result (λ r. TellsFragments (document_meant document.now) found (faults_of r)) }
 {
     let Found { mut faults, used } = found;
     let alloc = *faults.allocator();
+    // After all operations, as any of them may use a fragment.
     check_unused(&document.fragments, &used, &mut faults)?;
     check_cycles(alloc, &document.fragments, &used, &mut faults)?;
     Ok(faults)

@@ -31,5 +31,6 @@ pub fn tell_lasting_faults(
     keep_lasting_faults(&mut faults);
     let mut breaches = document_breaches(alloc, document)?;
     keep_lasting_breaches(&mut breaches);
+    // The bound on how deep selections nest is no rule, so it is not told.
     append_all(list, faults, breaches, false)
 }

@@ -5,6 +5,7 @@ ghost use Rattle.graphql_faults.specs.DetailsTree.{of_document};
 ghost use Rattle.graphql_faults.specs.DetailsView.{diagnostics_of, BeginsAs};
 ghost use Rattle.rule_document_ground.specs.Broken.{brokens_of};
 ghost use Rattle.graphql_validation.specs.Operations.{bound_told, all_told};
+ghost use Rattle.graphql_validation.specs.Steps.{AddsDetails};
 
 use fault_data::Fault;
 use graphql_faults::{Details, DiagnosticList};
@@ -30,7 +31,7 @@ pub(crate) fn append_all(
     breaches: Vec<Breach>,
     is_passed: bool,
 ) -> Result<(), AllocError>
-    ensures added { OnOk result (diagnostics_of list.new ≡ diagnostics_of list.old ++ map of_document (all_told (faults_of faults) (brokens_of breaches) is_passed)) }
+    ensures added { OnOk result (AddsDetails list.old list.new (all_told (faults_of faults) (brokens_of breaches) is_passed)) }
     ensures begins { OnErr result (BeginsAs (diagnostics_of list.old) (diagnostics_of list.new)) }
 {
     list.append_faults(faults)?;

@@ -1,22 +1,11 @@
 //! What is judged under a schema, operation by operation.
 ghost use Rattle.std.specs.Prelude.{IfOk, OnOk};
-ghost use Rattle.graphql_names.specs.Placed.{Place};
-ghost use Rattle.document_meaning.specs.MeantTree.{MeantDocument};
-ghost use Rattle.rule_document_definitions.specs.Reached.{AtOperation};
 ghost use Rattle.fault_data.specs.Adds.{Adds};
 ghost use Rattle.fault_data.specs.FaultView.{faults_of};
-ghost use Rattle.rule_document_ground.specs.NotedNames.{noted_names};
-ghost use Rattle.rule_document_ground.specs.Reach.{meant_fragments};
-ghost use Rattle.rule_selections.specs.Settled.{StandIn};
-ghost use Rattle.rule_fragments.specs.Used.{AreUnderOwnNames};
-ghost use Rattle.rule_fragments.specs.Possible.{ArePossibleIfFound};
 ghost use Rattle.rule_definitions.specs.Judged.{judged};
 ghost use Rattle.graphql_schema.specs.SchemaOf.{schema_tree};
-ghost use Rattle.schema_types.specs.Plain.{plain};
-ghost use Rattle.rule_selections.specs.Typed.{ReachesTyped};
 ghost use Rattle.document_typing.specs.DocumentView.{document_meant, operation_meant};
-ghost use Rattle.document_typing.specs.Meanings.{meanings};
-ghost use Rattle.graphql_validation.specs.Operations.{OperationFails, ReachesNamed, NotesNames, AreReachesTyped, TellsData, AllUnder};
+ghost use Rattle.graphql_validation.specs.Steps.{FindsUnder, NotesUnder, StayPossible, FindsAllUnder, NotesAllUnder, TellsUnder};
 
 use crate::found::{Found, check_fragments, note_fragments};
 use document_typed_operations::{ExecutableDocument, FragmentMap, Operation};
@@ -38,10 +27,11 @@ fn check_operation(
     operation: &Node<Operation>,
     found: &mut Found,
 ) -> Result<(), AllocError>
-    ensures told { OnOk result ((d : MeantDocument Place) → StandIn (schema_tree schema.now) d.fragments (meant_fragments fragments.now) → ReachesTyped (meanings (plain (schema_tree schema.now))) d (operation_meant operation.now) → ArePossibleIfFound (judged (schema_tree schema.now)) possible.old → Adds found.old.faults found.new.faults (OperationFails d (operation_meant operation.now) (schema_tree schema.now))) }
-    ensures noted { OnOk result ((d : MeantDocument Place) → StandIn (schema_tree schema.now) d.fragments (meant_fragments fragments.now) → NotesNames (noted_names found.old.used) (noted_names found.new.used) (ReachesNamed d (operation_meant operation.now))) }
-    ensures right { OnOk result (ArePossibleIfFound (judged (schema_tree schema.now)) possible.old → ArePossibleIfFound (judged (schema_tree schema.now)) possible.new) }
+    ensures told { OnOk result (FindsUnder (schema_tree schema.now) fragments.now (operation_meant operation.now) possible.old found.old found.new) }
+    ensures noted { OnOk result (NotesUnder (schema_tree schema.now) fragments.now (operation_meant operation.now) found.old found.new) }
+    ensures right { OnOk result (StayPossible (schema_tree schema.now) possible.old possible.new) }
 {
+    // From the list of faults: as a parameter it would be the sixth.
     let alloc = *found.faults.allocator();
     let reach = reach(alloc, &operation.content().selection_set, fragments)?;
     check_variables_alone(operation, &reach, &mut found.faults)?;
@@ -61,9 +51,9 @@ fn check_operations(
     fragments: &FragmentMap,
     found: &mut Found,
 ) -> Result<(), AllocError>
-    ensures told { OnOk result (StandIn (schema_tree schema.now) (document_meant document.now).fragments (meant_fragments fragments.now) → AreReachesTyped (schema_tree schema.now) (document_meant document.now) → ArePossibleIfFound (judged (schema_tree schema.now)) possible.old → Adds found.old.faults found.new.faults (λ f. AtOperation (document_meant document.now) (λ o. OperationFails (document_meant document.now) o (schema_tree schema.now) f))) }
-    ensures noted { OnOk result (StandIn (schema_tree schema.now) (document_meant document.now).fragments (meant_fragments fragments.now) → NotesNames (noted_names found.old.used) (noted_names found.new.used) (λ n. AtOperation (document_meant document.now) (λ o. ReachesNamed (document_meant document.now) o n))) }
-    ensures right { OnOk result (ArePossibleIfFound (judged (schema_tree schema.now)) possible.old → ArePossibleIfFound (judged (schema_tree schema.now)) possible.new) }
+    ensures told { OnOk result (FindsAllUnder (schema_tree schema.now) (document_meant document.now) fragments.now possible.old found.old found.new) }
+    ensures noted { OnOk result (NotesAllUnder (schema_tree schema.now) (document_meant document.now) fragments.now found.old found.new) }
+    ensures right { OnOk result (StayPossible (schema_tree schema.now) possible.old possible.new) }
 {
     for operation in document.operations.iter() {
         check_operation(schema, possible, fragments, operation, found)?;
@@ -79,7 +69,7 @@ pub(crate) fn faults_under(
     schema: &Schema,
     document: &ExecutableDocument,
 ) -> Result<Vec<Fault>, AllocError>
-    ensures { IfOk result (λ r. AreReachesTyped (schema_tree schema.now) (document_meant document.now) → AreUnderOwnNames (document_meant document.now) → TellsData (document_meant document.now) (AllUnder (schema_tree schema.now) (document_meant document.now)) (λ o. OperationFails (document_meant document.now) o (schema_tree schema.now)) (faults_of r)) }
+    ensures { IfOk result (λ r. TellsUnder (schema_tree schema.now) (document_meant document.now) (faults_of r)) }
 {
     let mut possible = None;
     let mut found = Found::new(alloc);

@@ -36,6 +36,7 @@ fn leaves_out(directive: &Node<Directive>) -> bool
 {
     let name = directive.content().name.as_str();
     let literal = literal_if(directive);
+    // What a variable will be is not known, so with one it may be left out.
     (name == "skip" && literal.unwrap_or(true)) || (name == "include" && !literal.unwrap_or(false))
 }
 
@@ -116,6 +117,7 @@ pub fn always_reached(
     push_staying(&operation.content().selection_set, &mut found)?;
     let mut entered = IndexSet::new(alloc);
     let mut passed = 0;
+    // Not `for`: the list grows while it is passed.
     'walk: while passed < found.len() {
         if let Some(set) = enter(&found[passed], fragments, &mut entered)? {
             push_staying(set, &mut found)?;

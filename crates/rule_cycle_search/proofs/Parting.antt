@@ -14,7 +14,7 @@ use Rattle.rule_cycle_search.specs.Graph.{listed, references, RefersTo, LeadsTo,
 use Rattle.rule_cycle_search.specs.Steps.{is_in, IsIn, via_at}
 use Rattle.rule_cycle_search.specs.Spread.{IsTree, Spreads}
 use Rattle.rule_cycle_search.specs.Referrers.{AreReferrers}
-use Rattle.rule_cycle_search.specs.Parts.{nowhere, IsPart, IsParted, IsWhole}
+use Rattle.rule_cycle_search.specs.Parts.{nowhere, IsPart, IsParted, IsWhole, Settles}
 use Rattle.rule_cycle_search.proofs.Sets.{in_same, via_same, in_within}
 use Rattle.rule_cycle_search.proofs.Spreading.{cases_bool}
 use Rattle.rule_cycle_search.proofs.Referring.{listed_past}
@@ -223,6 +223,10 @@ module _ (g : Graph) (r : List (Vec ℕ Global)) (are : AreReferrers g.reference
       | inl t ↦ absurd (true≢false (sym (stayed (nowhere g) (λ e. is_node (sym e)) n t) ∙ h))
       | inr f ↦ f
     ]
+
+-- the same of lists that are equal
+pub Settles-of : (g : Graph) (node : ℕ) (before : List Step) {toward toward' from from' : List Step} → toward ≡ toward' → from ≡ from' → Settles g node before toward from → Settles g node before toward' from'
+Settles-of g node before {toward} {toward'} {from} {from'} same also s = subst (λ (l : List Step). Settles g node before l from') same (subst (λ (l : List Step). Settles g node before toward l) also s)
 
 -- ---- the begin and the end
 

@@ -168,3 +168,7 @@ module _ (lists : List (Vec ℕ Global)) (area : List Step) (key c : ℕ) (old :
       | inr all ↦ all e m a
     ];
   }
+
+-- the same of lists that are equal
+pub Spreads-of : (lists : List (Vec ℕ Global)) (area area' : List Step) → area ≡ area' → (key c : ℕ) (old old' : List Step) → old ≡ old' → (new : List Step) → Spreads lists area key c old new → Spreads lists area' key c old' new
+Spreads-of lists area area' same key c old old' also new s = subst (λ (l : List Step). Spreads lists area' key c l new) also (subst (λ (l : List Step). Spreads lists l key c old new) same s)

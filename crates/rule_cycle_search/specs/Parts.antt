@@ -2,6 +2,7 @@
 use Rattle.std.specs.Prelude.{◌≡◌, ℕ, false, List, Contains, length, ◌⊎◌}
 use Rattle.rule_cycle_search.specs.declared.graph.Graph.{Graph}
 use Rattle.rule_cycle_search.specs.declared.steps.Step.{Step}
+use Rattle.rule_cycle_search.specs.declared.parts.Divided.{Divided}
 use Rattle.rule_cycle_search.specs.Graph.{references, LeadsTo}
 use Rattle.rule_cycle_search.specs.Steps.{is_in, IsIn}
 use Rattle.rule_cycle_search.specs.Spread.{IsTree}
@@ -35,3 +36,7 @@ module _ (g : Graph) where
   pub record IsWhole (toward from : List Step) : Type 0 where
     pub parted : IsParted toward from
     pub settled : (n : ℕ) → is_in from nowhere n ≡ false
+
+-- the parts are those of the graph
+abbrev pub IsDivided : Divided → Type 0
+IsDivided d = IsWhole d.graph.now d.parts.now.toward.items d.parts.now.from.items

@@ -1,5 +1,5 @@
 -- Private: leads to `CyclesBreak` and `RecursiveFragmentDefinitionAt`. The steps of nodes.
-use Rattle.std.specs.Prelude.{◌≡◌, ◌==◌, ℕ, Bool, true, false, List, slice_get, count_by, not}
+use Rattle.std.specs.Prelude.{◌≡◌, ◌==◌, ℕ, Bool, true, false, List, Option, MatchOption, Contains, slice_get, count_by, not}
 use Rattle.std.specs.Option.{option_map_or}
 use Rattle.rule_cycle_search.specs.declared.steps.Step.{Step}
 
@@ -16,3 +16,7 @@ via_at steps n = option_map_or (λ s. s.via) (slice_get steps n) n
 -- how many have none to this center
 abbrev pub left : ℕ → List Step → ℕ
 left c steps = count_by (λ s. not (s.center == c)) steps
+
+-- this is one of these nodes that has a step to this center; or none has
+abbrev pub FindsIn : List Step → ℕ → List ℕ → Option ℕ → Type 0
+FindsIn steps c nodes found = MatchOption found ((n : ℕ) → Contains nodes n → is_in steps c n ≡ false) (λ n. Contains nodes n × (is_in steps c n ≡ true))

@@ -1,44 +1,45 @@
 //! How many nodes of a kind are on the ways from a node, where these do not come back to a part.
 ghost use Rattle.std.specs.Prelude.{◌≡◌, ℕ, Bool, IfOk};
 ghost use Rattle.rule_cycle_search.specs.Graph.{is_of};
-ghost use Rattle.rule_cycle_search.specs.Parts.{IsWhole};
+ghost use Rattle.rule_cycle_search.specs.Parts.{IsDivided};
 ghost use Rattle.rule_cycle_search.specs.Depths.{HasWay, AreCounted};
 
-use crate::graph::{Graph, listed};
-use crate::parts::Parts;
+use crate::graph::listed;
+use crate::parts::Divided;
 use crate::steps::is_in;
 use std::alloc::{AllocError, Global};
 
 /// How many of a kind a way holds that goes from a node to another part; the node counts if it is of that kind.
-fn depth_of(graph: &Graph, parts: &Parts, node: usize, counts: bool, depths: &[usize]) -> usize
-    requires { IsWhole graph.now parts.now.toward.items parts.now.from.items }
-    ensures { (kind : ℕ → Bool) → kind node ≡ counts → AreCounted graph.now kind depths.now → HasWay graph.now kind node result }
+fn depth_of(divided: &Divided<'_>, node: usize, counts: bool, depths: &[usize]) -> usize
+    requires { IsDivided divided.now }
+    ensures { (kind : ℕ → Bool) → kind node ≡ counts → AreCounted divided.now.graph.now kind depths.now → HasWay divided.now.graph.now kind node result }
 {
-    let Some(step) = parts.from.get(node) else {
+    let from = &divided.parts.from;
+    let Some(step) = from.get(node) else {
         return 0;
     };
     let mut most = 0;
-    for next in listed(&graph.references, node) {
-        if *next < depths.len() && depths[*next] > most && !is_in(&parts.from, step.center, *next) {
+    for next in listed(&divided.graph.references, node) {
+        if *next < depths.len() && depths[*next] > most && !is_in(from, step.center, *next) {
             most = depths[*next];
         }
     }
-    if counts && most <= graph.bound as usize {
+    if counts && most <= divided.graph.bound as usize {
         most += 1;
     }
     most
 }
 
 /// Counts again for each node of the order, which best has what a node refers to before the node.
-fn deepen(graph: &Graph, parts: &Parts, order: &[usize], first: bool, depths: &mut [usize])
-    requires whole { IsWhole graph.now parts.now.toward.items parts.now.from.items }
-    requires counted { AreCounted graph.now (is_of graph.now first) depths.old }
-    ensures { AreCounted graph.now (is_of graph.now first) depths.new }
+fn deepen(divided: &Divided<'_>, order: &[usize], first: bool, depths: &mut [usize])
+    requires whole { IsDivided divided.now }
+    requires counted { AreCounted divided.now.graph.now (is_of divided.now.graph.now first) depths.old }
+    ensures { AreCounted divided.now.graph.now (is_of divided.now.graph.now first) depths.new }
 {
     for node in order {
         if *node < depths.len() {
-            let counts = (*node < graph.first_kind) == first;
-            depths[*node] = depth_of(graph, parts, *node, counts, depths);
+            let counts = (*node < divided.graph.first_kind) == first;
+            depths[*node] = depth_of(divided, *node, counts, depths);
         }
     }
 }
@@ -46,18 +47,17 @@ fn deepen(graph: &Graph, parts: &Parts, order: &[usize], first: bool, depths: &m
 /// For each node, how many nodes of the first kind, or of the other, a way from it holds, counted to one beyond the bound.
 pub(crate) fn find_depths(
     alloc: Global,
-    graph: &Graph,
-    parts: &Parts,
+    divided: &Divided<'_>,
     order: &[usize],
     first: bool,
 ) -> Result<Vec<usize>, AllocError>
-    requires { IsWhole graph.now parts.now.toward.items parts.now.from.items }
-    ensures { IfOk result (λ depths. AreCounted graph.now (is_of graph.now first) depths.items) }
+    requires { IsDivided divided.now }
+    ensures { IfOk result (λ depths. AreCounted divided.now.graph.now (is_of divided.now.graph.now first) depths.items) }
 {
     let mut depths = Vec::new(alloc);
-    for _ in &graph.references {
+    for _ in &divided.graph.references {
         depths.push(0)?;
     }
-    deepen(graph, parts, order, first, &mut depths);
+    deepen(divided, order, first, &mut depths);
     Ok(depths)
 }

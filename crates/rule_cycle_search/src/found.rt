@@ -1,15 +1,15 @@
 //! What is found of the roots.
-ghost use Rattle.std.specs.Prelude.{◌≡◌, ◌<◌, ℕ, true, false, Contains, MatchOption, IfOk, slice_get, Some};
+ghost use Rattle.std.specs.Prelude.{◌≡◌, ◌<◌, ℕ, true, false, Contains, IfOk, slice_get, Some};
 ghost use Rattle.rule_cycle_search.specs.Graph.{references, AreTooMany, IsDeep};
-ghost use Rattle.rule_cycle_search.specs.Steps.{is_in};
+ghost use Rattle.rule_cycle_search.specs.Steps.{is_in, FindsIn};
 ghost use Rattle.rule_cycle_search.specs.Referrers.{AreReferrers};
-ghost use Rattle.rule_cycle_search.specs.Parts.{IsWhole};
+ghost use Rattle.rule_cycle_search.specs.Parts.{IsDivided};
 ghost use Rattle.rule_cycle_search.specs.Found.{Finds, AreFound};
 
 use crate::depths::find_depths;
 use crate::graph::{Graph, listed};
 use crate::order::finishing_order;
-use crate::parts::{Parts, find_parts};
+use crate::parts::{Divided, find_parts};
 use crate::referrers::referrers;
 use crate::steps::{Step, is_in};
 use crate::ways::{follow, join};
@@ -42,7 +42,7 @@ fn is_long(graph: &Graph, way: &[usize]) -> bool
 
 /// The first of these nodes that is in the part of this center.
 fn first_in(steps: &[Step], center: usize, nodes: &[usize]) -> Option<usize>
-    ensures { MatchOption result ((n : ℕ) → Contains nodes.now n → is_in steps.now center n ≡ false) (λ n. Contains nodes.now n × (is_in steps.now center n ≡ true)) }
+    ensures { FindsIn steps.now center nodes.now result }
 {
     for node in nodes {
         if is_in(steps, center, *node) {
@@ -55,18 +55,19 @@ fn first_in(steps: &[Step], center: usize, nodes: &[usize]) -> Option<usize>
 /// The way round from a root over one that refers to it, where both are in the part of this center.
 fn way_round(
     alloc: Global,
-    graph: &Graph,
-    parts: &Parts,
+    divided: &Divided<'_>,
     center: usize,
     root: usize,
     last: usize,
 ) -> Result<Found, AllocError>
-    requires whole { IsWhole graph.now parts.now.toward.items parts.now.from.items }
-    requires root_in { is_in parts.now.from.items center root ≡ true }
-    requires last_in { is_in parts.now.from.items center last ≡ true }
-    requires refers { Contains (references graph.now last) root }
-    ensures { IfOk result (λ found. Finds graph.now root found) }
+    requires whole { IsDivided divided.now }
+    requires root_in { is_in divided.now.parts.now.from.items center root ≡ true }
+    requires last_in { is_in divided.now.parts.now.from.items center last ≡ true }
+    requires refers { Contains (references divided.now.graph.now last) root }
+    ensures { IfOk result (λ found. Finds divided.now.graph.now root found) }
 {
+    let graph = divided.graph;
+    let parts = divided.parts;
     let Some(mut ahead) = follow(alloc, &parts.toward, root, &[center], graph.bound)? else {
         return Ok(Found::Deep);
     };
@@ -85,24 +86,24 @@ fn way_round(
 /// other path from it may be too long.
 fn look_back(
     alloc: Global,
-    graph: &Graph,
+    divided: &Divided<'_>,
     referrers: &[Vec<usize>],
-    parts: &Parts,
     root: usize,
     is_deep: bool,
 ) -> Result<Found, AllocError>
-    requires referrers { AreReferrers graph.now.references.items referrers.now }
-    requires whole { IsWhole graph.now parts.now.toward.items parts.now.from.items }
-    requires deep { is_deep ≡ true → IsDeep graph.now root }
-    ensures { IfOk result (λ found. Finds graph.now root found) }
+    requires referrers { AreReferrers divided.now.graph.now.references.items referrers.now }
+    requires whole { IsDivided divided.now }
+    requires deep { is_deep ≡ true → IsDeep divided.now.graph.now root }
+    ensures { IfOk result (λ found. Finds divided.now.graph.now root found) }
 {
-    let Some(step) = parts.from.get(root) else {
+    let from = &divided.parts.from;
+    let Some(step) = from.get(root) else {
         return Ok(Found::Nothing);
     };
-    match first_in(&parts.from, step.center, listed(referrers, root)) {
+    match first_in(from, step.center, listed(referrers, root)) {
         None if is_deep => Ok(Found::Deep),
         None => Ok(Found::Nothing),
-        Some(last) => way_round(alloc, graph, parts, step.center, root, last),
+        Some(last) => way_round(alloc, divided, step.center, root, last),
     }
 }
 
@@ -125,13 +126,17 @@ pub fn ways_back(alloc: Global, graph: &Graph) -> Result<Vec<Found>, AllocError>
     let referrers = referrers(alloc, &graph.references)?;
     let order = finishing_order(alloc, &graph.references)?;
     let parts = find_parts(alloc, graph, &referrers, &order)?;
-    let firsts = find_depths(alloc, graph, &parts, &order, true)?;
-    let others = find_depths(alloc, graph, &parts, &order, false)?;
+    let divided = Divided {
+        graph,
+        parts: &parts,
+    };
+    let firsts = find_depths(alloc, &divided, &order, true)?;
+    let others = find_depths(alloc, &divided, &order, false)?;
     let mut all = Vec::new(alloc);
     for root in 0..graph.roots {
         let is_deep = is_beyond(&firsts, root, graph.bound)
             || is_beyond(&others, root, graph.bound);
-        let found = look_back(alloc, graph, &referrers, &parts, root, is_deep)?;
+        let found = look_back(alloc, &divided, &referrers, root, is_deep)?;
         all.push(found)?;
     }
     Ok(all)

@@ -4,7 +4,7 @@ ghost use Rattle.rule_cycle_search.specs.Referrers.{AreReferrers};
 ghost use Rattle.rule_cycle_search.specs.Parts.{IsParted, IsWhole, Settles};
 
 use crate::graph::Graph;
-use crate::spread::spread;
+use crate::spread::{Area, spread};
 use crate::steps::{Step, is_in};
 use std::alloc::{AllocError, Global};
 
@@ -15,25 +15,39 @@ pub(crate) struct Parts {
     pub(crate) from: Vec<Step>,
 }
 
+/// A graph, and the parts into which it is divided.
+#[derive(Clone, Copy)]
+pub(crate) struct Divided<'a> {
+    pub(crate) graph: &'a Graph,
+    pub(crate) parts: &'a Parts,
+}
+
 /// Finds the part of a node, if it is in none as yet: all that leads to the node, and to which that leads.
 fn settle(
     alloc: Global,
     graph: &Graph,
     referrers: &[Vec<usize>],
     node: usize,
-    toward: &mut [Step],
-    from: &mut [Step],
+    parts: &mut Parts,
 ) -> Result<(), AllocError>
     requires referrers { AreReferrers graph.now.references.items referrers.now }
-    requires parted { IsParted graph.now toward.old from.old }
-    ensures { OnOk result (Settles graph.now node from.old toward.new from.new) }
+    requires parted { IsParted graph.now parts.old.toward.items parts.old.from.items }
+    ensures { OnOk result (Settles graph.now node parts.old.from.items parts.new.toward.items parts.new.from.items) }
 {
     let unsettled = graph.references.len();
-    if !is_in(from, unsettled, node) {
+    if !is_in(&parts.from, unsettled, node) {
         return Ok(());
     }
-    spread(alloc, referrers, from, unsettled, node, toward)?;
-    spread(alloc, &graph.references, toward, node, node, from)
+    let left = Area {
+        steps: &parts.from,
+        key: unsettled,
+    };
+    spread(alloc, referrers, &left, node, &mut parts.toward)?;
+    let leading = Area {
+        steps: &parts.toward,
+        key: node,
+    };
+    spread(alloc, &graph.references, &leading, node, &mut parts.from)
 }
 
 /// No step is known as yet.
@@ -62,13 +76,14 @@ pub(crate) fn find_parts(
     ensures { IfOk result (λ parts. IsWhole graph.now parts.toward.items parts.from.items) }
 {
     let nodes = graph.references.len();
-    let mut toward = no_steps(alloc, nodes)?;
-    let mut from = no_steps(alloc, nodes)?;
+    let toward = no_steps(alloc, nodes)?;
+    let from = no_steps(alloc, nodes)?;
+    let mut parts = Parts { toward, from };
     for node in order.iter().rev() {
-        settle(alloc, graph, referrers, *node, &mut toward, &mut from)?;
+        settle(alloc, graph, referrers, *node, &mut parts)?;
     }
     for node in 0..nodes {
-        settle(alloc, graph, referrers, node, &mut toward, &mut from)?;
+        settle(alloc, graph, referrers, node, &mut parts)?;
     }
-    Ok(Parts { toward, from })
+    Ok(parts)
 }

@@ -8,42 +8,45 @@ use crate::graph::listed;
 use crate::steps::{Step, is_in};
 use std::alloc::{AllocError, Global};
 
-/// Goes from one node to those listed there in the area that were not reached.
+/// The nodes through which a search goes: those whose step among these is one to the key.
+#[derive(Clone, Copy)]
+pub(crate) struct Area<'a> {
+    pub(crate) steps: &'a [Step],
+    pub(crate) key: usize,
+}
+
+/// Goes to those listed in the area that have no step to the center as yet, and gives each this one.
 fn reach(
     targets: &[usize],
-    area: &[Step],
-    key: usize,
-    center: usize,
-    node: usize,
+    area: &Area<'_>,
+    step: Step,
     steps: &mut [Step],
     reached: &mut Vec<usize>,
 ) -> Result<(), AllocError>
-    requires { length area.now ≡ length steps.old }
-    ensures { OnOk result (Reaches area.now key center node targets.now steps.old steps.new reached.old.items reached.new.items) }
+    requires { length area.now.steps.now ≡ length steps.old }
+    ensures { OnOk result (Reaches area.now.steps.now area.now.key step.center step.via targets.now steps.old steps.new reached.old.items reached.new.items) }
 {
     for next in targets {
-        if is_in(area, key, *next) && !is_in(steps, center, *next) {
-            steps[*next] = Step { center, via: node };
+        if is_in(area.steps, area.key, *next) && !is_in(steps, step.center, *next) {
+            steps[*next] = step;
             reached.push(*next)?;
         }
     }
     Ok(())
 }
 
-/// Gives all nodes to which these lists lead from the center, through nodes of the area, a step back to it. In the area are
-/// those whose step among `area` is one to `key`.
+/// Gives all nodes to which these lists lead from the center, through nodes of the area, a step back to it.
 pub(crate) fn spread(
     alloc: Global,
     lists: &[Vec<usize>],
-    area: &[Step],
-    key: usize,
+    area: &Area<'_>,
     center: usize,
     steps: &mut [Step],
 ) -> Result<(), AllocError>
     requires within { center < length steps.old }
-    requires same { length area.now ≡ length steps.old }
+    requires same { length area.now.steps.now ≡ length steps.old }
     requires fresh { (n : ℕ) → is_in steps.old center n ≡ false }
-    ensures { OnOk result (Spreads lists.now area.now key center steps.old steps.new) }
+    ensures { OnOk result (Spreads lists.now area.now.steps.now area.now.key center steps.old steps.new) }
 {
     steps[center] = Step {
         center,
@@ -54,15 +57,8 @@ pub(crate) fn spread(
     let mut at = 0;
     while at < reached.len() {
         let node = reached[at];
-        reach(
-            listed(lists, node),
-            area,
-            key,
-            center,
-            node,
-            steps,
-            &mut reached,
-        )?;
+        let step = Step { center, via: node };
+        reach(listed(lists, node), area, step, steps, &mut reached)?;
         at += 1;
     }
     Ok(())

@@ -7,9 +7,7 @@ use Rattle.schema_types.specs.SchemaTree.{SchemaTree}
 use Rattle.fault_data.specs.in_rule_definitions.Diagnostics.{Diagnostic, RecursiveDirectiveDefinition, DeeplyNestedType}
 use Rattle.fault_data.specs.in_rule_definitions.Faults.{wrong}
 use Rattle.fault_data.specs.in_rule_definitions.Told.{PlacedFault}
-use Rattle.rule_cycle_search.specs.declared.found.Found.{Found}
 use Rattle.rule_cycles.specs.Labels.{labels}
-use Rattle.rule_cycles.specs.Telling.{TellsFound}
 use Rattle.rule_cycles.specs.UseNumbers.{Use, uses_at}
 
 -- the directives among these
@@ -41,7 +39,3 @@ module _ (s : SchemaTree Place) where
 
   abbrev pub TellsDeepDirective : ℕ → List PlacedFault → Type 0
   TellsDeepDirective root l = AtHead (slice_get s.directives root) deep_directive l
-
-  -- the same of what was found of the root
-  abbrev pub TellsFoundDirective : ℕ → Found → List PlacedFault → Type 0
-  TellsFoundDirective root found l = TellsFound TellsDirective TellsDeepDirective root found l

@@ -6,10 +6,8 @@ use Rattle.tree_directives.specs.DirectiveTree.{InputValueTree, unplaced_input_v
 use Rattle.schema_types.specs.SchemaTree.{SchemaTree}
 use Rattle.fault_data.specs.in_rule_definitions.Diagnostics.{RecursiveInputObjectDefinition, DeeplyNestedType}
 use Rattle.fault_data.specs.in_rule_definitions.Faults.{wrong}
-use Rattle.rule_cycle_search.specs.declared.found.Found.{Found}
 use Rattle.rule_cycles.specs.Labels.{Labelled, labels}
 use Rattle.rule_cycles.specs.Numbers.{Field, at_number, input_references}
-use Rattle.rule_cycles.specs.Telling.{TellsFound}
 use Rattle.fault_data.specs.in_rule_definitions.Told.{PlacedFault}
 
 module _ (s : SchemaTree Place) where
@@ -35,7 +33,3 @@ module _ (s : SchemaTree Place) where
 
   abbrev pub TellsDeepInput : ℕ → List PlacedFault → Type 0
   TellsDeepInput root l = l ≡ deeply_nested_input_object root
-
-  -- the same of what was found of the root
-  abbrev pub TellsFoundInput : ℕ → Found → List PlacedFault → Type 0
-  TellsFoundInput root found l = TellsFound TellsInput TellsDeepInput root found l

@@ -1,6 +1,8 @@
 pub mod Labels
 pub mod References
 pub mod Telling
+pub mod Trees
+pub mod Adds
 pub mod Numbers
 pub mod ReferenceViews
 pub mod Told

@@ -7,6 +7,7 @@ ghost use Rattle.rule_cycles.specs.Told.{CyclesTold};
 
 use crate::check_directives::check_directive_cycles;
 use crate::check_inputs::check_input_cycles;
+use crate::judging::Judging;
 use fault_data::Fault;
 use graphql_schema::Schema;
 use std::alloc::{AllocError, Global};
@@ -21,6 +22,7 @@ pub fn check_cycles(
     requires { AreAllDistinct (schema_tree schema.now) }
     ensures { OnOk result (CyclesTold (schema_tree schema.now) (faults_of faults.old) (faults_of faults.new)) }
 {
-    check_input_cycles(alloc, schema, faults)?;
-    check_directive_cycles(alloc, schema, faults)
+    let judging = Judging { alloc, schema };
+    check_input_cycles(&judging, faults)?;
+    check_directive_cycles(&judging, faults)
 }

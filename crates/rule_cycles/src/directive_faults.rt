@@ -1,19 +1,19 @@
 //! The faults of directives that reach themselves (section 3.13).
-ghost use Rattle.std.specs.Prelude.{◌≡◌, map, reverse, IfOk, OnOk, option_to_list};
+ghost use Rattle.std.specs.Prelude.{◌≡◌, map, reverse, IfOk, OnOk};
 ghost use Rattle.graphql_names.specs.Placed.{node_tree};
 ghost use Rattle.graphql_names.specs.Places.{Recomposes};
 ghost use Rattle.tree_directives.specs.DirectiveTree.{directive_tree, directive_definition_tree};
-ghost use Rattle.graphql_schema.specs.SchemaOf.{schema_tree};
-ghost use Rattle.fault_data.specs.FaultView.{fault_of};
+ghost use Rattle.rule_cycles.specs.Trees.{schema_of};
+ghost use Rattle.rule_cycles.specs.Adds.{AddsSuch};
 ghost use Rattle.rule_cycles.specs.Labels.{along};
 ghost use Rattle.rule_cycles.specs.UseViews.{use_between, AddsDirective};
 ghost use Rattle.rule_cycles.specs.UseGraph.{AreUseReferences};
 ghost use Rattle.rule_cycles.specs.DirectiveFaults.{directives_of, TellsDirective, TellsDeepDirective};
 
+use crate::judging::Judging;
 use crate::uses::UseReferences;
-use fault_data::{DiagnosticData, Fault};
+use fault_data::{DiagnosticData, Fault, tell};
 use graphql_names::{Node, SourceSpan};
-use graphql_schema::Schema;
 use std::alloc::{AllocError, Global};
 use tree_directives::{Directive, DirectiveDefinition};
 
@@ -62,26 +62,29 @@ fn use_trace(
 }
 
 /// RecursiveDirectiveDefinition: a directive definition is valid only if it does not lead back to itself (section 3.13).
-/// That of the number does.
+/// That of the number does, along the path.
 pub(crate) fn recursive_directive_definition(
-    alloc: Global,
-    schema: &Schema,
+    judging: &Judging<'_>,
     references: &UseReferences,
     root: usize,
     path: &[usize],
-) -> Result<Option<Fault>, AllocError>
-    requires { AreUseReferences (schema_tree schema.now) references.now }
-    ensures { IfOk result (λ r. TellsDirective (schema_tree schema.now) root path.now (map fault_of (option_to_list r))) }
+    faults: &mut Vec<Fault>,
+) -> Result<(), AllocError>
+    requires { AreUseReferences (schema_of judging.now) references.now }
+    ensures { OnOk result (AddsSuch faults.old faults.new (TellsDirective (schema_of judging.now) root path.now)) }
 {
-    match schema.directive_definitions.get_index(root) {
-        None => Ok(None),
+    match judging.schema.directive_definitions.get_index(root) {
+        None => Ok(()),
         Some((name, definition)) => {
-            let trace = use_trace(alloc, references, root, path)?;
+            let trace = use_trace(judging.alloc, references, root, path)?;
             let name = name.clone()?;
-            Ok(Some(Fault {
-                location: head(definition),
-                data: DiagnosticData::RecursiveDirectiveDefinition { name, trace },
-            }))
+            tell(
+                faults,
+                Some(Fault {
+                    location: head(definition),
+                    data: DiagnosticData::RecursiveDirectiveDefinition { name, trace },
+                }),
+            )
         }
     }
 }
@@ -89,22 +92,26 @@ pub(crate) fn recursive_directive_definition(
 /// DeeplyNestedType: a directive definition is valid only if no path from it holds more than 32 directives or more than 32
 /// types. A path from that of the number does.
 pub(crate) fn deeply_nested_directive(
-    schema: &Schema,
+    judging: &Judging<'_>,
     root: usize,
-) -> Result<Option<Fault>, AllocError>
-    ensures { IfOk result (λ r. TellsDeepDirective (schema_tree schema.now) root (map fault_of (option_to_list r))) }
+    faults: &mut Vec<Fault>,
+) -> Result<(), AllocError>
+    ensures { OnOk result (AddsSuch faults.old faults.new (TellsDeepDirective (schema_of judging.now) root)) }
 {
-    match schema.directive_definitions.get_index(root) {
-        None => Ok(None),
+    match judging.schema.directive_definitions.get_index(root) {
+        None => Ok(()),
         Some((name, definition)) => {
             let name = name.clone()?;
-            Ok(Some(Fault {
-                location: head(definition),
-                data: DiagnosticData::DeeplyNestedType {
-                    name,
-                    describe_type: "directive",
-                },
-            }))
+            tell(
+                faults,
+                Some(Fault {
+                    location: head(definition),
+                    data: DiagnosticData::DeeplyNestedType {
+                        name,
+                        describe_type: "directive",
+                    },
+                }),
+            )
         }
     }
 }

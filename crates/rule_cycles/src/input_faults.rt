@@ -1,18 +1,18 @@
 //! The faults of input objects that lead back to themselves (section 3.10).
-ghost use Rattle.std.specs.Prelude.{◌≡◌, map, reverse, IfOk, OnOk, option_to_list};
+ghost use Rattle.std.specs.Prelude.{◌≡◌, map, reverse, IfOk, OnOk};
 ghost use Rattle.graphql_names.specs.Placed.{node_tree};
 ghost use Rattle.tree_directives.specs.DirectiveTree.{input_value_tree};
-ghost use Rattle.graphql_schema.specs.SchemaOf.{schema_tree};
-ghost use Rattle.fault_data.specs.FaultView.{fault_of};
+ghost use Rattle.rule_cycles.specs.Trees.{schema_of};
+ghost use Rattle.rule_cycles.specs.Adds.{AddsSuch};
 ghost use Rattle.rule_cycles.specs.Labels.{along};
 ghost use Rattle.rule_cycles.specs.ReferenceViews.{field_between, AddsField};
 ghost use Rattle.rule_cycles.specs.InputGraph.{AreInputReferences};
-ghost use Rattle.rule_cycles.specs.FaultLists.{recursive_input_object_definition, deeply_nested_input_object};
+ghost use Rattle.rule_cycles.specs.FaultLists.{TellsInput, TellsDeepInput};
 
 use crate::inputs::InputReferences;
-use fault_data::{DiagnosticData, Fault};
+use crate::judging::Judging;
+use fault_data::{DiagnosticData, Fault, tell};
 use graphql_names::Node;
-use graphql_schema::Schema;
 use std::alloc::{AllocError, Global};
 use tree_directives::InputValueDefinition;
 
@@ -54,26 +54,29 @@ fn input_trace(
 }
 
 /// RecursiveInputObjectDefinition: an input object type is valid only if no fields of type `Name!` lead from it back to it
-/// (section 3.10). Such fields lead from that of the number back to it.
+/// (section 3.10). Such fields lead from that of the number back to it, along the path.
 pub(crate) fn recursive_input_object_definition(
-    alloc: Global,
-    schema: &Schema,
+    judging: &Judging<'_>,
     references: &InputReferences,
     root: usize,
     path: &[usize],
-) -> Result<Option<Fault>, AllocError>
-    requires { AreInputReferences (schema_tree schema.now) references.now }
-    ensures { IfOk result (λ r. map fault_of (option_to_list r) ≡ recursive_input_object_definition (schema_tree schema.now) root path.now) }
+    faults: &mut Vec<Fault>,
+) -> Result<(), AllocError>
+    requires { AreInputReferences (schema_of judging.now) references.now }
+    ensures { OnOk result (AddsSuch faults.old faults.new (TellsInput (schema_of judging.now) root path.now)) }
 {
-    match schema.types.get_index(root) {
-        None => Ok(None),
+    match judging.schema.types.get_index(root) {
+        None => Ok(()),
         Some((name, ty)) => {
-            let trace = input_trace(alloc, references, root, path)?;
+            let trace = input_trace(judging.alloc, references, root, path)?;
             let name = name.clone()?;
-            Ok(Some(Fault {
-                location: ty.location(),
-                data: DiagnosticData::RecursiveInputObjectDefinition { name, trace },
-            }))
+            tell(
+                faults,
+                Some(Fault {
+                    location: ty.location(),
+                    data: DiagnosticData::RecursiveInputObjectDefinition { name, trace },
+                }),
+            )
         }
     }
 }
@@ -81,22 +84,26 @@ pub(crate) fn recursive_input_object_definition(
 /// DeeplyNestedType: an input object type is valid only if no path from it through fields of type `Name!` holds more than
 /// 32 input objects. A path from that of the number does.
 pub(crate) fn deeply_nested_input_object(
-    schema: &Schema,
+    judging: &Judging<'_>,
     root: usize,
-) -> Result<Option<Fault>, AllocError>
-    ensures { IfOk result (λ r. map fault_of (option_to_list r) ≡ deeply_nested_input_object (schema_tree schema.now) root) }
+    faults: &mut Vec<Fault>,
+) -> Result<(), AllocError>
+    ensures { OnOk result (AddsSuch faults.old faults.new (TellsDeepInput (schema_of judging.now) root)) }
 {
-    match schema.types.get_index(root) {
-        None => Ok(None),
+    match judging.schema.types.get_index(root) {
+        None => Ok(()),
         Some((name, ty)) => {
             let name = name.clone()?;
-            Ok(Some(Fault {
-                location: ty.location(),
-                data: DiagnosticData::DeeplyNestedType {
-                    name,
-                    describe_type: "input object",
-                },
-            }))
+            tell(
+                faults,
+                Some(Fault {
+                    location: ty.location(),
+                    data: DiagnosticData::DeeplyNestedType {
+                        name,
+                        describe_type: "input object",
+                    },
+                }),
+            )
         }
     }
 }

@@ -17,6 +17,7 @@ mod check_inputs;
 mod directive_faults;
 mod input_faults;
 mod inputs;
+mod judging;
 mod numbers;
 mod references;
 mod uses;

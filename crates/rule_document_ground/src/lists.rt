@@ -12,6 +12,7 @@ pub struct Reach<'doc> {
     pub fragments: Vec<&'doc Node<Fragment>>,
 }
 
+// Not derived: a derived drop is proved again in each crate that drops one.
 impl Drop for Reach<'_> {
     fn drop(self) {
         let Reach {

@@ -27,6 +27,7 @@ pub fn reach<'doc>(
 ) -> Result<Reach<'doc>, AllocError>
     ensures { IfOk result (λ r. (d : MeantDocument Place) (holder : Position) → d.fragments ≡ meant_fragments fragments.now → IsReach d (standing_in holder (meant_of_set (typed_set_tree start.now))) (reached_members r) (reached_fragments_of r)) }
 {
+    // The set is walked twice: one loop would own both lists.
     let selections = reached_selections(alloc, start, fragments)?;
     let fragments = spread_fragments(alloc, start, fragments)?;
     Ok(Reach {
@@ -72,6 +73,7 @@ fn fragments_named<'doc>(
 {
     let mut named = Vec::new(alloc);
     for name in names.as_slice() {
+        // Each has one, as only names of fragments were gathered: it need not be known here.
         if let Some(fragment) = fragments.get(*name) {
             named.push(fragment)?;
         }

@@ -1,6 +1,6 @@
 -- What is told of a group, field by field; how often shapes are compared for it.
 use Rattle.std.proofs.Common.{◌≡◌, ◌++◌, ◌∙◌, ◌≤◌, ◌<◌, ◌+◌, ℕ, List, [], ◌∷◌, map, take, drop, length, get_or, min, Vec, Global, Option, None, Some, Contains, refl, sym, ap, subst, length-append, append-nil, append_assoc, inl, inr, arith}
-use Rattle.std.specs.Prelude.{option_to_list}
+use Rattle.std.specs.Prelude.{option_to_list, MatchOption}
 use Rattle.std.specs.List.{AllByRecursion}
 use Rattle.std.proofs.lemmas.List.{map-append, take_more, take_all, take-append-drop}
 use Rattle.std.proofs.lemmas.List.Elements.{Contains-append_left, Contains-append_right, Contains-append_cases, Contains-get_or}
@@ -14,12 +14,12 @@ use Rattle.rule_document_definitions.specs.Groups.{AgreeWithHead}
 use Rattle.rule_document_definitions.proofs.Equivalences.{shape_sym, shape_trans, selection_sym, selection_trans}
 use Rattle.rule_document_definitions.proofs.Unplaced.{contains_map, contains_unmap}
 use Rattle.rule_same_values.proofs.Equivalences.{arguments_refl}
-use Rattle.rule_document_ground.specs.Broken.{broken_of, brokens_of}
+use Rattle.rule_document_ground.specs.Broken.{brokens_of}
 use Rattle.rule_document_ground.specs.Fields.{field_of, fields_of}
 use Rattle.rule_document_ground.specs.declared.field_selection.FieldSelection.{FieldSelection}
 use Rattle.rule_field_groups.specs.declared.pass.Pass.{Pass}
 use Rattle.rule_field_groups.specs.declared.pass.Pass.TheVariants.{Shapes, Selections}
-use Rattle.rule_field_groups.specs.Passes.{Agree, Conflict, Compares, TellsGroup, AddsGroup, TellsEach, AddsEach}
+use Rattle.rule_field_groups.specs.Passes.{Agree, Conflict, AddsTwo, TellsGroup, AddsGroup, TellsEach, AddsEach}
 use Rattle.rule_field_groups.specs.declared.groups.OwnFields.{OwnFields}
 use Rattle.rule_field_groups.specs.KeyGroups.{with_own}
 use Rattle.rule_field_groups.proofs.Counts.{front_with}
@@ -55,18 +55,18 @@ module _ (pass : Pass) (s : Judged) (group : List (StandingField Place)) (first 
   none_taken : SoFar pass s group first [] []
   none_taken = record { right = λ fault c. absurd (not_in_nil fault c); agree = λ e. tt }
 
-  one_more : Contains group first → (taken : List (StandingField Place)) (added : List (Broken Place)) (g : StandingField Place) (told : Option (Place × BuildError)) → Contains group g
-      → SoFar pass s group first taken added → Compares pass s first g told → SoFar pass s group first (taken ++ g ∷ []) (added ++ map broken_of (option_to_list told))
+  one_more : Contains group first → (taken : List (StandingField Place)) (added : List (Broken Place)) (g : StandingField Place) (told : Option (Broken Place)) → Contains group g
+      → SoFar pass s group first taken added → MatchOption told (Agree pass s first g) (λ b. Conflict pass s b first g) → SoFar pass s group first (taken ++ g ∷ []) (added ++ option_to_list told)
   one_more here taken added g None there so_far agrees = record {
     right = λ fault c. so_far.right fault (subst (λ l. Contains l fault) (append-nil added) c);
     agree = λ e. all_more (Agree pass s first) taken g (so_far.agree (left_empty added [] e)) agrees;
   }
   one_more here taken added g (Some b) there so_far conflict = record {
-    right = λ fault c. elim (Contains-append_cases added (broken_of b ∷ []) fault c) [
+    right = λ fault c. elim (Contains-append_cases added (b ∷ []) fault c) [
       | inl a ↦ so_far.right fault a
-      | inr r ↦ (first, (g, (here, (there, subst (λ t. Conflict pass s t first g) (sym (only (broken_of b) fault r)) conflict))))
+      | inr r ↦ (first, (g, (here, (there, subst (λ t. Conflict pass s t first g) (sym (only b fault r)) conflict))))
     ];
-    agree = λ e. let no : broken_of b ∷ [] ≡ [] = right_empty added (broken_of b ∷ []) e in cc;
+    agree = λ e. let no : b ∷ [] ≡ [] = right_empty added (b ∷ []) e in cc;
   }
 
   all_taken : (rest : List (StandingField Place)) → group ≡ first ∷ rest → (added : List (Broken Place)) → SoFar pass s group first rest added → TellsGroup pass s group added
@@ -108,11 +108,10 @@ module _ (pass : Pass) (s : Judged) (group : List FieldSelection) where
     pub begun : (breaches : Breaches) → Taken pass s group first (take 0 others) breaches breaches
     begun breaches = ([], (sym (append-nil (brokens_of breaches)), none_taken pass s (fields_of group) (field_of first)))
 
-    pub compared_more : (k : ℕ) (x : FieldSelection) → k < length others → x ≡ get_or others k x → (told : Option (Place × BuildError)) → Compares pass s (field_of first) (field_of x) told
-        → (old now new : Breaches) → brokens_of new ≡ brokens_of now ++ map broken_of (option_to_list told) → Taken pass s group first (take k others) old now
-        → Taken pass s group first (take (k + 1) others) old new
-    compared_more k x h e told compares old now new adds so_far =
-        let more = map broken_of (option_to_list told) in
+    pub compared_more : (k : ℕ) (x : FieldSelection) → k < length others → x ≡ get_or others k x → (old now new : Breaches) → AddsTwo pass s (field_of first) (field_of x) now new
+        → Taken pass s group first (take k others) old now → Taken pass s group first (take (k + 1) others) old new
+    compared_more k x h e old now new (told, (adds, compares)) so_far =
+        let more = option_to_list told in
         let longer : fields_of (take k others) ++ field_of x ∷ [] ≡ fields_of (take (k + 1) others) =
         sym (ap fields_of (take_more others k x h) ∙ map-append field_of (take k others) (get_or others k x ∷ []) ∙ ap (λ y. fields_of (take k others) ++ field_of y ∷ []) (sym e)) in (
           so_far.0 ++ more,

@@ -9,5 +9,6 @@ pub mod Under
 pub mod Own
 pub mod Laws
 pub mod Paired
+pub mod Conflicts
 -- For the layer above.
 pub use Rattle.rule_document_ground.specs as in_ground

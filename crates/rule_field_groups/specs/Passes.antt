@@ -1,6 +1,6 @@
 -- Private: leads to `Merging.antt` of the rules' definitions.
 -- The two passes over the lists: which fields go together, when two agree, and what is told of two that do not.
-use Rattle.std.specs.Prelude.{◌≡◌, ◌++◌, ℕ, List, [], Vec, Option, MatchOption, Contains, ◌⊎◌}
+use Rattle.std.specs.Prelude.{◌≡◌, ◌++◌, ℕ, List, [], Vec, Option, MatchOption, option_to_list, Contains, ◌⊎◌}
 use Rattle.std.specs.declared.alloc.Global.{Global}
 use Rattle.graphql_names.specs.Placed.{Place}
 use Rattle.schema_coordinates.specs.Coordinate.{Coordinate, OfAttribute, OfArgument}
@@ -11,7 +11,7 @@ use Rattle.rule_document_definitions.specs.DocumentFaults.{Broken, broken}
 use Rattle.rule_document_definitions.specs.Selected.{StandingField, field_name, response_key}
 use Rattle.rule_document_definitions.specs.Groups.{AgreeWithHead}
 use Rattle.rule_document_definitions.specs.Merging.{SameKey, MayShare, SameShape, SameName, SameArgument, SameNameAndArguments, telling, telling_argument}
-use Rattle.rule_document_ground.specs.Broken.{broken_of, brokens_of}
+use Rattle.rule_document_ground.specs.Broken.{brokens_of}
 use Rattle.rule_field_groups.specs.declared.pass.Pass.{Pass}
 use Rattle.rule_field_groups.specs.declared.pass.Pass.TheVariants.{Shapes, Selections}
 
@@ -61,9 +61,13 @@ module _ {P : Type 0} where
   Conflict Shapes s fault f g = TypesConflict s fault f g
   Conflict Selections s fault f g = SelectionsConflict fault f g
 
--- two fields agree, or this tells what they do not agree in
-abbrev pub Compares : Pass → Judged → StandingField Place → StandingField Place → Option (Place × BuildError) → Type 0
-Compares pass s f g told = MatchOption told (Agree pass s f g) (λ b. Conflict pass s (broken_of b) f g)
+-- the breaches that were there, as they stood, and behind them what tells of a conflict, if there is one; else all is the same
+abbrev pub AddsUnless : Type 0 → (Broken Place → Type 0) → Vec (Place × BuildError) Global → Vec (Place × BuildError) Global → Type 0
+AddsUnless Same Tells old new = (told : Option (Broken Place)) × ((brokens_of new ≡ brokens_of old ++ option_to_list told) × MatchOption told Same Tells)
+
+-- of two fields that do not agree
+abbrev pub AddsTwo : Pass → Judged → StandingField Place → StandingField Place → Vec (Place × BuildError) Global → Vec (Place × BuildError) Global → Type 0
+AddsTwo pass s f g = AddsUnless (Agree pass s f g) (λ b. Conflict pass s b f g)
 
 -- each of these tells of two fields of the group; and where there is none, all agree with the first
 pub record TellsGroup (pass : Pass) (s : Judged) (group : List (StandingField Place)) (added : List (Broken Place)) : Type 0 where

@@ -1,19 +1,20 @@
 //! Conflicts of two fields.
-ghost use Rattle.std.specs.Prelude.{◌≡◌, ◌≤◌, ◌+◌, ◌++◌, ◌∷◌, min, map, take, drop, MatchOption, IfOk, OnOk};
+ghost use Rattle.std.specs.Prelude.{◌≡◌, ◌↔◌, ◌≤◌, ◌+◌, ◌++◌, ◌∷◌, min, map, take, drop, IfOk, IsTrue, OnOk};
 ghost use Rattle.schema_coordinates.specs.CoordinateView.{attribute_coordinate, argument_coordinate};
 ghost use Rattle.fault_document_data.specs.DocumentBreachView.{value_in_conflict};
 ghost use Rattle.graphql_schema.specs.SchemaOf.{schema_tree};
 ghost use Rattle.rule_definitions.specs.Judged.{judged};
-ghost use Rattle.rule_document_definitions.specs.Merging.{SameShape, SameName, SameNameAndArguments};
-ghost use Rattle.rule_document_definitions.specs.SameValues.{SameArguments, plain_given};
+ghost use Rattle.rule_document_definitions.specs.Merging.{SameName};
+ghost use Rattle.rule_document_definitions.specs.SameValues.{plain_given};
 ghost use Rattle.rule_document_ground.specs.Broken.{broken_of};
 ghost use Rattle.rule_document_ground.specs.Fields.{field_of, fields_of};
-ghost use Rattle.rule_field_groups.specs.Passes.{TypesConflict, NamesConflict, ArgumentsConflict, SelectionsConflict, Compares, AddsGroup, AddsEach, coordinate_of, coordinate_of_argument, type_conflict, name_conflict, argument_conflict};
+ghost use Rattle.rule_field_groups.specs.Passes.{AddsTwo, AddsGroup, AddsEach, coordinate_of, coordinate_of_argument, type_conflict, name_conflict, argument_conflict};
 ghost use Rattle.rule_field_groups.specs.Compared.{compared, compared_once, greatest_count, CountsUp};
 ghost use Rattle.rule_field_groups.specs.KeyGroups.{parts_of, compared_in};
+ghost use Rattle.rule_field_groups.specs.Conflicts.{judged_by, AddsTypes, AddsNames, AddsArguments};
 
-use crate::groups::KeyGroup;
-use crate::pass::Pass;
+use crate::groups::{KeyGroup, OwnFields};
+use crate::pass::{Comparing, Pass};
 use crate::shapes::same_type;
 use fault_document_data::{
     BuildError, ConflictingFieldArgument, ConflictingFieldName, ConflictingFieldType,
@@ -80,13 +81,13 @@ fn told_types(
 /// ConflictingFieldType: a selection set is valid only if fields of one response key have one shape (section 5.3.2). This
 /// is SameResponseShape of the specification. Each comparison is counted.
 fn conflicting_field_type(
-    alloc: Global,
     schema: &Schema,
     first: FieldSelection<'_>,
     other: FieldSelection<'_>,
+    breaches: &mut Vec<Breach>,
     comparisons: &mut u128,
-) -> Result<Option<Breach>, AllocError>
-    ensures told { IfOk result (λ r. MatchOption r (SameShape (judged (schema_tree schema.now)) (field_of first.entry) (field_of other.entry)) (λ b. TypesConflict (judged (schema_tree schema.now)) (broken_of b) (field_of first.entry) (field_of other.entry))) }
+) -> Result<(), AllocError>
+    ensures told { OnOk result (AddsTypes (judged (schema_tree schema.now)) (field_of first.entry) (field_of other.entry) breaches.old breaches.new) }
     ensures counted { CountsUp comparisons.old 1 comparisons.new }
 {
     count_one(comparisons);
@@ -95,9 +96,17 @@ fn conflicting_field_type(
         first.field.content().ty(),
         other.field.content().ty(),
     ) {
-        return Ok(None);
+        return Ok(());
     }
-    Ok(Some(told_types(alloc, first, other)?))
+    let conflict = told_types(*breaches.allocator(), first, other)?;
+    tell_breach(breaches, Some(conflict))
+}
+
+/// Whether two fields have one name.
+fn have_one_name(first: FieldSelection<'_>, other: FieldSelection<'_>) -> bool
+    ensures { IsTrue result ↔ SameName (field_of first.entry) (field_of other.entry) }
+{
+    first.field.content().name.as_str() == other.field.content().name.as_str()
 }
 
 /// What is told of fields of different names.
@@ -124,16 +133,17 @@ fn told_names(
 /// ConflictingFieldName: a selection set is valid only if fields that one object may have under one response key have one
 /// name (section 5.3.2). The specification says "must have identical field names".
 fn conflicting_field_name(
-    alloc: Global,
     first: FieldSelection<'_>,
     other: FieldSelection<'_>,
-) -> Result<Option<Breach>, AllocError>
-    ensures { IfOk result (λ r. MatchOption r (SameName (field_of first.entry) (field_of other.entry)) (λ b. NamesConflict (broken_of b) (field_of first.entry) (field_of other.entry))) }
+    breaches: &mut Vec<Breach>,
+) -> Result<(), AllocError>
+    ensures { OnOk result (AddsNames (field_of first.entry) (field_of other.entry) breaches.old breaches.new) }
 {
-    if first.field.content().name.as_str() == other.field.content().name.as_str() {
-        return Ok(None);
+    if have_one_name(first, other) {
+        return Ok(());
     }
-    Ok(Some(told_names(alloc, first, other)?))
+    let conflict = told_names(*breaches.allocator(), first, other)?;
+    tell_breach(breaches, Some(conflict))
 }
 
 /// The coordinate of the field's argument of that name.
@@ -216,69 +226,63 @@ fn told_arguments(
 /// the same arguments (section 5.3.2). The specification says "must have identical sets of arguments". The first argument
 /// that differs is told.
 fn conflicting_field_argument(
-    alloc: Global,
     first: FieldSelection<'_>,
     other: FieldSelection<'_>,
-) -> Result<Option<Breach>, AllocError>
-    ensures { IfOk result (λ r. MatchOption r (SameArguments (field_of first.entry).head.arguments (field_of other.entry).head.arguments) (λ b. ArgumentsConflict (broken_of b) (field_of first.entry) (field_of other.entry))) }
+    breaches: &mut Vec<Breach>,
+) -> Result<(), AllocError>
+    ensures { OnOk result (AddsArguments (field_of first.entry) (field_of other.entry) breaches.old breaches.new) }
 {
+    let alloc = *breaches.allocator();
     let given = first.field.content().arguments.as_slice();
     let differing = differing_argument(alloc, given, other.field.content().arguments.as_slice())?;
     match differing {
-        None => Ok(None),
-        Some(name) => Ok(Some(told_arguments(alloc, first, other, &name)?)),
+        None => Ok(()),
+        Some(name) => {
+            let conflict = told_arguments(alloc, first, other, &name)?;
+            tell_breach(breaches, Some(conflict))
+        }
     }
 }
 
-/// What is told of the names or else of the arguments of two fields, if these are not the same.
-fn conflicting_selection(
-    alloc: Global,
+/// Tells of two fields of a group, if they do not agree: of their shapes, or of their names or else of their arguments.
+fn check_two(
+    comparing: &Comparing<'_>,
     first: FieldSelection<'_>,
     other: FieldSelection<'_>,
-) -> Result<Option<Breach>, AllocError>
-    ensures { IfOk result (λ r. MatchOption r (SameNameAndArguments (field_of first.entry) (field_of other.entry)) (λ b. SelectionsConflict (broken_of b) (field_of first.entry) (field_of other.entry))) }
-{
-    match conflicting_field_name(alloc, first, other)? {
-        Some(breach) => Ok(Some(breach)),
-        None => conflicting_field_argument(alloc, first, other),
-    }
-}
-
-/// What is told of two fields of a group, if they do not agree.
-fn conflict(
-    alloc: Global,
-    pass: Pass,
-    schema: &Schema,
-    fields: (FieldSelection<'_>, FieldSelection<'_>),
+    breaches: &mut Vec<Breach>,
     comparisons: &mut u128,
-) -> Result<Option<Breach>, AllocError>
-    ensures told { IfOk result (λ r. Compares pass (judged (schema_tree schema.now)) (field_of fields.entry.0) (field_of fields.entry.1) r) }
-    ensures counted { CountsUp comparisons.old (compared_once pass) comparisons.new }
+) -> Result<(), AllocError>
+    ensures told { OnOk result (AddsTwo comparing.now.pass (judged_by comparing.now) (field_of first.entry) (field_of other.entry) breaches.old breaches.new) }
+    ensures counted { CountsUp comparisons.old (compared_once comparing.now.pass) comparisons.new }
 {
-    match pass {
-        Pass::Shapes => { conflicting_field_type(alloc, schema, fields.0, fields.1, comparisons) }
-        Pass::Selections => conflicting_selection(alloc, fields.0, fields.1),
+    match comparing.pass {
+        Pass::Shapes => {
+            conflicting_field_type(comparing.schema, first, other, breaches, comparisons)
+        }
+        Pass::Selections => {
+            if have_one_name(first, other) {
+                return conflicting_field_argument(first, other, breaches);
+            }
+            conflicting_field_name(first, other, breaches)
+        }
     }
 }
 
 /// Tells each of the other fields that does not agree with the first.
 fn check_others(
-    pass: Pass,
-    schema: &Schema,
+    comparing: &Comparing<'_>,
     first: FieldSelection<'_>,
     others: &[FieldSelection<'_>],
     breaches: &mut Vec<Breach>,
     comparisons: &mut u128,
 ) -> Result<(), AllocError>
-    ensures told { OnOk result (AddsGroup pass (judged (schema_tree schema.now)) (fields_of (first.entry ∷ others.now)) breaches.old breaches.new) }
+    ensures told { OnOk result (AddsGroup comparing.now.pass (judged_by comparing.now) (fields_of (first.entry ∷ others.now)) breaches.old breaches.new) }
     ensures more { comparisons.old ≤ comparisons.new }
-    ensures counted { comparisons.new ≤ comparisons.old + compared pass others.now }
-    ensures exact { OnOk result (CountsUp comparisons.old (compared pass others.now) comparisons.new) }
+    ensures counted { comparisons.new ≤ comparisons.old + compared comparing.now.pass others.now }
+    ensures exact { OnOk result (CountsUp comparisons.old (compared comparing.now.pass others.now) comparisons.new) }
 {
-    let alloc = *breaches.allocator();
     for other in others {
-        let breach = conflict(alloc, pass, schema, (first, *other), comparisons)?;
-        tell_breach(breaches, breach)?;
+        check_two(comparing, first, *other, breaches, comparisons)?;
     }
     Ok(())
 }
@@ -296,55 +300,60 @@ pub fn check_group(
     ensures counted { comparisons.new ≤ comparisons.old + compared pass group.now }
     ensures exact { OnOk result (CountsUp comparisons.old (compared pass (drop 1 group.now)) comparisons.new) }
 {
+    let comparing = Comparing { pass, schema };
     match group.split_first() {
         None => Ok(()),
-        Some((first, others)) => check_others(pass, schema, *first, others, breaches, comparisons),
+        Some((first, others)) => check_others(&comparing, *first, others, breaches, comparisons),
     }
 }
 
 /// Tells each of the fields before another one that does not agree with the first of them; and the other, if it does not.
 fn check_before(
-    pass: Pass,
-    schema: &Schema,
+    comparing: &Comparing<'_>,
     before: &[FieldSelection<'_>],
     other: FieldSelection<'_>,
     breaches: &mut Vec<Breach>,
     comparisons: &mut u128,
 ) -> Result<(), AllocError>
-    ensures told { OnOk result (AddsGroup pass (judged (schema_tree schema.now)) (fields_of (other.entry ∷ before.now)) breaches.old breaches.new) }
+    ensures told { OnOk result (AddsGroup comparing.now.pass (judged_by comparing.now) (fields_of (other.entry ∷ before.now)) breaches.old breaches.new) }
     ensures more { comparisons.old ≤ comparisons.new }
-    ensures counted { comparisons.new ≤ comparisons.old + compared pass before.now }
+    ensures counted { comparisons.new ≤ comparisons.old + compared comparing.now.pass before.now }
 {
     match before.split_first() {
         None => Ok(()),
         Some((first, others)) => {
-            check_others(pass, schema, *first, others, breaches, comparisons)?;
-            check_others(pass, schema, *first, &[other], breaches, comparisons)
+            check_others(comparing, *first, others, breaches, comparisons)?;
+            check_others(comparing, *first, &[other], breaches, comparisons)
         }
     }
 }
 
 /// Tells the fields on one object type that do not agree with the first shared one, or with their own first if none is
-/// shared. The later of two is told: the first `early` fields are before the first shared one.
+/// shared. The later of two is told: the early fields are before the first shared one.
 fn check_own(
-    pass: Pass,
-    schema: &Schema,
+    comparing: &Comparing<'_>,
     shared: &[FieldSelection<'_>],
-    own: &[FieldSelection<'_>],
-    early: usize,
+    own: &OwnFields<'_>,
     breaches: &mut Vec<Breach>,
     comparisons: &mut u128,
 ) -> Result<(), AllocError>
-    ensures told { OnOk result (AddsGroup pass (judged (schema_tree schema.now)) (fields_of (take 1 shared.now ++ own.now)) breaches.old breaches.new) }
+    ensures told { OnOk result (AddsGroup comparing.now.pass (judged_by comparing.now) (fields_of (take 1 shared.now ++ own.now.fields.items)) breaches.old breaches.new) }
     ensures more { comparisons.old ≤ comparisons.new }
-    ensures counted { comparisons.new ≤ comparisons.old + compared pass own.now }
+    ensures counted { comparisons.new ≤ comparisons.old + compared comparing.now.pass own.now.fields.items }
 {
+    let fields = own.fields.as_slice();
     match shared.split_first() {
-        None => check_group(pass, schema, own, breaches, comparisons),
+        None => check_group(
+            comparing.pass,
+            comparing.schema,
+            fields,
+            breaches,
+            comparisons,
+        ),
         Some((first, _)) => {
-            let (before, behind) = own.split_at(early.min(own.len()));
-            check_before(pass, schema, before, *first, breaches, comparisons)?;
-            check_others(pass, schema, *first, behind, breaches, comparisons)
+            let (before, behind) = fields.split_at(own.early.min(fields.len()));
+            check_before(comparing, before, *first, breaches, comparisons)?;
+            check_others(comparing, *first, behind, breaches, comparisons)
         }
     }
 }
@@ -361,17 +370,10 @@ pub fn check_key_group(
     ensures more { comparisons.old ≤ comparisons.new }
     ensures counted { comparisons.new ≤ comparisons.old + compared_in pass group.now }
 {
+    let comparing = Comparing { pass, schema };
     check_group(pass, schema, &group.shared, breaches, comparisons)?;
     for own in &group.own {
-        check_own(
-            pass,
-            schema,
-            &group.shared,
-            &own.fields,
-            own.early,
-            breaches,
-            comparisons,
-        )?;
+        check_own(&comparing, &group.shared, own, breaches, comparisons)?;
     }
     Ok(())
 }

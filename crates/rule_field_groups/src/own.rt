@@ -2,11 +2,12 @@
 ghost use Rattle.std.specs.Prelude.{◌≡◌, ◌++◌, option_map, IfOk, OnOk};
 ghost use Rattle.graphql_names.specs.Placed.{name_tree};
 ghost use Rattle.document_typed_selections.specs.TypedTree.{typed_selection_tree, typed_set_tree};
-ghost use Rattle.document_meaning.specs.MeantTree.{meant, meant_of_set};
+ghost use Rattle.document_meaning.specs.MeantTree.{meant_of_set};
 ghost use Rattle.rule_document_ground.specs.Fields.{fields_of, meant_fragments};
 ghost use Rattle.rule_document_ground.specs.Lent.{field_lent};
 ghost use Rattle.rule_field_groups.specs.Own.{own_fields, spread_set, spread_sets};
 ghost use Rattle.rule_field_groups.specs.Laws.{meant_spread};
+ghost use Rattle.rule_field_groups.specs.Conflicts.{selection_meant, set_meant};
 
 use document_typed_operations::FragmentMap;
 use document_typed_selections::{Selection, SelectionSet};
@@ -53,7 +54,7 @@ fn spread_of<'doc>(
     selection: &'doc Selection,
     fragments: &'doc FragmentMap,
 ) -> Option<SpreadSet<'doc>>
-    ensures { option_map (λ s. meant_of_set (typed_set_tree s.set.now)) result ≡ spread_set (meant_fragments fragments.now) (meant (typed_selection_tree selection.now)) }
+    ensures { option_map set_meant result ≡ spread_set (meant_fragments fragments.now) (selection_meant selection.now) }
 {
     match selection {
         Selection::Field(_) => None,

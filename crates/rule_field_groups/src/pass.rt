@@ -1,5 +1,7 @@
 //! The two passes over lists of fields.
 
+use graphql_schema::Schema;
+
 /// What a pass compares.
 #[derive(Clone, Copy)]
 pub enum Pass {
@@ -7,4 +9,11 @@ pub enum Pass {
     Shapes,
     /// The names and arguments of fields that one object may have.
     Selections,
+}
+
+/// A pass, and the schema that the fields are typed under.
+#[derive(Clone, Copy)]
+pub(crate) struct Comparing<'a> {
+    pub(crate) pass: Pass,
+    pub(crate) schema: &'a Schema,
 }

@@ -1,5 +1,5 @@
 -- Private: leads to `InterfacesBreak`. What the rules on interfaces are given, as contracts see it.
-use Rattle.std.specs.Prelude.{◌≡◌, List, ℕ, Bool, Option, map, option_to_list}
+use Rattle.std.specs.Prelude.{◌≡◌, List, ℕ, Bool}
 use Rattle.graphql_names.specs.NameValue.{NameValue}
 use Rattle.graphql_names.specs.Node.{content, place}
 use Rattle.graphql_names.specs.Placed.{Place, Text, name_tree, node_tree}
@@ -14,18 +14,13 @@ use Rattle.schema_types.specs.SchemaTree.{SchemaType, SchemaTree}
 use Rattle.schema_types.specs.TypeView.{extended_type, interface_type}
 use Rattle.schema_types.specs.declared.kinds.InterfaceType.{InterfaceType}
 use Rattle.graphql_schema.specs.SchemaOf.{schema_tree}
-use Rattle.fault_data.specs.FaultView.{fault_of}
-use Rattle.fault_data.specs.declared.fault.Fault.{Fault}
 use Rattle.fault_data.specs.in_rule_definitions.Judged.{judged}
 use Rattle.fault_data.specs.in_rule_definitions.Subtypes.{is_valid_type}
 use Rattle.fault_data.specs.in_rule_definitions.Told.{PlacedFault}
 use Rattle.rule_interfaces.specs.InterfaceFaults.{Field, Input}
 use Rattle.rule_interfaces.specs.declared.implementation.Implementer.{Implementer}
 use Rattle.rule_interfaces.specs.declared.implementation.Implementation.{Implementation}
-
--- the fault that there is, if there is one, is told so
-abbrev pub Tells : Option Fault → List PlacedFault → Type 0
-Tells fault these = map fault_of (option_to_list fault) ≡ these
+use Rattle.rule_interfaces.specs.declared.judging.Judging.{Judging}
 
 abbrev pub input_tree : Node InputValueDefinition → Input
 input_tree v = node_tree input_value_tree v
@@ -36,8 +31,9 @@ field_tree f = node_tree field_definition_tree f
 abbrev pub interface_tree : Node InterfaceType → SchemaType Place
 interface_tree over = interface_type (place over) (content over)
 
-abbrev pub schema_of : Implementer → SchemaTree Place
-schema_of x = schema_tree x.schema.now
+-- the schema that is judged
+abbrev pub schema_of : Judging → SchemaTree Place
+schema_of judging = schema_tree judging.schema.now
 
 -- of the name of a type, the type, and an interface that it lists
 abbrev pub of_implementer : {X : Type 0} → (List ℕ → SchemaType Place → Text Place → X) → Implementer → X
@@ -51,9 +47,9 @@ of_field f x m wanted = of_implementer f x m.text (field_tree wanted)
 abbrev pub of_implementation : {X : Type 0} → (List ℕ → List ℕ → List ℕ → Field → Field → X) → Implementation → X
 of_implementation f x = f x.name.now.text x.interface.now.text x.field_name.now.text (field_tree x.wanted.now) (field_tree x.field.now)
 
--- of these names alone
-abbrev pub of_names : {X : Type 0} → (List ℕ → List ℕ → List ℕ → X) → Implementation → X
-of_names f x = f x.name.now.text x.interface.now.text x.field_name.now.text
+-- of these names, and an argument of each field
+abbrev pub of_arguments : (List ℕ → List ℕ → List ℕ → Input → Input → List PlacedFault) → Implementation → Node InputValueDefinition → Node InputValueDefinition → List PlacedFault
+of_arguments f x wanted given = f x.name.now.text x.interface.now.text x.field_name.now.text (input_tree wanted) (input_tree given)
 
 -- of an argument of one of both fields, where these are those of the other
 abbrev pub of_argument : (List ℕ → List ℕ → List ℕ → Field → Field → InputValues Place → Input → List PlacedFault) → Implementation → InputValues Place → Node InputValueDefinition → List PlacedFault

@@ -5,10 +5,11 @@ ghost use Rattle.tree_literals.specs.TypeTree.{type_tree, unplaced_type};
 ghost use Rattle.rule_interfaces.specs.Adds.{AddsThese};
 ghost use Rattle.rule_interfaces.specs.Firsts.{AreFirsts};
 ghost use Rattle.rule_interfaces.specs.InterfaceFaults.{first_named, missing_interface_field_argument, extra_required_argument, same_type, invalid_implementation_field_argument_type, wanted_fault, own_fault, wanted_faults_over, own_faults_over, wanted_faults, own_faults, arguments_faults};
-ghost use Rattle.rule_interfaces.specs.Trees.{Tells, input_tree, of_implementation, of_names, of_argument};
+ghost use Rattle.rule_interfaces.specs.Trees.{input_tree, of_implementation, of_arguments, of_argument};
 
 use crate::copies::copy_arguments;
 use crate::implementation::Implementation;
+use crate::judging::Judging;
 use fault_data::{DiagnosticData, Fault, tell};
 use graphql_names::{Name, Node};
 use indexmap::IndexMap;
@@ -17,41 +18,43 @@ use tree_directives::InputValueDefinition;
 use tree_literals::Type;
 
 /// The first argument definition of each name.
+// The nodes are shared copies: the borrow checker does not cover a map of references.
 type Firsts = IndexMap<Name, Node<InputValueDefinition>>;
 
 /// Tells the faults of a field's arguments over those of an interface's field.
 pub(crate) fn check_arguments(
-    alloc: Global,
+    judging: &Judging<'_>,
     implementation: &Implementation<'_>,
     faults: &mut Vec<Fault>,
 ) -> Result<(), AllocError>
     ensures { OnOk result (AddsThese faults.old faults.new (of_implementation arguments_faults implementation.now)) }
 {
-    check_wanted(alloc, implementation, faults)?;
-    check_own(alloc, implementation, faults)
+    check_wanted(judging, implementation, faults)?;
+    check_own(judging, implementation, faults)
 }
 
 /// Tells the faults of the arguments of an interface's field.
+// Two functions, each with one map of its own: both in one would cost more to prove.
 fn check_wanted(
-    alloc: Global,
+    judging: &Judging<'_>,
     implementation: &Implementation<'_>,
     faults: &mut Vec<Fault>,
 ) -> Result<(), AllocError>
     ensures { OnOk result (AddsThese faults.old faults.new (of_implementation wanted_faults implementation.now)) }
 {
-    let own = firsts(alloc, &implementation.field.content().arguments)?;
+    let own = firsts(judging.alloc, &implementation.field.content().arguments)?;
     check_wanted_arguments(implementation, &own, faults)
 }
 
 /// Tells the faults of the arguments of a type's field that the interface's field lacks.
 fn check_own(
-    alloc: Global,
+    judging: &Judging<'_>,
     implementation: &Implementation<'_>,
     faults: &mut Vec<Fault>,
 ) -> Result<(), AllocError>
     ensures { OnOk result (AddsThese faults.old faults.new (of_implementation own_faults implementation.now)) }
 {
-    let of_interface = firsts(alloc, &implementation.wanted.content().arguments)?;
+    let of_interface = firsts(judging.alloc, &implementation.wanted.content().arguments)?;
     check_own_arguments(implementation, &of_interface, faults)
 }
 
@@ -96,26 +99,24 @@ fn check_wanted_arguments(
     ensures { (vs : _) → AreFirsts own.now vs → OnOk result (AddsThese faults.old faults.new (of_implementation wanted_faults_over implementation.now vs)) }
 {
     for argument in &implementation.wanted.content().arguments {
-        tell(
-            faults,
-            wanted_argument_fault(implementation, own, argument)?,
-        )?;
+        check_wanted_argument(implementation, own, argument, faults)?;
     }
     Ok(())
 }
 
-/// The fault of an argument of an interface's field, where `own` has the arguments of the type's field.
-fn wanted_argument_fault(
+/// Tells the fault of an argument of an interface's field, where `own` has the arguments of the type's field.
+fn check_wanted_argument(
     implementation: &Implementation<'_>,
     own: &Firsts,
     argument: &Node<InputValueDefinition>,
-) -> Result<Option<Fault>, AllocError>
-    ensures { (vs : _) → AreFirsts own.now vs → IfOk result (λ r. Tells r (of_argument wanted_fault implementation.now vs argument.now)) }
+    faults: &mut Vec<Fault>,
+) -> Result<(), AllocError>
+    ensures { (vs : _) → AreFirsts own.now vs → OnOk result (AddsThese faults.old faults.new (of_argument wanted_fault implementation.now vs argument.now)) }
 {
     match first_like(own, argument) {
-        None => missing_interface_field_argument(implementation, argument),
+        None => missing_interface_field_argument(implementation, argument, faults),
         Some(given) => {
-            invalid_implementation_field_argument_type(implementation, argument, given)
+            invalid_implementation_field_argument_type(implementation, argument, given, faults)
         }
     }
 }
@@ -129,25 +130,23 @@ fn check_own_arguments(
     ensures { (vs : _) → AreFirsts of_interface.now vs → OnOk result (AddsThese faults.old faults.new (of_implementation own_faults_over implementation.now vs)) }
 {
     for argument in &implementation.field.content().arguments {
-        tell(
-            faults,
-            own_argument_fault(implementation, of_interface, argument)?,
-        )?;
+        check_own_argument(implementation, of_interface, argument, faults)?;
     }
     Ok(())
 }
 
-/// The fault of an argument of a type's field, where `of_interface` has the arguments of the interface's field.
-fn own_argument_fault(
+/// Tells the fault of an argument of a type's field, where `wanted` has the arguments of the interface's field.
+fn check_own_argument(
     implementation: &Implementation<'_>,
-    of_interface: &Firsts,
+    wanted: &Firsts,
     argument: &Node<InputValueDefinition>,
-) -> Result<Option<Fault>, AllocError>
-    ensures { (ws : _) → AreFirsts of_interface.now ws → IfOk result (λ r. Tells r (of_argument own_fault implementation.now ws argument.now)) }
+    faults: &mut Vec<Fault>,
+) -> Result<(), AllocError>
+    ensures { (ws : _) → AreFirsts wanted.now ws → OnOk result (AddsThese faults.old faults.new (of_argument own_fault implementation.now ws argument.now)) }
 {
-    match first_like(of_interface, argument) {
-        Some(_) => Ok(None),
-        None => extra_required_implementation_field_argument(implementation, argument),
+    match first_like(wanted, argument) {
+        Some(_) => Ok(()),
+        None => extra_required_implementation_field_argument(implementation, argument, faults),
     }
 }
 
@@ -156,22 +155,26 @@ fn own_argument_fault(
 fn missing_interface_field_argument(
     implementation: &Implementation<'_>,
     argument: &Node<InputValueDefinition>,
-) -> Result<Option<Fault>, AllocError>
-    ensures { IfOk result (λ r. Tells r (of_implementation missing_interface_field_argument implementation.now (input_tree argument.now))) }
+    faults: &mut Vec<Fault>,
+) -> Result<(), AllocError>
+    ensures { OnOk result (AddsThese faults.old faults.new (of_implementation missing_interface_field_argument implementation.now (input_tree argument.now))) }
 {
     let field_location = implementation.field.location();
     let (name, interface, field) = implementation.copy_names()?;
-    Ok(Some(Fault {
-        location: field_location,
-        data: DiagnosticData::MissingInterfaceFieldArgument {
-            name,
-            interface,
-            field,
-            argument: argument.content().name.clone()?,
-            field_location,
-            interface_argument_location: argument.location(),
-        },
-    }))
+    tell(
+        faults,
+        Some(Fault {
+            location: field_location,
+            data: DiagnosticData::MissingInterfaceFieldArgument {
+                name,
+                interface,
+                field,
+                argument: argument.content().name.clone()?,
+                field_location,
+                interface_argument_location: argument.location(),
+            },
+        }),
+    )
 }
 
 /// InvalidImplementationFieldArgumentType: an argument that an interface asks for is valid only if its type is that of the
@@ -180,30 +183,35 @@ fn invalid_implementation_field_argument_type(
     implementation: &Implementation<'_>,
     wanted: &Node<InputValueDefinition>,
     given: &Node<InputValueDefinition>,
-) -> Result<Option<Fault>, AllocError>
-    ensures { IfOk result (λ r. Tells r (of_names invalid_implementation_field_argument_type implementation.now (input_tree wanted.now) (input_tree given.now))) }
+    faults: &mut Vec<Fault>,
+) -> Result<(), AllocError>
+    ensures { OnOk result (AddsThese faults.old faults.new (of_arguments invalid_implementation_field_argument_type implementation.now wanted.now given.now)) }
 {
+    // The same type and no subtype: what an argument takes does not vary, as what a field gives does.
     if same_type(wanted.content().ty.content(), given.content().ty.content()) {
-        return Ok(None);
+        return Ok(());
     }
     let (name, interface, field) = implementation.copy_names()?;
     let (argument, interface_type, actual_type) = copy_arguments(
         wanted.content(),
         given.content(),
     )?;
-    Ok(Some(Fault {
-        location: given.location(),
-        data: DiagnosticData::InvalidImplementationFieldArgumentType {
-            name,
-            interface,
-            field,
-            argument,
-            interface_type,
-            actual_type,
-            argument_location: given.location(),
-            interface_argument_location: wanted.location(),
-        },
-    }))
+    tell(
+        faults,
+        Some(Fault {
+            location: given.location(),
+            data: DiagnosticData::InvalidImplementationFieldArgumentType {
+                name,
+                interface,
+                field,
+                argument,
+                interface_type,
+                actual_type,
+                argument_location: given.location(),
+                interface_argument_location: wanted.location(),
+            },
+        }),
+    )
 }
 
 /// Whether two references to types are the same, ignoring places.
@@ -218,22 +226,27 @@ fn same_type(a: &Type, b: &Type) -> bool
 fn extra_required_implementation_field_argument(
     implementation: &Implementation<'_>,
     argument: &Node<InputValueDefinition>,
-) -> Result<Option<Fault>, AllocError>
-    ensures { IfOk result (λ r. Tells r (of_implementation extra_required_argument implementation.now (input_tree argument.now))) }
+    faults: &mut Vec<Fault>,
+) -> Result<(), AllocError>
+    ensures { OnOk result (AddsThese faults.old faults.new (of_implementation extra_required_argument implementation.now (input_tree argument.now))) }
 {
+    // Who selects on the interface does not know of it: so it must do without, by a default or as null.
     if !argument.content().is_required() {
-        return Ok(None);
+        return Ok(());
     }
     let (name, interface, field) = implementation.copy_names()?;
-    Ok(Some(Fault {
-        location: argument.location(),
-        data: DiagnosticData::ExtraRequiredImplementationFieldArgument {
-            name,
-            interface,
-            field,
-            argument: argument.content().name.clone()?,
-            argument_location: argument.location(),
-            interface_field_location: implementation.wanted.location(),
-        },
-    }))
+    tell(
+        faults,
+        Some(Fault {
+            location: argument.location(),
+            data: DiagnosticData::ExtraRequiredImplementationFieldArgument {
+                name,
+                interface,
+                field,
+                argument: argument.content().name.clone()?,
+                argument_location: argument.location(),
+                interface_field_location: implementation.wanted.location(),
+            },
+        }),
+    )
 }

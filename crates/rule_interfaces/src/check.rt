@@ -13,8 +13,9 @@ ghost use Rattle.rule_interfaces.specs.Trees.{interface_tree, schema_of, of_impl
 use crate::fields::check_each_field;
 use crate::implementation::Implementer;
 use crate::interfaces::{check_transitive, recursive_interface_definition, undefined_interface};
+use crate::judging::Judging;
 use crate::look_ups::interfaces_of;
-use fault_data::{Fault, tell};
+use fault_data::Fault;
 use graphql_names::{Name, Node};
 use graphql_schema::Schema;
 use schema_types::{ExtendedType, InterfaceType};
@@ -29,83 +30,78 @@ pub fn check_interfaces(
     requires distinct { AreAllDistinct (schema_tree schema.now) }
     ensures { OnOk result (Adds faults.old faults.new (Told (schema_tree schema.now) InterfacesBreak)) }
 {
-    check_each_type(alloc, schema, faults)
+    let judging = Judging { alloc, schema };
+    check_each_type(&judging, faults)
 }
 
 /// Tells the faults of each type.
-fn check_each_type(
-    alloc: Global,
-    schema: &Schema,
-    faults: &mut Vec<Fault>,
-) -> Result<(), AllocError>
-    ensures { OnOk result (AddsThese faults.old faults.new (types_faults (schema_tree schema.now) schema.now.types.entries)) }
+fn check_each_type(judging: &Judging<'_>, faults: &mut Vec<Fault>) -> Result<(), AllocError>
+    ensures { OnOk result (AddsThese faults.old faults.new (types_faults (schema_of judging.now) judging.now.schema.now.types.entries)) }
 {
-    for (name, ty) in &schema.types {
-        check_type(alloc, schema, name, ty, faults)?;
+    for (name, ty) in &judging.schema.types {
+        check_type(judging, name, ty, faults)?;
     }
     Ok(())
 }
 
 /// Tells the faults of a type over each of its interfaces.
 fn check_type(
-    alloc: Global,
-    schema: &Schema,
+    judging: &Judging<'_>,
     name: &Name,
     ty: &ExtendedType,
     faults: &mut Vec<Fault>,
 ) -> Result<(), AllocError>
-    ensures { OnOk result (AddsThese faults.old faults.new (type_faults (schema_tree schema.now) name.now.text (extended_type ty.now))) }
+    ensures { OnOk result (AddsThese faults.old faults.new (type_faults (schema_of judging.now) name.now.text (extended_type ty.now))) }
 {
     for interface in interfaces_of(ty) {
         let implementer = Implementer {
-            schema,
             name,
             ty,
             interface,
         };
-        check_interface(alloc, &implementer, faults)?;
+        check_interface(judging, &implementer, faults)?;
     }
     Ok(())
 }
 
 /// Tells the faults of a type over one of its interfaces.
 fn check_interface(
-    alloc: Global,
+    judging: &Judging<'_>,
     implementer: &Implementer<'_>,
     faults: &mut Vec<Fault>,
 ) -> Result<(), AllocError>
-    ensures { OnOk result (AddsThese faults.old faults.new (of_implementer (named_faults (schema_of implementer.now)) implementer.now)) }
+    ensures { OnOk result (AddsThese faults.old faults.new (of_implementer (named_faults (schema_of judging.now)) implementer.now)) }
 {
-    tell(faults, recursive_interface_definition(implementer)?)?;
-    check_listed(alloc, implementer, faults)
+    recursive_interface_definition(implementer, faults)?;
+    check_listed(judging, implementer, faults)
 }
 
 /// Tells the faults of a type over an interface of that name, which it lists, whether it is there or not.
 fn check_listed(
-    alloc: Global,
+    judging: &Judging<'_>,
     implementer: &Implementer<'_>,
     faults: &mut Vec<Fault>,
 ) -> Result<(), AllocError>
-    ensures { OnOk result (AddsThese faults.old faults.new (of_implementer (listed_faults (schema_of implementer.now)) implementer.now)) }
+    ensures { OnOk result (AddsThese faults.old faults.new (of_implementer (listed_faults (schema_of judging.now)) implementer.now)) }
 {
     let interface = &implementer.interface.name;
-    match implementer.schema.get_interface(interface) {
-        None => tell(faults, undefined_interface(interface)?),
-        Some(over) => check_over(alloc, implementer, over, faults),
+    match judging.schema.get_interface(interface) {
+        None => undefined_interface(interface, faults),
+        Some(over) => check_over(judging, implementer, over, faults),
     }
 }
 
 /// Tells the faults of a type over an interface that it lists and that is there.
 fn check_over(
-    alloc: Global,
+    judging: &Judging<'_>,
     implementer: &Implementer<'_>,
     over: &Node<InterfaceType>,
     faults: &mut Vec<Fault>,
 ) -> Result<(), AllocError>
-    ensures { OnOk result (AddsThese faults.old faults.new (of_implementer (over_faults (schema_of implementer.now)) implementer.now (interface_tree over.now))) }
+    ensures { OnOk result (AddsThese faults.old faults.new (of_implementer (over_faults (schema_of judging.now)) implementer.now (interface_tree over.now))) }
 {
     let over = over.content();
     let listed = over.implements_interfaces.as_slice();
     check_transitive(implementer, listed, faults)?;
-    check_each_field(alloc, implementer, &over.fields, faults)
+    check_each_field(judging, implementer, &over.fields, faults)
 }

@@ -9,6 +9,7 @@ use tree_directives::InputValueDefinition;
 use tree_literals::Type;
 
 /// Copies of the names of a type, an interface and a field.
+// The copies for a fault are made under one `?`, and not under one each with what is owned so far.
 pub(crate) fn copy_names(
     name: &Name,
     interface: &Name,

@@ -3,7 +3,6 @@ ghost use Rattle.std.specs.Prelude.{◌≡◌, IfOk};
 
 use crate::copies::copy_names;
 use graphql_names::{Name, Node};
-use graphql_schema::Schema;
 use schema_components::ComponentName;
 use schema_types::ExtendedType;
 use std::alloc::AllocError;
@@ -12,7 +11,6 @@ use tree_type_members::FieldDefinition;
 /// A type of a schema, and an interface that it lists.
 #[derive(Clone, Copy)]
 pub(crate) struct Implementer<'a> {
-    pub(crate) schema: &'a Schema,
     pub(crate) name: &'a Name,
     pub(crate) ty: &'a ExtendedType,
     pub(crate) interface: &'a ComponentName,

@@ -1,9 +1,9 @@
 //! Rules on the interfaces that a type lists (sections 3.6 and 3.7).
-ghost use Rattle.std.specs.Prelude.{IfOk, OnOk};
+ghost use Rattle.std.specs.Prelude.{OnOk};
 ghost use Rattle.graphql_names.specs.Placed.{name_tree};
 ghost use Rattle.rule_interfaces.specs.Adds.{AddsThese};
 ghost use Rattle.rule_interfaces.specs.InterfaceFaults.{recursive_interface_definition, transitive_implemented_interfaces, undefined_interface, each_transitive_faults};
-ghost use Rattle.rule_interfaces.specs.Trees.{Tells, of_implementer};
+ghost use Rattle.rule_interfaces.specs.Trees.{of_implementer};
 
 use crate::implementation::Implementer;
 use crate::look_ups::implements;
@@ -14,36 +14,49 @@ use std::alloc::AllocError;
 
 /// UndefinedDefinition: a type is valid only if each name that it implements is that of an interface (sections 3.6 and
 /// 3.7). Told of one that is not.
-pub(crate) fn undefined_interface(interface: &Name) -> Result<Option<Fault>, AllocError>
-    ensures { IfOk result (λ r. Tells r (undefined_interface (name_tree interface.now))) }
+pub(crate) fn undefined_interface(
+    interface: &Name,
+    faults: &mut Vec<Fault>,
+) -> Result<(), AllocError>
+    ensures { OnOk result (AddsThese faults.old faults.new (undefined_interface (name_tree interface.now))) }
 {
-    Ok(Some(Fault {
-        location: interface.location(),
-        data: DiagnosticData::UndefinedDefinition {
-            name: interface.clone()?,
-        },
-    }))
+    tell(
+        faults,
+        Some(Fault {
+            location: interface.location(),
+            data: DiagnosticData::UndefinedDefinition {
+                name: interface.clone()?,
+            },
+        }),
+    )
 }
 
 /// RecursiveInterfaceDefinition: an interface type is valid only if it does not implement itself (section 3.7).
 pub(crate) fn recursive_interface_definition(
     implementer: &Implementer<'_>,
-) -> Result<Option<Fault>, AllocError>
-    ensures { IfOk result (λ r. Tells r (of_implementer recursive_interface_definition implementer.now)) }
+    faults: &mut Vec<Fault>,
+) -> Result<(), AllocError>
+    ensures { OnOk result (AddsThese faults.old faults.new (of_implementer recursive_interface_definition implementer.now)) }
 {
+    // An object that lists its own name lists no interface: that is told as UndefinedDefinition.
     if !implementer.ty.is_interface() {
-        return Ok(None);
+        return Ok(());
     }
     let interface = &implementer.interface.name;
-    if interface.as_str() == implementer.name.as_str() {
-        return Ok(Some(Fault {
+    // A longer circle needs no search: each interface of it would have to list itself, by
+    // TransitiveImplementedInterfaces.
+    if interface.as_str() != implementer.name.as_str() {
+        return Ok(());
+    }
+    tell(
+        faults,
+        Some(Fault {
             location: interface.location(),
             data: DiagnosticData::RecursiveInterfaceDefinition {
                 name: implementer.name.clone()?,
             },
-        }));
-    }
-    Ok(None)
+        }),
+    )
 }
 
 /// Tells each of these interfaces, which an interface lists, that a type that lists it does not.
@@ -55,10 +68,7 @@ pub(crate) fn check_transitive(
     ensures { OnOk result (AddsThese faults.old faults.new (of_implementer each_transitive_faults implementer.now listed.now)) }
 {
     for missing in listed {
-        tell(
-            faults,
-            transitive_implemented_interfaces(implementer, missing)?,
-        )?;
+        transitive_implemented_interfaces(implementer, missing, faults)?;
     }
     Ok(())
 }
@@ -68,19 +78,23 @@ pub(crate) fn check_transitive(
 fn transitive_implemented_interfaces(
     implementer: &Implementer<'_>,
     missing: &ComponentName,
-) -> Result<Option<Fault>, AllocError>
-    ensures { IfOk result (λ r. Tells r (of_implementer transitive_implemented_interfaces implementer.now (name_tree missing.now.name))) }
+    faults: &mut Vec<Fault>,
+) -> Result<(), AllocError>
+    ensures { OnOk result (AddsThese faults.old faults.new (of_implementer transitive_implemented_interfaces implementer.now (name_tree missing.now.name))) }
 {
     if implements(implementer.ty, missing) {
-        return Ok(None);
+        return Ok(());
     }
-    Ok(Some(Fault {
-        location: implementer.ty.location(),
-        data: DiagnosticData::TransitiveImplementedInterfaces {
-            interface: implementer.name.clone()?,
-            via_interface: implementer.interface.name.clone()?,
-            transitive_interface_location: missing.name.location(),
-            missing_interface: missing.name.clone()?,
-        },
-    }))
+    tell(
+        faults,
+        Some(Fault {
+            location: implementer.ty.location(),
+            data: DiagnosticData::TransitiveImplementedInterfaces {
+                interface: implementer.name.clone()?,
+                via_interface: implementer.interface.name.clone()?,
+                transitive_interface_location: missing.name.location(),
+                missing_interface: missing.name.clone()?,
+            },
+        }),
+    )
 }

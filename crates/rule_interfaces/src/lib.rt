@@ -13,6 +13,7 @@ mod copies;
 mod fields;
 mod implementation;
 mod interfaces;
+mod judging;
 mod look_ups;
 mod valid_types;
 

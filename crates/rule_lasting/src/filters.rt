@@ -38,6 +38,7 @@ fn breach_lasts(error: &BuildError) -> bool
 }
 
 /// Keeps the faults that last, in order. It takes no memory.
+// Told apart by their data, after the rules ran: so no rule is written a second time for what typing left.
 pub fn keep_lasting_faults(faults: &mut Vec<Fault>)
     ensures { faults_of faults.new ≡ filter fault_lasts (faults_of faults.old) }
 {

@@ -35,6 +35,7 @@ pub fn differing_argument(
     ensures same { IfOk result (λ r. IfNone r (SameArguments (arguments_of a.now) (arguments_of b.now))) }
     ensures differs { IfOk result (λ r. IfSome r (λ n. SameGiven (plain_given n.text (arguments_of a.now)) (plain_given n.text (arguments_of b.now)) → ⊥)) }
 {
+    // As entries of two objects, so that one function compares both.
     let a = as_entries(alloc, a)?;
     let b = as_entries(alloc, b)?;
     differing_key(alloc, &a, &b)

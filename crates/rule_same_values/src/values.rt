@@ -37,6 +37,7 @@ fn is_same(alloc: Global, a: &Value, b: &Value) -> Result<bool, AllocError>
             Value::Object(others) => Ok(differing_key(alloc, entries, others)?.is_none()),
             _ => Ok(false),
         },
+        // By kind and text: `1` and `1.0` differ, though as values of a Float they are one.
         _ => Ok(equal_values(a, b)),
     }
 }
@@ -46,6 +47,7 @@ fn is_same(alloc: Global, a: &Value, b: &Value) -> Result<bool, AllocError>
 fn same_items(alloc: Global, a: &[Node<Value>], b: &[Node<Value>]) -> Result<bool, AllocError>
     ensures { IfOk result (λ r. r ≡ same_items (plain_items a.now) (plain_items b.now)) }
 {
+    // Not `zip`, which ends with the shorter list.
     let mut others = b;
     for item in a {
         let Some((other, rest)) = others.split_first() else {
@@ -68,6 +70,7 @@ pub(crate) fn differing_key(
 ) -> Result<Option<Name>, AllocError>
     ensures { IfOk result (λ r. option_map (λ n. n.text) r ≡ differing_key [] (plain_entries a.now) (plain_entries b.now)) }
 {
+    // The map and the set are owned here and borrowed by the loop.
     let firsts = first_values(alloc, b)?;
     let mut seen = IndexSet::new(alloc);
     differing_among(alloc, a, b, &firsts, &mut seen)

@@ -1,5 +1,5 @@
 //! Rules on one field.
-ghost use Rattle.std.specs.Prelude.{◌≡◌, ◌&&◌, [], not, map, IfOk, IsTrue, OnOk, option_to_list};
+ghost use Rattle.std.specs.Prelude.{◌≡◌, ◌&&◌, [], not, IfOk, IsTrue, OnOk};
 ghost use Rattle.std.specs.Option.{option_map};
 ghost use Rattle.graphql_names.specs.Node.{content};
 ghost use Rattle.schema_types.specs.SchemaTree.{is_leaf_kind, is_output_kind};
@@ -8,11 +8,10 @@ ghost use Rattle.graphql_schema.specs.SchemaOf.{schema_tree};
 ghost use Rattle.fault_data.specs.FaultView.{fault_of};
 ghost use Rattle.fault_data.specs.Adds.{Adds};
 ghost use Rattle.rule_definitions.specs.Judged.{judged};
-ghost use Rattle.rule_definitions.specs.Uses.{TakerBreaks};
+ghost use Rattle.rule_values.specs.Telling.{Tells};
 ghost use Rattle.rule_values.specs.Wanting.{variables_of};
-ghost use Rattle.rule_document_definitions.specs.Selections.{field_taker};
-ghost use Rattle.rule_document_definitions.specs.Told.{place_or_built_in, places_in};
-ghost use Rattle.rule_selections.specs.Steps.{standing_field, missing_subselection, without_subselection, IsDefined, FieldBreaks};
+ghost use Rattle.rule_selections.specs.Steps.{standing_field, missing_subselection, without_subselection};
+ghost use Rattle.rule_selections.specs.Telling.{AddsTaken, AddsOfField};
 
 use document_typed_selections::Field;
 use graphql_names::{Name, Node};
@@ -43,16 +42,17 @@ fn missing_subselection(
     schema: &Schema,
     parent: &Name,
     field: &Node<Field>,
-) -> Result<Option<Fault>, AllocError>
-    ensures { IfOk result (λ r. map fault_of (option_to_list r) ≡ missing_subselection (judged (schema_tree schema.now)) (standing_field parent.now field.now)) }
+    faults: &mut Vec<Fault>,
+) -> Result<(), AllocError>
+    ensures { OnOk result (Tells faults.old faults.new (missing_subselection (judged (schema_tree schema.now)) (standing_field parent.now field.now))) }
 {
     let selected = field.content();
     if !selected.selection_set.is_empty() {
-        return Ok(None);
+        return Ok(());
     }
     match kind_named(schema, selected.ty().inner_named_type()) {
-        Some(kind) if is_composite(kind) => Ok(Some(told_missing(parent, field, kind)?)),
-        _ => Ok(None),
+        Some(kind) if is_composite(kind) => tell(faults, Some(told_missing(parent, field, kind)?)),
+        _ => Ok(()),
     }
 }
 
@@ -98,7 +98,7 @@ fn check_defined(
     variables: &DefinedVariables<'_>,
     faults: &mut Vec<Fault>,
 ) -> Result<(), AllocError>
-    ensures { OnOk result (IsDefined (schema_tree schema.now) (standing_field parent.now field.now) → Adds faults.old faults.new (TakerBreaks (place_or_built_in (schema_tree schema.now)) (judged (schema_tree schema.now)) (variables_of variables.now) (field_taker (places_in (schema_tree schema.now)) (standing_field parent.now field.now)))) }
+    ensures { OnOk result (AddsTaken (schema_tree schema.now) (variables_of variables.now) (standing_field parent.now field.now) faults.old faults.new) }
 {
     let selected = field.content();
     if is_without_arguments(selected) {
@@ -125,9 +125,9 @@ pub(crate) fn check_field(
     variables: &DefinedVariables<'_>,
     faults: &mut Vec<Fault>,
 ) -> Result<(), AllocError>
-    ensures { OnOk result (IsDefined (schema_tree schema.now) (standing_field parent.now field.now) → Adds faults.old faults.new (FieldBreaks (schema_tree schema.now) (variables_of variables.now) (standing_field parent.now field.now))) }
+    ensures { OnOk result (AddsOfField (schema_tree schema.now) (variables_of variables.now) (standing_field parent.now field.now) faults.old faults.new) }
 {
-    tell(faults, missing_subselection(schema, parent, field)?)?;
+    missing_subselection(schema, parent, field, faults)?;
     check_given(&field.content().arguments, variables, faults)?;
     check_defined(schema, parent, field, variables, faults)
 }

@@ -1,28 +1,24 @@
 //! Rules on each selection that an operation reaches, under a schema.
-ghost use Rattle.std.specs.Prelude.{◌≡◌, Contains, OnOk};
+ghost use Rattle.std.specs.Prelude.{◌≡◌, OnOk};
 ghost use Rattle.graphql_names.specs.Node.{content};
 ghost use Rattle.graphql_names.specs.Placed.{Place, node_tree};
 ghost use Rattle.schema_types.specs.Plain.{plain};
-ghost use Rattle.schema_types.specs.Addresses.{place_at};
 ghost use Rattle.graphql_schema.specs.SchemaOf.{schema_tree};
 ghost use Rattle.fault_data.specs.Adds.{Adds};
-ghost use Rattle.rule_definitions.specs.Words.{AtSomeIndex};
 ghost use Rattle.rule_definitions.specs.Judged.{judged};
-ghost use Rattle.rule_definitions.specs.Uses.{UsesBreak};
 ghost use Rattle.rule_values.specs.Wanting.{variables_of};
 ghost use Rattle.tree_directives.specs.declared.directive_location.DirectiveLocation.TheVariants as location;
 ghost use Rattle.document_meaning.specs.MeantTree.{MeantDocument, meant};
 ghost use Rattle.document_typed_selections.specs.TypedTree.{typed_selection_tree};
-ghost use Rattle.document_typed_operations.specs.TypedDocument.{typed_fragment_tree, typed_operation_tree};
+ghost use Rattle.document_typed_operations.specs.TypedDocument.{typed_operation_tree};
 ghost use Rattle.document_typing.specs.DocumentView.{meant_by_operation};
 ghost use Rattle.document_typing.specs.Meanings.{meanings};
-ghost use Rattle.document_typing.specs.TypedByPlace.{IsTyped};
 ghost use Rattle.rule_document_definitions.specs.Selected.{selection_location};
 ghost use Rattle.rule_document_definitions.specs.Selections.{SelectionsBreak};
 ghost use Rattle.rule_document_definitions.specs.Told.{places_in};
-ghost use Rattle.rule_document_ground.specs.Reach.{Member, reached_members, reached_fragments_of, IsReachOf};
-ghost use Rattle.rule_selections.specs.Steps.{SelectionBreaks};
+ghost use Rattle.rule_document_ground.specs.Reach.{reached_members, reached_fragments_of, IsReachOf};
 ghost use Rattle.rule_selections.specs.Typed.{ReachesTyped};
+ghost use Rattle.rule_selections.specs.Telling.{member_there, AddsOfSelection, AddsOfSelections, AddsOfFragment, AddsOfFragments};
 
 use crate::fields::check_field;
 use document_typed_operations::{Fragment, Operation};
@@ -55,7 +51,7 @@ fn check_selection(
     variables: &DefinedVariables<'_>,
     faults: &mut Vec<Fault>,
 ) -> Result<(), AllocError>
-    ensures { OnOk result (IsTyped (meanings (plain (schema_tree schema.now))) parent.now.text (meant (typed_selection_tree selection.now)) → Adds faults.old faults.new (SelectionBreaks (schema_tree schema.now) (variables_of variables.now) (parent.now.text, meant (typed_selection_tree selection.now)))) }
+    ensures { OnOk result (AddsOfSelection (schema_tree schema.now) (variables_of variables.now) (member_there parent.now selection.now) faults.old faults.new) }
 {
     let location = location_of(selection);
     check_uses(
@@ -78,7 +74,7 @@ pub(crate) fn check_each_selection(
     variables: &DefinedVariables<'_>,
     faults: &mut Vec<Fault>,
 ) -> Result<(), AllocError>
-    ensures { OnOk result (((e : Member Place) → Contains (reached_members reach.now) e → IsTyped (meanings (plain (schema_tree schema.now))) e.0 e.1) → Adds faults.old faults.new (λ f. AtSomeIndex (reached_members reach.now) (λ i e. SelectionBreaks (schema_tree schema.now) (variables_of variables.now) e f))) }
+    ensures { OnOk result (AddsOfSelections (schema_tree schema.now) (variables_of variables.now) (reached_members reach.now) faults.old faults.new) }
 {
     for (parent, selection) in &reach.selections {
         check_selection(schema, parent, selection, variables, faults)?;
@@ -93,7 +89,7 @@ fn check_fragment(
     variables: &DefinedVariables<'_>,
     faults: &mut Vec<Fault>,
 ) -> Result<(), AllocError>
-    ensures { OnOk result (Adds faults.old faults.new (UsesBreak (place_at (schema_tree schema.now)) (judged (schema_tree schema.now)) (variables_of variables.now) location.FragmentDefinition (typed_fragment_tree (content fragment.now)).directives)) }
+    ensures { OnOk result (AddsOfFragment (schema_tree schema.now) (variables_of variables.now) fragment.now faults.old faults.new) }
 {
     let directives = &fragment.content().directives.0;
     check_uses(
@@ -112,7 +108,7 @@ fn check_fragments(
     variables: &DefinedVariables<'_>,
     faults: &mut Vec<Fault>,
 ) -> Result<(), AllocError>
-    ensures { OnOk result (Adds faults.old faults.new (λ f. AtSomeIndex (reached_fragments_of reach.now) (λ i x. UsesBreak (place_at (schema_tree schema.now)) (judged (schema_tree schema.now)) (variables_of variables.now) location.FragmentDefinition x.directives f))) }
+    ensures { OnOk result (AddsOfFragments (schema_tree schema.now) (variables_of variables.now) (reached_fragments_of reach.now) faults.old faults.new) }
 {
     for index in 0..reach.fragments.len() {
         check_fragment(schema, reach.fragments[index], variables, faults)?;

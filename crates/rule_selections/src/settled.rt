@@ -1,10 +1,11 @@
 //! What replaces the fragments of a document, so that what its operations share is judged once.
 ghost use Rattle.std.specs.Prelude.{IfOk, OnOk, unwrap_or};
 ghost use Rattle.graphql_schema.specs.SchemaOf.{schema_tree};
-ghost use Rattle.document_typed_selections.specs.TypedTree.{typed_selection_tree, typed_set_tree};
+ghost use Rattle.document_typed_selections.specs.TypedTree.{typed_set_tree};
 ghost use Rattle.document_typing.specs.DocumentView.{document_meant};
 ghost use Rattle.rule_document_ground.specs.Reach.{meant_fragments};
-ghost use Rattle.rule_selections.specs.Settled.{fragment_meant, KeepsUnlessQuiet, LeavesOf, StandsInFor, StandIn};
+ghost use Rattle.rule_selections.specs.Settled.{fragment_meant, LeavesOf, StandsInFor, StandIn};
+ghost use Rattle.rule_selections.specs.Telling.{KeepsSelection, StillStandIn};
 
 use crate::quiet::is_quiet;
 use document_typed_operations::{ExecutableDocument, Fragment, FragmentMap};
@@ -22,7 +23,7 @@ fn keep_unless_quiet(
     selection: &Selection,
     kept: &mut SelectionSet,
 ) -> Result<(), AllocError>
-    ensures { OnOk result (KeepsUnlessQuiet (schema_tree schema.now) ty.now.text (typed_selection_tree selection.now) (typed_set_tree kept.old) (typed_set_tree kept.new)) }
+    ensures { OnOk result (KeepsSelection (schema_tree schema.now) ty.now selection.now kept.old kept.new) }
 {
     if !is_quiet(alloc, schema, ty, selection)? {
         kept.push(selection.clone()?)?;
@@ -68,7 +69,7 @@ fn settle(
     name: &Name,
     instead: &mut FragmentMap,
 ) -> Result<(), AllocError>
-    ensures { OnOk result (StandIn (schema_tree schema.now) (meant_fragments fragments.now) (meant_fragments instead.old) → StandIn (schema_tree schema.now) (meant_fragments fragments.now) (meant_fragments instead.new)) }
+    ensures { OnOk result (StillStandIn (schema_tree schema.now) (meant_fragments fragments.now) (meant_fragments instead.old) (meant_fragments instead.new)) }
 {
     let Some(fragment) = fragments.get(name) else {
         return Ok(());

@@ -1,11 +1,11 @@
 //! Rules on `@defer` in an operation. They are not in the specification of October 2021, but in the proposal on incremental
 //! delivery; the directive is judged by its name.
-ghost use Rattle.std.specs.Prelude.{◌≡◌, ◌++◌, flat_map, option_to_list, IfOk, OnOk};
+ghost use Rattle.std.specs.Prelude.{◌≡◌, flat_map, OnOk};
 ghost use Rattle.graphql_names.specs.Placed.{node_tree};
 ghost use Rattle.tree_directives.specs.DirectiveTree.{directive_tree};
 ghost use Rattle.document_typing.specs.DocumentView.{document_meant, operation_meant};
 ghost use Rattle.rule_document_definitions.specs.Defer.{DeferBreaks};
-ghost use Rattle.rule_subscriptions.specs.Broken.{brokens_of, told_by, AddsBroken};
+ghost use Rattle.rule_subscriptions.specs.Broken.{AddsBroken, AddsThese};
 ghost use Rattle.rule_subscriptions.specs.Listed.{deferred_at_root, fragment_deferred, is_conditional, deferred_always, always_deferred};
 ghost use Rattle.rule_always.specs.Lent.{lent, lent_all};
 
@@ -25,15 +25,16 @@ use tree_directives::Directive;
 fn defer_on_root_mutation_or_subscription_field(
     operation: &Node<Operation>,
     directive: &Node<Directive>,
-) -> Option<Breach>
-    ensures { told_by result ≡ deferred_at_root (operation_meant operation.now) (node_tree directive_tree directive.now) }
+    breaches: &mut Vec<Breach>,
+) -> Result<(), AllocError>
+    ensures { OnOk result (AddsThese breaches.old breaches.new (deferred_at_root (operation_meant operation.now) (node_tree directive_tree directive.now))) }
 {
     if directive.content().name.as_str() != "defer" {
-        return None;
+        return Ok(());
     }
     let operation_type = operation.content().operation_type;
     let breach = BuildError::DeferOnRootMutationOrSubscriptionField { operation_type };
-    Some((directive.location(), breach))
+    tell_breach(breaches, Some((directive.location(), breach)))
 }
 
 /// Adds what breaks that rule at a selection at the root: fields may be deferred.
@@ -42,15 +43,14 @@ fn check_root_selection(
     selection: &Selection,
     breaches: &mut Vec<Breach>,
 ) -> Result<(), AllocError>
-    ensures { OnOk result (brokens_of breaches.new ≡ brokens_of breaches.old ++ fragment_deferred (operation_meant operation.now) (lent selection.now)) }
+    ensures { OnOk result (AddsThese breaches.old breaches.new (fragment_deferred (operation_meant operation.now) (lent selection.now))) }
 {
     if selection.as_field().is_some() {
         return Ok(());
     }
     let directives = selection.directives().as_slice();
     for directive in directives {
-        let breach = defer_on_root_mutation_or_subscription_field(operation, directive);
-        tell_breach(breaches, breach)?;
+        defer_on_root_mutation_or_subscription_field(operation, directive, breaches)?;
     }
     Ok(())
 }
@@ -61,7 +61,7 @@ fn check_root_selections(
     roots: &[Selection],
     breaches: &mut Vec<Breach>,
 ) -> Result<(), AllocError>
-    ensures { OnOk result (brokens_of breaches.new ≡ brokens_of breaches.old ++ flat_map (fragment_deferred (operation_meant operation.now)) (lent_all roots.now)) }
+    ensures { OnOk result (AddsThese breaches.old breaches.new (flat_map (fragment_deferred (operation_meant operation.now)) (lent_all roots.now))) }
 {
     for selection in roots {
         check_root_selection(operation, selection, breaches)?;
@@ -82,28 +82,26 @@ fn is_conditional(directive: &Node<Directive>) -> bool
 
 /// DeferInSubscriptionMustBeConditional: a `@defer` that a subscription always reaches is valid only if a condition decides
 /// on it.
-fn defer_in_subscription_must_be_conditional(directive: &Node<Directive>) -> Option<Breach>
-    ensures { told_by result ≡ deferred_always (node_tree directive_tree directive.now) }
+fn defer_in_subscription_must_be_conditional(
+    directive: &Node<Directive>,
+    breaches: &mut Vec<Breach>,
+) -> Result<(), AllocError>
+    ensures { OnOk result (AddsThese breaches.old breaches.new (deferred_always (node_tree directive_tree directive.now))) }
 {
     if directive.content().name.as_str() != "defer" || is_conditional(directive) {
-        return None;
+        return Ok(());
     }
-    Some((
-        directive.location(),
-        BuildError::DeferInSubscriptionMustBeConditional,
-    ))
+    let breach = BuildError::DeferInSubscriptionMustBeConditional;
+    tell_breach(breaches, Some((directive.location(), breach)))
 }
 
 /// Adds what breaks that rule at a selection.
 fn check_always_reached(selection: &Selection, breaches: &mut Vec<Breach>) -> Result<(), AllocError>
-    ensures { OnOk result (brokens_of breaches.new ≡ brokens_of breaches.old ++ always_deferred (lent selection.now)) }
+    ensures { OnOk result (AddsThese breaches.old breaches.new (always_deferred (lent selection.now))) }
 {
     let directives = selection.directives().as_slice();
     for directive in directives {
-        tell_breach(
-            breaches,
-            defer_in_subscription_must_be_conditional(directive),
-        )?;
+        defer_in_subscription_must_be_conditional(directive, breaches)?;
     }
     Ok(())
 }
@@ -113,7 +111,7 @@ fn check_all_always_reached(
     found: &[Selection],
     breaches: &mut Vec<Breach>,
 ) -> Result<(), AllocError>
-    ensures { OnOk result (brokens_of breaches.new ≡ brokens_of breaches.old ++ flat_map always_deferred (lent_all found.now)) }
+    ensures { OnOk result (AddsThese breaches.old breaches.new (flat_map always_deferred (lent_all found.now))) }
 {
     for selection in found {
         check_always_reached(selection, breaches)?;

@@ -11,7 +11,7 @@ ghost use Rattle.document_typing.specs.DocumentView.{document_meant};
 ghost use Rattle.rule_document_definitions.specs.DeferUses.{labels};
 ghost use Rattle.rule_document_definitions.specs.Defer.{LabelsBreak};
 ghost use Rattle.indexmap.specs.IndexMap.{get_by_text};
-ghost use Rattle.rule_subscriptions.specs.Broken.{brokens_of, told_by, AddsBroken};
+ghost use Rattle.rule_subscriptions.specs.Broken.{AddsBroken, AddsThese};
 ghost use Rattle.rule_subscriptions.specs.Labels.{values_meant, label_of, labels_of, labels_at, labels_in, variable_label, label_again, label_breaks, told_again, NotesFirst, NotesLabel};
 ghost use Rattle.rule_always.specs.Lent.{lent};
 ghost use Rattle.rule_subscriptions.specs.Rooted.{operation_set, fragment_set, alone_told};
@@ -132,34 +132,38 @@ fn document_labels(
 }
 
 /// DeferLabelMustNotBeVariable: a label of `@defer` is valid only if it is no variable.
-fn defer_label_must_not_be_variable(label: &Node<Value>) -> Option<Breach>
-    ensures { told_by result ≡ variable_label (node_tree value_tree label.now) }
+fn defer_label_must_not_be_variable(
+    label: &Node<Value>,
+    breaches: &mut Vec<Breach>,
+) -> Result<(), AllocError>
+    ensures { OnOk result (AddsThese breaches.old breaches.new (variable_label (node_tree value_tree label.now))) }
 {
     if label.content().as_variable().is_none() {
-        return None;
+        return Ok(());
     }
-    Some((label.location(), BuildError::DeferLabelMustNotBeVariable))
+    let breach = BuildError::DeferLabelMustNotBeVariable;
+    tell_breach(breaches, Some((label.location(), breach)))
 }
 
 /// DuplicateDeferLabel: a label of `@defer` is valid only if no earlier one is the same string. `first` is the place of the
 /// first of that text, if one is before the label at that place.
 fn duplicate_defer_label(
-    alloc: Global,
+    first: Option<Option<SourceSpan>>,
     text: &str,
     place: Option<SourceSpan>,
-    first: Option<Option<SourceSpan>>,
-) -> Result<Option<Breach>, AllocError>
-    ensures { IfOk result (λ r. told_by r ≡ label_again place text.now first) }
+    breaches: &mut Vec<Breach>,
+) -> Result<(), AllocError>
+    ensures { OnOk result (AddsThese breaches.old breaches.new (label_again place text.now first)) }
 {
     let Some(original_location) = first else {
-        return Ok(None);
+        return Ok(());
     };
-    let label = String::from_str(alloc, text)?;
+    let label = String::from_str(*breaches.allocator(), text)?;
     let breach = BuildError::DuplicateDeferLabel {
         label,
         original_location,
     };
-    Ok(Some((place, breach)))
+    tell_breach(breaches, Some((place, breach)))
 }
 
 /// The place of the first label of each text.
@@ -188,7 +192,7 @@ fn check_string_label(
     places: &mut FirstPlaces,
     breaches: &mut Vec<Breach>,
 ) -> Result<(), AllocError>
-    ensures told { OnOk result (brokens_of breaches.new ≡ brokens_of breaches.old ++ told_again places.old (node_tree value_tree label.now)) }
+    ensures told { OnOk result (AddsThese breaches.old breaches.new (told_again places.old (node_tree value_tree label.now))) }
     ensures noted { OnOk result (NotesLabel places.old places.new (node_tree value_tree label.now)) }
 {
     let Some(text) = label.content().as_str() else {
@@ -197,16 +201,16 @@ fn check_string_label(
     let alloc = *breaches.allocator();
     let place = label.location();
     let first = note_first(alloc, places, text, place)?;
-    tell_breach(breaches, duplicate_defer_label(alloc, text, place, first)?)
+    duplicate_defer_label(first, text, place, breaches)
 }
 
 /// Adds what breaks the rules at each of the labels.
 fn check_each_label(labels: &[Node<Value>], breaches: &mut Vec<Breach>) -> Result<(), AllocError>
-    ensures { OnOk result (brokens_of breaches.new ≡ brokens_of breaches.old ++ each_place label_breaks (values_meant labels.now)) }
+    ensures { OnOk result (AddsThese breaches.old breaches.new (each_place label_breaks (values_meant labels.now))) }
 {
     let mut places = IndexMap::new(*breaches.allocator());
     for label in labels {
-        tell_breach(breaches, defer_label_must_not_be_variable(label))?;
+        defer_label_must_not_be_variable(label, breaches)?;
         check_string_label(label, &mut places, breaches)?;
     }
     Ok(())

@@ -6,7 +6,7 @@ ghost use Rattle.graphql_names.specs.Placed.{node_tree};
 ghost use Rattle.tree_directives.specs.DirectiveTree.{directive_tree};
 ghost use Rattle.document_typing.specs.DocumentView.{document_meant, operation_meant};
 ghost use Rattle.rule_document_definitions.specs.RootFields.{meta_field_names};
-ghost use Rattle.rule_subscriptions.specs.Broken.{brokens_of, told_by};
+ghost use Rattle.rule_subscriptions.specs.Broken.{AddsThese};
 ghost use Rattle.rule_subscriptions.specs.Listed.{root_names, multiple_fields, introspection, conditional, at_root};
 ghost use Rattle.rule_always.specs.Lent.{lent, lent_all};
 ghost use Rattle.rule_subscriptions.specs.Told.{FragmentsUnderOwnNames, AddsSubscription};
@@ -46,15 +46,16 @@ fn field_names(alloc: Global, selections: &[Selection]) -> Result<Vec<Name>, All
 fn subscription_uses_multiple_fields(
     operation: &Node<Operation>,
     fields: Vec<Name>,
-) -> Result<Option<Breach>, AllocError>
-    ensures { IfOk result (λ r. told_by r ≡ multiple_fields (operation_meant operation.now) (map (λ n. n.text) fields.items)) }
+    breaches: &mut Vec<Breach>,
+) -> Result<(), AllocError>
+    ensures { OnOk result (AddsThese breaches.old breaches.new (multiple_fields (operation_meant operation.now) (map (λ n. n.text) fields.items))) }
 {
     if fields.len() <= 1 {
-        return Ok(None);
+        return Ok(());
     }
     let name = operation.content().name.clone()?;
     let breach = BuildError::SubscriptionUsesMultipleFields { name, fields };
-    Ok(Some((operation.location(), breach)))
+    tell_breach(breaches, Some((operation.location(), breach)))
 }
 
 /// Whether a meta-field has that name (sections 4.1 and 4.2).
@@ -69,20 +70,21 @@ fn is_meta_field_name(name: &Name) -> bool
 fn subscription_uses_introspection(
     operation: &Node<Operation>,
     selection: &Selection,
-) -> Result<Option<Breach>, AllocError>
-    ensures { IfOk result (λ r. told_by r ≡ introspection (operation_meant operation.now) (lent selection.now)) }
+    breaches: &mut Vec<Breach>,
+) -> Result<(), AllocError>
+    ensures { OnOk result (AddsThese breaches.old breaches.new (introspection (operation_meant operation.now) (lent selection.now))) }
 {
     let Some(node) = selection.as_field() else {
-        return Ok(None);
+        return Ok(());
     };
     let field = &node.content().name;
     if !is_meta_field_name(field) {
-        return Ok(None);
+        return Ok(());
     }
     let name = operation.content().name.clone()?;
     let field = field.clone()?;
     let breach = BuildError::SubscriptionUsesIntrospection { name, field };
-    Ok(Some((node.location(), breach)))
+    tell_breach(breaches, Some((node.location(), breach)))
 }
 
 /// SubscriptionUsesConditionalSelection: a subscription is valid only if no selection at its root has `@skip` or `@include`
@@ -90,16 +92,17 @@ fn subscription_uses_introspection(
 fn subscription_uses_conditional_selection(
     operation: &Node<Operation>,
     directive: &Node<Directive>,
-) -> Result<Option<Breach>, AllocError>
-    ensures { IfOk result (λ r. told_by r ≡ conditional (operation_meant operation.now) (node_tree directive_tree directive.now)) }
+    breaches: &mut Vec<Breach>,
+) -> Result<(), AllocError>
+    ensures { OnOk result (AddsThese breaches.old breaches.new (conditional (operation_meant operation.now) (node_tree directive_tree directive.now))) }
 {
     let used = directive.content().name.as_str();
     if !(used == "skip" || used == "include") {
-        return Ok(None);
+        return Ok(());
     }
     let name = operation.content().name.clone()?;
     let breach = BuildError::SubscriptionUsesConditionalSelection { name };
-    Ok(Some((directive.location(), breach)))
+    tell_breach(breaches, Some((directive.location(), breach)))
 }
 
 /// Adds what breaks a rule of one selection at the root of a subscription.
@@ -108,14 +111,12 @@ fn check_root_selection(
     selection: &Selection,
     breaches: &mut Vec<Breach>,
 ) -> Result<(), AllocError>
-    ensures { OnOk result (brokens_of breaches.new ≡ brokens_of breaches.old ++ at_root (operation_meant operation.now) (lent selection.now)) }
+    ensures { OnOk result (AddsThese breaches.old breaches.new (at_root (operation_meant operation.now) (lent selection.now))) }
 {
-    let field = subscription_uses_introspection(operation, selection)?;
-    tell_breach(breaches, field)?;
+    subscription_uses_introspection(operation, selection, breaches)?;
     let directives = selection.directives().as_slice();
     for directive in directives {
-        let condition = subscription_uses_conditional_selection(operation, directive)?;
-        tell_breach(breaches, condition)?;
+        subscription_uses_conditional_selection(operation, directive, breaches)?;
     }
     Ok(())
 }
@@ -126,7 +127,7 @@ fn check_root_selections(
     roots: &[Selection],
     breaches: &mut Vec<Breach>,
 ) -> Result<(), AllocError>
-    ensures { OnOk result (brokens_of breaches.new ≡ brokens_of breaches.old ++ flat_map (at_root (operation_meant operation.now)) (lent_all roots.now)) }
+    ensures { OnOk result (AddsThese breaches.old breaches.new (flat_map (at_root (operation_meant operation.now)) (lent_all roots.now))) }
 {
     for selection in roots {
         check_root_selection(operation, selection, breaches)?;
@@ -149,7 +150,6 @@ pub fn check_subscription(
     let alloc = *breaches.allocator();
     let roots = root_selections(alloc, document, operation)?;
     let fields = field_names(alloc, &roots)?;
-    let several = subscription_uses_multiple_fields(operation, fields)?;
-    tell_breach(breaches, several)?;
+    subscription_uses_multiple_fields(operation, fields, breaches)?;
     check_root_selections(operation, &roots, breaches)
 }

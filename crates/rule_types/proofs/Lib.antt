@@ -5,3 +5,4 @@ pub mod RootFaults
 pub mod Whole
 pub mod ExtensionPlaces
 pub mod SeenFacts
+pub mod SameRoots

@@ -1,5 +1,5 @@
 -- Private: leads to `ReferencesBreak` and `EmptyBreaks`. The faults that each rule tells of one place, and those of all of them, in order. The public contract cites the rules alone.
-use Rattle.std.specs.Prelude.{◌≡◌, ℕ, Bool, List, [], ◌∷◌, ◌++◌, map, if◌then◌else◌, find, bytes_eq, codes, flat_map, Option, None, Some}
+use Rattle.std.specs.Prelude.{◌≡◌, ℕ, Bool, false, List, [], ◌∷◌, ◌++◌, map, if◌then◌else◌, find, bytes_eq, codes, flat_map, Option, None, Some}
 use Rattle.std.specs.Option.{option_map, option_map_or}
 use Rattle.graphql_names.specs.NameValue.{NameValue}
 use Rattle.graphql_names.specs.Node.{content}
@@ -112,6 +112,12 @@ same_root o (Some f) p (Some g) = if bytes_eq g.it.it f.it.it then wrong g.it.pl
 
 abbrev pub duplicate_root_operation_type : OperationType → Option ComponentName → OperationType → Option ComponentName → List PlacedFault
 duplicate_root_operation_type o root p again = same_root o (root_tree root) p (root_tree again)
+
+-- whether both roots are there, and the same type
+abbrev pub is_same_root : Option (Given Place (Text Place)) → Option (Given Place (Text Place)) → Bool
+is_same_root None root = false
+is_same_root (Some f) None = false
+is_same_root (Some f) (Some g) = bytes_eq g.it.it f.it.it
 
 -- these, or else those
 abbrev pub or_else : {Y : Type 0} → List Y → List Y → List Y

@@ -10,6 +10,13 @@ use Rattle.tree_type_members.specs.TypeSystemTree.{FieldDefinitionTree, field_de
 use Rattle.tree_type_members.specs.declared.field_definition.FieldDefinition.{FieldDefinition}
 use Rattle.schema_components.specs.Given.{Given, component_name_tree}
 use Rattle.schema_components.specs.declared.component_name.ComponentName.{ComponentName}
+use Rattle.schema_types.specs.SchemaTree.{SchemaTree}
+use Rattle.graphql_schema.specs.SchemaOf.{schema_tree}
+use Rattle.rule_types.specs.declared.judging.Judging.{Judging}
+
+-- the schema that is judged
+abbrev pub schema_of : Judging → SchemaTree Place
+schema_of judging = schema_tree judging.schema.now
 
 -- an argument definition or input field, and all of a list
 abbrev pub input_tree : Node InputValueDefinition → Placed Place (InputValueTree Place)

@@ -1,75 +1,73 @@
 //! Rules on argument definitions and input fields (sections 3.6, 3.10 and 3.13).
 ghost use Rattle.std.specs.Prelude.{◌++◌, [], ◌∷◌, OnOk, flat_map};
 ghost use Rattle.schema_components.specs.Lists.{each_place};
-ghost use Rattle.graphql_schema.specs.SchemaOf.{schema_tree};
 ghost use Rattle.rule_types.specs.Adds.{AddsThese};
 ghost use Rattle.rule_types.specs.NamedWords.{named_words};
 ghost use Rattle.rule_types.specs.Seen.{AreSeen};
 ghost use Rattle.rule_types.specs.FaultLists.{unique_input_value, input_value_faults, argument_faults, arguments_faults};
-ghost use Rattle.rule_types.specs.Trees.{input_tree, input_trees};
+ghost use Rattle.rule_types.specs.Trees.{schema_of, input_tree, input_trees};
 
+use crate::judging::Judging;
 use crate::look_ups::kind_inside;
 use crate::reserved::{Named, reserved_name};
 use crate::types_used::{input_type, undefined_type};
 use fault_data::{DiagnosticData, Fault, tell};
 use graphql_names::{Name, Node, SourceSpan};
-use graphql_schema::Schema;
 use indexmap::IndexMap;
-use std::alloc::{AllocError, Global};
+use std::alloc::AllocError;
 use tree_directives::InputValueDefinition;
 
 /// Tells the faults of the argument definitions of a field or directive.
 pub(crate) fn check_arguments(
-    alloc: Global,
-    schema: &Schema,
+    judging: &Judging<'_>,
     arguments: &[Node<InputValueDefinition>],
     faults: &mut Vec<Fault>,
 ) -> Result<(), AllocError>
-    ensures { OnOk result (AddsThese faults.old faults.new (arguments_faults (schema_tree schema.now) (input_trees arguments.now))) }
+    ensures { OnOk result (AddsThese faults.old faults.new (arguments_faults (schema_of judging.now) (input_trees arguments.now))) }
 {
-    check_each_argument(schema, arguments, faults)?;
-    check_repeats(alloc, arguments, faults)
+    check_each_argument(judging, arguments, faults)?;
+    check_repeats(judging, arguments, faults)
 }
 
 /// Tells the faults of each argument definition.
 fn check_each_argument(
-    schema: &Schema,
+    judging: &Judging<'_>,
     arguments: &[Node<InputValueDefinition>],
     faults: &mut Vec<Fault>,
 ) -> Result<(), AllocError>
-    ensures { OnOk result (AddsThese faults.old faults.new (flat_map (argument_faults (schema_tree schema.now)) (input_trees arguments.now))) }
+    ensures { OnOk result (AddsThese faults.old faults.new (flat_map (argument_faults (schema_of judging.now)) (input_trees arguments.now))) }
 {
     for argument in arguments {
-        check_argument(schema, argument, faults)?;
+        check_argument(judging, argument, faults)?;
     }
     Ok(())
 }
 
 /// Tells the faults of an argument definition.
 fn check_argument(
-    schema: &Schema,
+    judging: &Judging<'_>,
     argument: &Node<InputValueDefinition>,
     faults: &mut Vec<Fault>,
 ) -> Result<(), AllocError>
-    ensures { OnOk result (AddsThese faults.old faults.new (argument_faults (schema_tree schema.now) (input_tree argument.now))) }
+    ensures { OnOk result (AddsThese faults.old faults.new (argument_faults (schema_of judging.now) (input_tree argument.now))) }
 {
     let name = &argument.content().name;
-    check_input_value(schema, name, argument, Named::Argument, faults)
+    check_input_value(judging, name, argument, Named::Argument, faults)
 }
 
 /// Tells the faults of an argument definition or input field of that name.
 pub(crate) fn check_input_value(
-    schema: &Schema,
+    judging: &Judging<'_>,
     name: &Name,
     input: &Node<InputValueDefinition>,
     named: Named,
     faults: &mut Vec<Fault>,
 ) -> Result<(), AllocError>
-    ensures { OnOk result (AddsThese faults.old faults.new (input_value_faults (schema_tree schema.now) name.now.text (named_words named) (input_tree input.now))) }
+    ensures { OnOk result (AddsThese faults.old faults.new (input_value_faults (schema_of judging.now) name.now.text (named_words named) (input_tree input.now))) }
 {
     let content = input.content();
     let ty = content.ty.content();
-    let kind = kind_inside(schema, ty);
+    let kind = kind_inside(judging, ty);
     reserved_name(
         input.is_built_in(),
         name,
@@ -77,19 +75,21 @@ pub(crate) fn check_input_value(
         named.describe(),
         faults,
     )?;
+    // At most one of these two: a type that is not there has no kind.
     undefined_type(ty, kind, faults)?;
     input_type(input, kind, faults)
 }
 
 /// Tells each argument definition of which an earlier one has the name.
+// Input fields need no such rule: folding tells those, and keeps the first.
 fn check_repeats(
-    alloc: Global,
+    judging: &Judging<'_>,
     arguments: &[Node<InputValueDefinition>],
     faults: &mut Vec<Fault>,
 ) -> Result<(), AllocError>
     ensures { OnOk result (AddsThese faults.old faults.new (each_place unique_input_value (input_trees arguments.now))) }
 {
-    let mut seen = IndexMap::new(alloc);
+    let mut seen = IndexMap::new(judging.alloc);
     for argument in arguments {
         unique_input_value(&seen, argument, faults)?;
         see(&mut seen, argument)?;
@@ -114,6 +114,7 @@ fn unique_input_value(
             tell(
                 faults,
                 Some(Fault {
+                    // At the first definition, once for each later one of its name.
                     location: first,
                     data: DiagnosticData::UniqueInputValue {
                         name: name.clone()?,

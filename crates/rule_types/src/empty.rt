@@ -6,6 +6,7 @@ ghost use Rattle.schema_types.specs.TypeView.{extended_type};
 ghost use Rattle.schema_components.specs.Given.{place_of};
 ghost use Rattle.rule_types.specs.FaultLists.{empty_field_set, empty_member_set, empty_value_set, empty_input_value_set};
 
+use crate::judging::Judging;
 use fault_data::{DiagnosticData, Fault, tell};
 use graphql_names::{Name, SourceSpan};
 use indexmap::{IndexMap, IndexSet};
@@ -17,7 +18,7 @@ use tree_type_members::{EnumValueDefinition, FieldDefinition};
 
 /// EmptyFieldSet: an object or interface type is valid only if it has a field (sections 3.6 and 3.7).
 pub(crate) fn empty_field_set(
-    alloc: Global,
+    judging: &Judging<'_>,
     name: &Name,
     ty: &ExtendedType,
     fields: &IndexMap<Name, Component<FieldDefinition>>,
@@ -28,7 +29,7 @@ pub(crate) fn empty_field_set(
     if !fields.is_empty() {
         return Ok(());
     }
-    let extensions_locations = extension_places(alloc, ty)?;
+    let extensions_locations = extension_places(judging.alloc, ty)?;
     let type_name = name.clone()?;
     tell(
         faults,
@@ -45,7 +46,7 @@ pub(crate) fn empty_field_set(
 
 /// EmptyMemberSet: a union type is valid only if it has a member (section 3.8).
 pub(crate) fn empty_member_set(
-    alloc: Global,
+    judging: &Judging<'_>,
     name: &Name,
     ty: &ExtendedType,
     members: &IndexSet<ComponentName>,
@@ -56,7 +57,7 @@ pub(crate) fn empty_member_set(
     if !members.is_empty() {
         return Ok(());
     }
-    let extensions_locations = extension_places(alloc, ty)?;
+    let extensions_locations = extension_places(judging.alloc, ty)?;
     let type_name = name.clone()?;
     tell(
         faults,
@@ -73,7 +74,7 @@ pub(crate) fn empty_member_set(
 
 /// EmptyValueSet: an enum type is valid only if it has a value (section 3.9).
 pub(crate) fn empty_value_set(
-    alloc: Global,
+    judging: &Judging<'_>,
     name: &Name,
     ty: &ExtendedType,
     values: &IndexMap<Name, Component<EnumValueDefinition>>,
@@ -84,7 +85,7 @@ pub(crate) fn empty_value_set(
     if !values.is_empty() {
         return Ok(());
     }
-    let extensions_locations = extension_places(alloc, ty)?;
+    let extensions_locations = extension_places(judging.alloc, ty)?;
     let type_name = name.clone()?;
     tell(
         faults,
@@ -101,7 +102,7 @@ pub(crate) fn empty_value_set(
 
 /// EmptyInputValueSet: an input object type is valid only if it has a field (section 3.10).
 pub(crate) fn empty_input_value_set(
-    alloc: Global,
+    judging: &Judging<'_>,
     name: &Name,
     ty: &ExtendedType,
     fields: &IndexMap<Name, Component<InputValueDefinition>>,
@@ -112,7 +113,7 @@ pub(crate) fn empty_input_value_set(
     if !fields.is_empty() {
         return Ok(());
     }
-    let extensions_locations = extension_places(alloc, ty)?;
+    let extensions_locations = extension_places(judging.alloc, ty)?;
     let type_name = name.clone()?;
     tell(
         faults,

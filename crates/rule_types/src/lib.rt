@@ -10,6 +10,7 @@
 mod arguments;
 mod check;
 mod empty;
+mod judging;
 mod look_ups;
 mod members;
 mod reserved;

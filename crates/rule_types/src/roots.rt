@@ -1,47 +1,46 @@
 //! Rules on the root operations (section 3.3.1).
-ghost use Rattle.std.specs.Prelude.{◌≡◌, map, IfOk, OnOk, option_to_list};
+ghost use Rattle.std.specs.Prelude.{◌≡◌, OnOk};
 ghost use Rattle.graphql_names.specs.Placed.{name_tree};
 ghost use Rattle.schema_types.specs.TypeView.{schema_roots};
-ghost use Rattle.graphql_schema.specs.SchemaOf.{schema_tree};
-ghost use Rattle.fault_data.specs.FaultView.{fault_of};
 ghost use Rattle.rule_types.specs.Adds.{AddsThese};
-ghost use Rattle.rule_types.specs.FaultLists.{query_root_operation_type, root_operation_object_type, duplicate_root_operation_type, subscription_again, repeated_roots, root_faults, roots_faults};
-ghost use Rattle.rule_types.specs.Trees.{root_tree};
+ghost use Rattle.rule_types.specs.FaultLists.{query_root_operation_type, root_operation_object_type, duplicate_root_operation_type, is_same_root, subscription_again, repeated_roots, root_faults, roots_faults};
+ghost use Rattle.rule_types.specs.Trees.{schema_of, root_tree};
 
+use crate::judging::Judging;
 use crate::look_ups::kind_named;
 use crate::types_used::undefined_name;
 use fault_data::{DiagnosticData, Fault, tell};
 use graphql_names::{Name, Node};
-use graphql_schema::Schema;
 use schema_components::ComponentName;
 use schema_types::{SchemaDefinition, TypeKind};
 use std::alloc::AllocError;
 use tree_operations::OperationType;
 
 /// Tells the faults of the roots.
-pub(crate) fn check_roots(schema: &Schema, faults: &mut Vec<Fault>) -> Result<(), AllocError>
-    ensures { OnOk result (AddsThese faults.old faults.new (roots_faults (schema_tree schema.now))) }
+pub(crate) fn check_roots(judging: &Judging<'_>, faults: &mut Vec<Fault>) -> Result<(), AllocError>
+    ensures { OnOk result (AddsThese faults.old faults.new (roots_faults (schema_of judging.now))) }
 {
-    let definition = schema.schema_definition.content();
-    query_root_operation_type(&schema.schema_definition, faults)?;
-    check_root(schema, &definition.query, faults)?;
-    check_root(schema, &definition.mutation, faults)?;
-    check_root(schema, &definition.subscription, faults)?;
-    check_repeats(&schema.schema_definition, faults)
+    let definition = &judging.schema.schema_definition;
+    let roots = definition.content();
+    query_root_operation_type(definition, faults)?;
+    check_root(judging, &roots.query, faults)?;
+    check_root(judging, &roots.mutation, faults)?;
+    check_root(judging, &roots.subscription, faults)?;
+    check_repeats(definition, faults)
 }
 
 /// Tells the faults of a root, if it is there.
 fn check_root(
-    schema: &Schema,
+    judging: &Judging<'_>,
     root: &Option<ComponentName>,
     faults: &mut Vec<Fault>,
 ) -> Result<(), AllocError>
-    ensures { OnOk result (AddsThese faults.old faults.new (root_faults (schema_tree schema.now) (root_tree root.now))) }
+    ensures { OnOk result (AddsThese faults.old faults.new (root_faults (schema_of judging.now) (root_tree root.now))) }
 {
     match root {
         None => Ok(()),
         Some(root) => {
-            let kind = kind_named(schema, &root.name);
+            let kind = kind_named(judging, &root.name);
             undefined_name(&root.name, kind, faults)?;
             root_operation_object_type(&root.name, kind, faults)
         }
@@ -56,16 +55,14 @@ fn check_repeats(
     ensures { OnOk result (AddsThese faults.old faults.new (repeated_roots (schema_roots definition.now))) }
 {
     let roots = definition.content();
-    tell(
+    duplicate_root_operation_type(
+        OperationType::Query,
+        &roots.query,
+        OperationType::Mutation,
+        &roots.mutation,
         faults,
-        duplicate_root_operation_type(
-            OperationType::Query,
-            &roots.query,
-            OperationType::Mutation,
-            &roots.mutation,
-        )?,
     )?;
-    tell(faults, subscription_again(definition)?)
+    check_subscription(definition, faults)
 }
 
 /// QueryRootOperationType: a schema is valid only if it has a root for queries (section 3.3.1).
@@ -122,47 +119,67 @@ fn duplicate_root_operation_type(
     original: &Option<ComponentName>,
     redefined_operation: OperationType,
     redefined: &Option<ComponentName>,
-) -> Result<Option<Fault>, AllocError>
-    ensures { IfOk result (λ r. map fault_of (option_to_list r) ≡ duplicate_root_operation_type original_operation original.now redefined_operation redefined.now) }
+    faults: &mut Vec<Fault>,
+) -> Result<(), AllocError>
+    ensures { OnOk result (AddsThese faults.old faults.new (duplicate_root_operation_type original_operation original.now redefined_operation redefined.now)) }
 {
     match (original, redefined) {
         (Some(original), Some(redefined)) => {
-            if redefined.name.as_str() == original.name.as_str() {
-                return Ok(Some(Fault {
+            if redefined.name.as_str() != original.name.as_str() {
+                return Ok(());
+            }
+            let name = redefined.name.clone()?;
+            tell(
+                faults,
+                Some(Fault {
                     location: redefined.name.location(),
                     data: DiagnosticData::DuplicateRootOperationType {
-                        name: redefined.name.clone()?,
+                        name,
                         original_operation,
                         original_definition: original.name.location(),
                         redefined_operation,
                         redefined_definition: redefined.name.location(),
                     },
-                }));
-            }
-            Ok(None)
+                }),
+            )
         }
-        _ => Ok(None),
+        _ => Ok(()),
     }
 }
 
-/// The root of subscriptions, where that of queries or else that of mutations is the same type.
-fn subscription_again(definition: &Node<SchemaDefinition>) -> Result<Option<Fault>, AllocError>
-    ensures { IfOk result (λ r. map fault_of (option_to_list r) ≡ subscription_again (schema_roots definition.now)) }
+/// Tells the root of subscriptions, where that of queries or else that of mutations is the same type.
+fn check_subscription(
+    definition: &Node<SchemaDefinition>,
+    faults: &mut Vec<Fault>,
+) -> Result<(), AllocError>
+    ensures { OnOk result (AddsThese faults.old faults.new (subscription_again (schema_roots definition.now))) }
 {
     let roots = definition.content();
-    let of_queries = duplicate_root_operation_type(
-        OperationType::Query,
-        &roots.query,
-        OperationType::Subscription,
-        &roots.subscription,
-    )?;
-    match of_queries {
-        Some(fault) => Ok(Some(fault)),
-        None => duplicate_root_operation_type(
-            OperationType::Mutation,
-            &roots.mutation,
+    // Where all three roots are one type, two faults are told and not three.
+    if is_same_root(&roots.query, &roots.subscription) {
+        return duplicate_root_operation_type(
+            OperationType::Query,
+            &roots.query,
             OperationType::Subscription,
             &roots.subscription,
-        ),
+            faults,
+        );
+    }
+    duplicate_root_operation_type(
+        OperationType::Mutation,
+        &roots.mutation,
+        OperationType::Subscription,
+        &roots.subscription,
+        faults,
+    )
+}
+
+/// Whether both roots are there, and the same type.
+fn is_same_root(a: &Option<ComponentName>, b: &Option<ComponentName>) -> bool
+    ensures { result ≡ is_same_root (root_tree a.now) (root_tree b.now) }
+{
+    match (a, b) {
+        (Some(a), Some(b)) => b.name.as_str() == a.name.as_str(),
+        _ => false,
     }
 }

@@ -52,6 +52,7 @@ pub(crate) fn undefined_type(
         Some(_) => Ok(()),
         None => {
             let name = ty.inner_named_type();
+            // A schema may lack a built-in scalar to which nothing referred before: validation puts it back.
             if is_scalar_name(name.as_str()) {
                 return Ok(());
             }

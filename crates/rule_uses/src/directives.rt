@@ -1,5 +1,5 @@
 //! Directives that are used at one place.
-ghost use Rattle.std.specs.Prelude.{◌≡◌, ◌⊎◌, ◌↔◌, ◌∷◌, [], IfOk, IsTrue, OnOk, Some, Contains};
+ghost use Rattle.std.specs.Prelude.{◌≡◌, ◌⊎◌, ◌↔◌, ◌∷◌, [], IsTrue, OnOk, Some, Contains};
 ghost use Rattle.std.specs.Option.{option_map};
 ghost use Rattle.graphql_names.specs.Node.{content, place};
 ghost use Rattle.graphql_names.specs.Placed.{node_tree};
@@ -7,7 +7,6 @@ ghost use Rattle.tree_directives.specs.DirectiveTree.{directive_tree, directive_
 ghost use Rattle.tree_directives.specs.declared.directive_location.DirectiveLocation.{DirectiveLocation};
 ghost use Rattle.rule_values.specs.in_schema.in_schema_types.Addresses.{directive_definition_at};
 ghost use Rattle.rule_values.specs.in_schema.SchemaOf.{schema_tree};
-ghost use Rattle.rule_values.specs.in_fault_data.FaultView.{fault_of};
 ghost use Rattle.rule_values.specs.in_rule_definitions.Names.{directive_name};
 ghost use Rattle.rule_values.specs.in_fault_data.Adds.{Adds};
 ghost use Rattle.rule_values.specs.Firsts.{AreFirsts};
@@ -17,9 +16,10 @@ ghost use Rattle.rule_uses.specs.AddedFaults.{AddsUsesFaults};
 ghost use Rattle.rule_uses.specs.Trees.{directives_of, tree_of};
 ghost use Rattle.rule_uses.specs.UseFaults.{undefined_directive};
 ghost use Rattle.rule_uses.specs.Alone.{DirectiveAloneBreaks, DirectivesAloneBreak};
-ghost use Rattle.rule_uses.specs.Telling.{fault_list, TellsUnsupported, directive_used_again, repeated_directives_of, BreaksItsDefinition, OneUseBreaks, SomeUseBreaks, UndefinedUseBreaks, AddsUndefinedUses};
+ghost use Rattle.rule_uses.specs.Telling.{schema_of, AddsUnsupported, directive_used_again, repeated_directives_of, BreaksItsDefinition, OneUseBreaks, SomeUseBreaks, UndefinedUseBreaks, AddsUndefinedUses};
 
 use crate::given::{check_arguments_alone, check_given, check_variables_given};
+use crate::judging::Judging;
 use crate::taken::check_taken;
 use crate::taker::{Taker, TakerName};
 use graphql_names::{Name, Node, SourceSpan};
@@ -36,13 +36,16 @@ fn find_definition<'a>(schema: &'a Schema, name: &Name) -> Option<&'a Node<Direc
 }
 
 /// UndefinedDirective: a use of a directive is valid only if the directive is defined (section 5.7.1). This one is not.
-fn undefined_directive(directive: &Node<Directive>) -> Result<Fault, AllocError>
-    ensures { IfOk result (λ r. fault_of r ≡ undefined_directive (node_tree directive_tree directive.now)) }
+fn undefined_directive(
+    directive: &Node<Directive>,
+    faults: &mut Vec<Fault>,
+) -> Result<(), AllocError>
+    ensures { OnOk result (Tells faults.old faults.new (undefined_directive (node_tree directive_tree directive.now) ∷ [])) }
 {
     let name = directive.content().name.clone()?;
     let location = directive.location();
     let data = DiagnosticData::UndefinedDirective { name };
-    Ok(Fault { location, data })
+    tell(faults, Some(Fault { location, data }))
 }
 
 /// Whether the location is among these.
@@ -57,12 +60,13 @@ fn unsupported_location(
     directive: &Node<Directive>,
     definition: &Node<DirectiveDefinition>,
     location: DirectiveLocation,
-) -> Result<Option<Fault>, AllocError>
-    ensures { IfOk result (λ r. TellsUnsupported definition.now location directive.now (fault_list r)) }
+    faults: &mut Vec<Fault>,
+) -> Result<(), AllocError>
+    ensures { OnOk result (AddsUnsupported definition.now location directive.now faults.old faults.new) }
 {
     let supported = &definition.content().locations;
     if has_location(supported, location) {
-        return Ok(None);
+        return Ok(());
     }
     let valid_locations = supported.clone()?;
     let data = DiagnosticData::UnsupportedLocation {
@@ -71,10 +75,12 @@ fn unsupported_location(
         valid_locations,
         definition_location: definition.location(),
     };
-    Ok(Some(Fault {
-        location: directive.location(),
+    let place = directive.location();
+    let fault = Fault {
+        location: place,
         data,
-    }))
+    };
+    tell(faults, Some(fault))
 }
 
 /// UniqueDirective: a use of a directive that is not repeatable is valid only if the directive has no other use at that
@@ -83,25 +89,26 @@ fn unique_directive(
     schema: &Schema,
     first: Option<Option<SourceSpan>>,
     later: &Node<Directive>,
-) -> Result<Option<Fault>, AllocError>
-    ensures { IfOk result (λ r. fault_list r ≡ directive_used_again schema.now first later.now) }
+    faults: &mut Vec<Fault>,
+) -> Result<(), AllocError>
+    ensures { OnOk result (Tells faults.old faults.new (directive_used_again schema.now first later.now)) }
 {
     let name = &later.content().name;
     let Some(definition) = find_definition(schema, name) else {
-        return Ok(None);
+        return Ok(());
     };
     if definition.content().repeatable {
-        return Ok(None);
+        return Ok(());
     }
     let Some(original_application) = first else {
-        return Ok(None);
+        return Ok(());
     };
     let data = DiagnosticData::UniqueDirective {
         name: name.clone()?,
         original_application,
     };
     let location = later.location();
-    Ok(Some(Fault { location, data }))
+    tell(faults, Some(Fault { location, data }))
 }
 
 /// Adds a fault for each directive that is not repeatable and is used before.
@@ -132,25 +139,23 @@ fn tell_directives_again(
     for directive in directives {
         let name = &directive.content().name;
         let first = note_first(places, name, directive.location())?;
-        tell(faults, unique_directive(schema, first, directive)?)?;
+        unique_directive(schema, first, directive, faults)?;
     }
     Ok(())
 }
 
 /// Adds the faults of the use of a directive by its definition.
 fn check_defined_use(
-    schema: &Schema,
+    judging: &Judging<'_>,
     directive: &Node<Directive>,
     definition: &Node<DirectiveDefinition>,
     location: DirectiveLocation,
-    variables: &DefinedVariables<'_>,
     faults: &mut Vec<Fault>,
 ) -> Result<(), AllocError>
-    requires { directive_definition_at (schema_tree schema.now) (content directive.now).name.text ≡ Some (node_tree directive_definition_tree definition.now) }
-    ensures { OnOk result (Adds faults.old faults.new (BreaksItsDefinition schema.now variables.now location directive.now definition.now)) }
+    requires { directive_definition_at (schema_of judging.now) (content directive.now).name.text ≡ Some (node_tree directive_definition_tree definition.now) }
+    ensures { OnOk result (Adds faults.old faults.new (BreaksItsDefinition judging.now location directive.now definition.now)) }
 {
-    let fault = unsupported_location(directive, definition, location)?;
-    tell(faults, fault)?;
+    unsupported_location(directive, definition, location, faults)?;
     let place = directive.location();
     let used = directive.content();
     let taker = Taker {
@@ -160,44 +165,37 @@ fn check_defined_use(
         definition_location: place,
         name: TakerName::OfDirective(&used.name),
     };
-    check_taken(schema, &taker, variables, faults)
+    check_taken(judging.schema, &taker, judging.variables, faults)
 }
 
 /// Adds the faults of one use of a directive.
 fn check_use(
-    schema: &Schema,
+    judging: &Judging<'_>,
     directive: &Node<Directive>,
     location: DirectiveLocation,
-    variables: &DefinedVariables<'_>,
     faults: &mut Vec<Fault>,
 ) -> Result<(), AllocError>
-    ensures { OnOk result (Adds faults.old faults.new (OneUseBreaks schema.now variables.now location directive.now)) }
+    ensures { OnOk result (Adds faults.old faults.new (OneUseBreaks judging.now location directive.now)) }
 {
     let used = directive.content();
-    check_given(&used.arguments, variables, faults)?;
-    match find_definition(schema, &used.name) {
-        None => {
-            let fault = undefined_directive(directive)?;
-            tell(faults, Some(fault))
-        }
-        Some(definition) => check_defined_use(
-            schema, directive, definition, location, variables, faults,
-        ),
+    check_given(&used.arguments, judging.variables, faults)?;
+    match find_definition(judging.schema, &used.name) {
+        None => undefined_directive(directive, faults),
+        Some(definition) => check_defined_use(judging, directive, definition, location, faults),
     }
 }
 
 /// Adds the faults of each use.
 fn check_each_use(
-    schema: &Schema,
+    judging: &Judging<'_>,
     directives: &[Node<Directive>],
     location: DirectiveLocation,
-    variables: &DefinedVariables<'_>,
     faults: &mut Vec<Fault>,
 ) -> Result<(), AllocError>
-    ensures { OnOk result (Adds faults.old faults.new (SomeUseBreaks schema.now variables.now location directives.now)) }
+    ensures { OnOk result (Adds faults.old faults.new (SomeUseBreaks judging.now location directives.now)) }
 {
     for directive in directives {
-        check_use(schema, directive, location, variables, faults)?;
+        check_use(judging, directive, location, faults)?;
     }
     Ok(())
 }
@@ -214,7 +212,8 @@ pub fn check_uses(
     ensures { OnOk result (AddsUsesFaults (schema_tree schema.now) (variables_of variables.now) location (directives_of directives.now) faults.old faults.new) }
 {
     tell_repeated_directives(schema, directives, faults)?;
-    check_each_use(schema, directives, location, variables, faults)
+    let judging = Judging { schema, variables };
+    check_each_use(&judging, directives, location, faults)
 }
 
 /// Adds the faults of the use of a directive where none is defined, without variables.
@@ -225,8 +224,7 @@ fn check_directive_alone(
     ensures { OnOk result (Adds faults.old faults.new (DirectiveAloneBreaks (node_tree directive_tree directive.now))) }
 {
     check_arguments_alone(&directive.content().arguments, faults)?;
-    let fault = undefined_directive(directive)?;
-    tell(faults, Some(fault))
+    undefined_directive(directive, faults)
 }
 
 /// Adds the faults of the rules on the use of directives that hold where nothing is known, neither a schema nor variables:

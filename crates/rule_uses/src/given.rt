@@ -1,15 +1,16 @@
 //! Arguments that are given, defined or not.
-ghost use Rattle.std.specs.Prelude.{◌≡◌, ◌++◌, ◌⊎◌, [], map, find, IfOk, OnOk, option_to_list};
+ghost use Rattle.std.specs.Prelude.{◌≡◌, ◌++◌, ◌⊎◌, [], find, IfOk, OnOk};
 ghost use Rattle.std.specs.Option.{option_map};
 ghost use Rattle.graphql_names.specs.Placed.{node_tree};
 ghost use Rattle.tree_directives.specs.DirectiveTree.{argument_tree};
 ghost use Rattle.tree_directives.specs.DirectiveQueries.{argument_has_name};
 ghost use Rattle.schema_components.specs.Lists.{each_place};
-ghost use Rattle.rule_values.specs.in_fault_data.FaultView.{fault_of, faults_of};
+ghost use Rattle.rule_values.specs.in_fault_data.FaultView.{faults_of};
 ghost use Rattle.rule_values.specs.in_rule_definitions.Names.{argument_name};
 ghost use Rattle.rule_values.specs.in_fault_data.Adds.{Adds};
 ghost use Rattle.rule_values.specs.Firsts.{AreFirsts, AreNumbers};
 ghost use Rattle.rule_values.specs.Wanting.{variables_of};
+ghost use Rattle.rule_values.specs.Telling.{Tells};
 ghost use Rattle.rule_uses.specs.AddedFaults.{AddsGivenFaults};
 ghost use Rattle.rule_uses.specs.Trees.{arguments_of};
 ghost use Rattle.rule_uses.specs.UseFaults.{argument_again, repeated_argument};
@@ -59,11 +60,12 @@ pub(crate) fn find_argument<'a>(
 fn unique_argument(
     first: Option<Option<SourceSpan>>,
     later: &Node<Argument>,
-) -> Result<Option<Fault>, AllocError>
-    ensures { IfOk result (λ r. map fault_of (option_to_list r) ≡ argument_again first (node_tree argument_tree later.now)) }
+    faults: &mut Vec<Fault>,
+) -> Result<(), AllocError>
+    ensures { OnOk result (Tells faults.old faults.new (argument_again first (node_tree argument_tree later.now))) }
 {
     let Some(original_definition) = first else {
-        return Ok(None);
+        return Ok(());
     };
     let location = later.location();
     let data = DiagnosticData::UniqueArgument {
@@ -71,7 +73,7 @@ fn unique_argument(
         original_definition,
         redefined_definition: location,
     };
-    Ok(Some(Fault { location, data }))
+    tell(faults, Some(Fault { location, data }))
 }
 
 /// Adds a fault for each argument that is given before.
@@ -100,7 +102,7 @@ fn tell_arguments_again(
     for argument in given {
         let name = &argument.content().name;
         let first = note_first(places, name, argument.location())?;
-        tell(faults, unique_argument(first, argument)?)?;
+        unique_argument(first, argument, faults)?;
     }
     Ok(())
 }

@@ -10,6 +10,7 @@
 
 mod directives;
 mod given;
+mod judging;
 pub mod laws;
 mod schema_uses;
 mod taken;

@@ -9,7 +9,6 @@ ghost use Rattle.tree_directives.specs.DirectiveQueries.{input_value_has_name, g
 ghost use Rattle.schema_components.specs.Names.{same_text};
 ghost use Rattle.rule_values.specs.in_schema.in_schema_types.TypeView.{name_text};
 ghost use Rattle.rule_values.specs.in_schema.SchemaOf.{schema_tree};
-ghost use Rattle.rule_values.specs.in_fault_data.FaultView.{fault_of};
 ghost use Rattle.rule_values.specs.in_rule_definitions.GivenValues.{is_absent_or_null};
 ghost use Rattle.rule_values.specs.in_rule_definitions.Names.{argument_name, input_name};
 ghost use Rattle.rule_values.specs.in_fault_data.Adds.{Adds};
@@ -19,9 +18,10 @@ ghost use Rattle.rule_values.specs.Telling.{Tells};
 ghost use Rattle.rule_uses.specs.AddedFaults.{AddsTakerFaults};
 ghost use Rattle.rule_uses.specs.Trees.{arguments_of, taker_of};
 ghost use Rattle.rule_uses.specs.UseFaults.{required_argument};
-ghost use Rattle.rule_uses.specs.Telling.{fault_list, undefined_argument_of, told_undefined, undefined_arguments_of, told_required, required_arguments_of, BreaksDefinition, BreaksIfDefined, SomeGivenBreaks};
+ghost use Rattle.rule_uses.specs.Telling.{schema_of, variables_in, undefined_argument_of, undefined_arguments_of, required_arguments_of, BreaksDefinition, BreaksIfDefined, SomeGivenBreaks};
 
 use crate::given::{argument_numbers, find_argument};
+use crate::judging::Judging;
 use crate::taker::Taker;
 use crate::usage::disallowed_variable_usage;
 use graphql_names::{Name, Node};
@@ -64,29 +64,23 @@ fn undefined_argument(
     taker: &Taker<'_>,
     defined: &IndexMap<Name, usize>,
     argument: &Node<Argument>,
-) -> Result<Option<Fault>, AllocError>
+    faults: &mut Vec<Fault>,
+) -> Result<(), AllocError>
     requires { AreNumbers input_name defined.now (input_value_trees taker.now.definitions.now) }
-    ensures { IfOk result (λ r. fault_list r ≡ undefined_argument_of taker.now argument.now) }
+    ensures { OnOk result (Tells faults.old faults.new (undefined_argument_of taker.now argument.now)) }
 {
     let name = &argument.content().name;
-    match find_definition(taker.definitions, defined, name) {
-        Some(_) => Ok(None),
-        None => Ok(Some(told_undefined(taker, argument)?)),
+    if find_definition(taker.definitions, defined, name).is_some() {
+        return Ok(());
     }
-}
-
-/// What is told of an argument that is not defined.
-fn told_undefined(taker: &Taker<'_>, argument: &Node<Argument>) -> Result<Fault, AllocError>
-    ensures { IfOk result (λ r. fault_of r ≡ told_undefined taker.now argument.now) }
-{
-    let name = argument.content().name.clone()?;
+    let name = name.clone()?;
     let data = DiagnosticData::UndefinedArgument {
         name,
         coordinate: taker.name.coordinate()?,
         definition_location: taker.definition_location,
     };
     let location = argument.location();
-    Ok(Fault { location, data })
+    tell(faults, Some(Fault { location, data }))
 }
 
 /// Adds a fault for each argument that is given and not defined.
@@ -99,7 +93,7 @@ fn tell_undefined_arguments(
     ensures { OnOk result (Tells faults.old faults.new (undefined_arguments_of taker.now)) }
 {
     for argument in taker.given {
-        tell(faults, undefined_argument(taker, defined, argument)?)?;
+        undefined_argument(taker, defined, argument, faults)?;
     }
     Ok(())
 }
@@ -121,35 +115,25 @@ fn required_argument(
     taker: &Taker<'_>,
     given: &IndexMap<Name, usize>,
     definition: &Node<InputValueDefinition>,
-) -> Result<Option<Fault>, AllocError>
+    faults: &mut Vec<Fault>,
+) -> Result<(), AllocError>
     requires { AreNumbers argument_name given.now (arguments_of taker.now.given.now) }
-    ensures { IfOk result (λ r. fault_list r ≡ required_argument (taker_of taker.now) (node_tree input_value_tree definition.now)) }
-{
-    let name = &definition.content().name;
-    if !(definition.content().is_required() && is_not_given(taker.given, given, name)) {
-        return Ok(None);
-    }
-    Ok(Some(told_required(taker, definition)?))
-}
-
-/// What is told of a required argument that is not given.
-fn told_required(
-    taker: &Taker<'_>,
-    definition: &Node<InputValueDefinition>,
-) -> Result<Fault, AllocError>
-    ensures { IfOk result (λ r. fault_of r ≡ told_required taker.now definition.now) }
+    ensures { OnOk result (Tells faults.old faults.new (required_argument (taker_of taker.now) (node_tree input_value_tree definition.now))) }
 {
     let defined = definition.content();
+    if !(defined.is_required() && is_not_given(taker.given, given, &defined.name)) {
+        return Ok(());
+    }
+    let coordinate = taker.name.argument_coordinate(&defined.name)?;
     let expected_type = defined.ty.clone()?;
-    let name = defined.name.clone()?;
     let data = DiagnosticData::RequiredArgument {
-        name,
-        coordinate: taker.name.argument_coordinate(&defined.name)?,
+        name: defined.name.clone()?,
+        coordinate,
         expected_type,
         definition_location: definition.location(),
     };
     let location = taker.location;
-    Ok(Fault { location, data })
+    tell(faults, Some(Fault { location, data }))
 }
 
 /// Adds a fault for each required argument that is not given.
@@ -162,44 +146,48 @@ fn tell_required_arguments(
     ensures { OnOk result (Tells faults.old faults.new (required_arguments_of taker.now)) }
 {
     for definition in taker.definitions {
-        tell(faults, required_argument(taker, given, definition)?)?;
+        required_argument(taker, given, definition, faults)?;
     }
     Ok(())
 }
 
 /// Adds the faults of what is given for an argument by its definition: DisallowedVariableUsage, and the rules on values.
 fn check_argument(
-    schema: &Schema,
+    judging: &Judging<'_>,
     argument: &Node<Argument>,
     definition: &Node<InputValueDefinition>,
-    variables: &DefinedVariables<'_>,
     faults: &mut Vec<Fault>,
 ) -> Result<(), AllocError>
-    ensures { OnOk result (Adds faults.old faults.new (BreaksDefinition schema.now variables.now definition.now argument.now)) }
+    ensures { OnOk result (Adds faults.old faults.new (BreaksDefinition judging.now definition.now argument.now)) }
 {
     let defined = definition.content();
-    let fault = disallowed_variable_usage(argument, defined, variables)?;
+    let fault = disallowed_variable_usage(argument, defined, judging.variables)?;
     tell(faults, fault)?;
     let value = &argument.content().value;
-    type_breaks(schema, &defined.ty, value, variables, faults)
+    type_breaks(
+        judging.schema,
+        &defined.ty,
+        value,
+        judging.variables,
+        faults,
+    )
 }
 
 /// Adds the same for an argument, if it is defined.
 fn check_if_defined(
-    schema: &Schema,
+    judging: &Judging<'_>,
     taker: &Taker<'_>,
     defined: &IndexMap<Name, usize>,
     argument: &Node<Argument>,
-    variables: &DefinedVariables<'_>,
     faults: &mut Vec<Fault>,
 ) -> Result<(), AllocError>
     requires { AreNumbers input_name defined.now (input_value_trees taker.now.definitions.now) }
-    ensures { OnOk result (Adds faults.old faults.new (BreaksIfDefined schema.now variables.now taker.now argument.now)) }
+    ensures { OnOk result (Adds faults.old faults.new (BreaksIfDefined judging.now taker.now argument.now)) }
 {
     let name = &argument.content().name;
     match find_definition(taker.definitions, defined, name) {
         None => Ok(()),
-        Some(definition) => check_argument(schema, argument, definition, variables, faults),
+        Some(definition) => check_argument(judging, argument, definition, faults),
     }
 }
 
@@ -215,21 +203,20 @@ fn has_number(numbers: &IndexMap<Name, usize>, name: &Name, number: usize) -> bo
 
 /// Adds the same for the first argument of each name.
 fn check_arguments(
-    schema: &Schema,
+    judging: &Judging<'_>,
     taker: &Taker<'_>,
     defined: &IndexMap<Name, usize>,
     given: &IndexMap<Name, usize>,
-    variables: &DefinedVariables<'_>,
     faults: &mut Vec<Fault>,
 ) -> Result<(), AllocError>
     requires defined { AreNumbers input_name defined.now (input_value_trees taker.now.definitions.now) }
     requires given { AreNumbers argument_name given.now (arguments_of taker.now.given.now) }
-    ensures { OnOk result (Adds faults.old faults.new (SomeGivenBreaks schema.now variables.now taker.now)) }
+    ensures { OnOk result (Adds faults.old faults.new (SomeGivenBreaks judging.now taker.now)) }
 {
     for index in 0..taker.given.len() {
         let argument = &taker.given[index];
         if has_number(given, &argument.content().name, index) {
-            check_if_defined(schema, taker, defined, argument, variables, faults)?;
+            check_if_defined(judging, taker, defined, argument, faults)?;
         }
     }
     Ok(())
@@ -251,22 +238,22 @@ pub fn check_taken(
     if taker.given.is_empty() {
         return tell_required_arguments(taker, &given, faults);
     }
-    check_some_taken(schema, taker, &given, variables, faults)
+    let judging = Judging { schema, variables };
+    check_some_taken(&judging, taker, &given, faults)
 }
 
 /// The same; `given` has of each name the index of the first argument that is given so.
 fn check_some_taken(
-    schema: &Schema,
+    judging: &Judging<'_>,
     taker: &Taker<'_>,
     given: &IndexMap<Name, usize>,
-    variables: &DefinedVariables<'_>,
     faults: &mut Vec<Fault>,
 ) -> Result<(), AllocError>
     requires { AreNumbers argument_name given.now (arguments_of taker.now.given.now) }
-    ensures { OnOk result (AddsTakerFaults (schema_tree schema.now) (variables_of variables.now) taker.now faults.old faults.new) }
+    ensures { OnOk result (AddsTakerFaults (schema_of judging.now) (variables_in judging.now) taker.now faults.old faults.new) }
 {
     let defined = definition_numbers(*faults.allocator(), taker.definitions)?;
     tell_undefined_arguments(taker, &defined, faults)?;
     tell_required_arguments(taker, given, faults)?;
-    check_arguments(schema, taker, &defined, given, variables, faults)
+    check_arguments(judging, taker, &defined, given, faults)
 }

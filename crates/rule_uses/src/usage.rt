@@ -101,7 +101,7 @@ fn told_usage(
 }
 
 /// DisallowedVariableUsage: a use of a variable is valid only if a value of the variable's type may stand there
-/// (section 5.8.5).
+/// (section 5.8.5). The fault is given back: a caller that has no list of faults asks whether there is one.
 pub fn disallowed_variable_usage(
     argument: &Node<Argument>,
     definition: &InputValueDefinition,

@@ -52,9 +52,9 @@ module _ (s : SchemaTree Place) (variables : Variables Place) (ty : TypeTree Pla
       ap (λ l. item_faults s variables ty q (item_trees value_tree l)) (drop_more xs i x inside)
       ∙ ap (λ (y : Node Value). type_faults s variables ty q (place y) (value_tree (content y)) ++ item_faults s variables ty q (item_trees value_tree (drop (i + 1) xs))) (sym is)
 
-  pub items_more : (all before after : List PlacedFault) (p : Place) (v : Value) → p ≡ place x → v ≡ content x → after ≡ before ++ type_faults s variables ty q p (value_tree v)
+  pub items_more : (all before after : List PlacedFault) → after ≡ before ++ type_faults s variables ty q (place x) (value_tree (content x))
       → all ≡ before ++ item_faults s variables ty q (item_trees value_tree (drop i xs)) → all ≡ after ++ item_faults s variables ty q (item_trees value_tree (drop (i + 1) xs))
-  items_more all before after p v at_place of_content told so_far =
+  items_more all before after told so_far =
       let rest = item_faults s variables ty q (item_trees value_tree (drop (i + 1) xs)) in
       so_far ∙ ap (λ l. before ++ l) items_on ∙ sym (append_assoc before (type_faults s variables ty q (place x) (value_tree (content x))) rest)
-      ∙ (λ k. sym (told ∙ (λ j. before ++ type_faults s variables ty q (at_place j) (value_tree (of_content j)))) k ++ rest)
+      ∙ ap (λ l. l ++ rest) (sym told)

@@ -31,6 +31,7 @@ use Rattle.fault_data.specs.in_rule_definitions.Told.{PlacedFault}
 use Rattle.rule_values.specs.Wanting.{variables_of, is_not_provided, required_among}
 use Rattle.rule_values.specs.ValueFaults.{unsupported_value_type, int_coercion_error, undefined_enum_value, undefined_key, required_if, required_field, required_fields, each_first, form_faults, inner_faults, item_faults, entry_faults, type_faults, field_faults}
 use Rattle.rule_values.specs.VariableFaults.{variable_faults, variable_faults_entries}
+use Rattle.rule_values.specs.declared.judging.Judging.{Judging}
 use Rattle.rule_values.specs.declared.objects.GivenObject.{GivenObject}
 use Rattle.rule_values.specs.declared.wanted.Wanted.{Wanted}
 
@@ -58,8 +59,8 @@ variable_faults_among variables entries = variable_faults_entries (variables_of 
 
 -- ---- the form of a value, where `found` is the type inside all brackets of the type that is wanted
 
-abbrev pub unsupported_of : Definitions → Wanted → ExtendedType → Place → Value → List PlacedFault
-unsupported_of variables wanted found p value = unsupported_value_type (variables_of variables) (type_tree wanted.ty.now) wanted.location (extended_type found) p (value_tree value)
+abbrev pub unsupported_of : Definitions → Wanted → ExtendedType → Node Value → List PlacedFault
+unsupported_of variables wanted found value = unsupported_value_type (variables_of variables) (type_tree wanted.ty.now) wanted.location (extended_type found) (place value) (value_tree (content value))
 
 abbrev pub integer_faults_of : NameValue → ExtendedType → Place → Value → List PlacedFault
 integer_faults_of name found p value = int_coercion_error name.text (extended_type found) p (value_tree value)
@@ -67,8 +68,8 @@ integer_faults_of name found p value = int_coercion_error name.text (extended_ty
 abbrev pub enum_faults_of : NameValue → ExtendedType → Place → Value → List PlacedFault
 enum_faults_of name found p value = undefined_enum_value name.text (extended_type found) p (value_tree value)
 
-abbrev pub form_faults_of : Definitions → Wanted → ExtendedType → Place → Value → List PlacedFault
-form_faults_of variables wanted found p value = form_faults (variables_of variables) (type_tree wanted.ty.now) wanted.location (extended_type found) p (value_tree value)
+abbrev pub form_faults_of : Definitions → Wanted → ExtendedType → Node Value → List PlacedFault
+form_faults_of variables wanted found value = form_faults (variables_of variables) (type_tree wanted.ty.now) wanted.location (extended_type found) (place value) (value_tree (content value))
 
 -- ---- the entries of an object, where the input object type `found` has that name
 
@@ -100,22 +101,27 @@ required_by_given given fields = required_among (is_not_provided given.nulls.now
 abbrev pub faults_for : Schema → Definitions → Node «Type» → Node Value → List PlacedFault
 faults_for schema variables ty value = type_faults (schema_tree schema) (variables_of variables) (type_tree (content ty)) (place ty) (place value) (value_tree (content value))
 
--- a value with its place against the type that is wanted
-abbrev pub faults_against : Schema → Definitions → Wanted → Place → Value → List PlacedFault
-faults_against schema variables wanted p value = type_faults (schema_tree schema) (variables_of variables) (type_tree wanted.ty.now) wanted.location p (value_tree value)
+-- a value against the type that is wanted
+abbrev pub faults_against : Judging → Wanted → Node Value → List PlacedFault
+faults_against judging wanted value =
+    type_faults (schema_tree judging.schema.now) (variables_of judging.variables.now) (type_tree wanted.ty.now) wanted.location (place value) (value_tree (content value))
 
 -- what is inside a list or an object
-abbrev pub faults_inside : Schema → Definitions → Wanted → ExtendedType → Value → List PlacedFault
-faults_inside schema variables wanted found value = inner_faults (schema_tree schema) (variables_of variables) (type_tree wanted.ty.now) wanted.location (extended_type found) (value_tree value)
+abbrev pub faults_inside : Judging → Wanted → ExtendedType → Value → List PlacedFault
+faults_inside judging wanted found value =
+    inner_faults (schema_tree judging.schema.now) (variables_of judging.variables.now) (type_tree wanted.ty.now) wanted.location (extended_type found) (value_tree value)
 
 -- items against the type of items
-abbrev pub faults_of_items : Schema → Definitions → Wanted → List (Node Value) → List PlacedFault
-faults_of_items schema variables wanted items = item_faults (schema_tree schema) (variables_of variables) (type_tree wanted.ty.now) wanted.location (item_trees value_tree items)
+abbrev pub faults_of_items : Judging → Wanted → List (Node Value) → List PlacedFault
+faults_of_items judging wanted items =
+    item_faults (schema_tree judging.schema.now) (variables_of judging.variables.now) (type_tree wanted.ty.now) wanted.location (item_trees value_tree items)
 
 -- entries, each against the type of its field
-abbrev pub faults_of_entries : Schema → Definitions → ExtendedType → Entries → List PlacedFault
-faults_of_entries schema variables found entries = entry_faults (schema_tree schema) (variables_of variables) (extended_type found) [] (entry_trees value_tree entries)
+abbrev pub faults_of_entries : Judging → ExtendedType → Entries → List PlacedFault
+faults_of_entries judging found entries =
+    entry_faults (schema_tree judging.schema.now) (variables_of judging.variables.now) (extended_type found) [] (entry_trees value_tree entries)
 
--- what an object has under a key, with its place
-abbrev pub faults_under : Schema → Definitions → ExtendedType → NameValue → Place → Value → List PlacedFault
-faults_under schema variables found key p value = field_faults (schema_tree schema) (variables_of variables) (extended_type found) key.text p (value_tree value)
+-- an entry against the type of the field of its key
+abbrev pub faults_of_entry : Judging → ExtendedType → Name × Node Value → List PlacedFault
+faults_of_entry judging found entry =
+    field_faults (schema_tree judging.schema.now) (variables_of judging.variables.now) (extended_type found) entry.0.text (place entry.1) (value_tree (content entry.1))

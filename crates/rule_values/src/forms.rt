@@ -123,39 +123,23 @@ fn type_node(alloc: Global, wanted: &Wanted<'_>) -> Result<Node<Type>, AllocErro
     }
 }
 
-/// A node of a copy of the value, with this place; items and entries are shared.
-fn value_node(
-    alloc: Global,
-    value: &Value,
-    location: Option<SourceSpan>,
-) -> Result<Node<Value>, AllocError>
-    ensures { IfOk result (λ n. value_tree (content n) ≡ value_tree value.now) }
-{
-    let value = value.clone()?;
-    match location {
-        None => Ok(Node::new(alloc, value)?),
-        Some(location) => Ok(Node::new_parsed(alloc, value, location)?),
-    }
-}
-
 /// UnsupportedValueType: a value is valid only if its form fits the type that is expected (section 5.6.1).
 pub(crate) fn unsupported_value_type(
     wanted: &Wanted<'_>,
     found: &ExtendedType,
-    value: &Value,
-    location: Option<SourceSpan>,
+    value: &Node<Value>,
     variables: &DefinedVariables<'_>,
     faults: &mut Vec<Fault>,
 ) -> Result<(), AllocError>
-    ensures { OnOk result (Tells faults.old faults.new (unsupported_of variables.now wanted.now found.now location value.now)) }
+    ensures { OnOk result (Tells faults.old faults.new (unsupported_of variables.now wanted.now found.now value.now)) }
 {
-    if fits_form(wanted.ty, found, value, variables) {
+    if fits_form(wanted.ty, found, value.content(), variables) {
         return Ok(());
     }
-    let alloc = *faults.allocator();
-    let ty = type_node(alloc, wanted)?;
+    let location = value.location();
+    let ty = type_node(*faults.allocator(), wanted)?;
     let data = DiagnosticData::UnsupportedValueType {
-        value: value_node(alloc, value, location)?,
+        value: value.clone()?,
         ty,
         definition_location: wanted.location,
     };

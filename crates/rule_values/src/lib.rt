@@ -12,6 +12,7 @@ mod defined;
 mod find;
 mod firsts;
 mod forms;
+mod judging;
 mod keys;
 mod objects;
 mod types;

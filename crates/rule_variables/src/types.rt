@@ -1,11 +1,12 @@
 //! What a variable says under a schema: its type, its default and its directives.
-ghost use Rattle.std.specs.Prelude.{◌≡◌, map, IfOk, OnOk, option_to_list};
+ghost use Rattle.std.specs.Prelude.{◌≡◌, IfOk, OnOk};
 ghost use Rattle.graphql_names.specs.Placed.{node_tree};
 ghost use Rattle.tree_operations.specs.OperationTree.{variable_definition_tree};
 ghost use Rattle.rule_definitions.specs.Words.{AtSomeIndex};
 ghost use Rattle.rule_values.specs.in_schema.SchemaOf.{schema_tree};
 ghost use Rattle.rule_values.specs.in_fault_data.FaultView.{fault_of};
 ghost use Rattle.rule_values.specs.in_fault_data.Adds.{Adds};
+ghost use Rattle.rule_values.specs.Telling.{Tells};
 ghost use Rattle.rule_values.specs.Wanting.{variables_of};
 ghost use Rattle.rule_variables.specs.VariableFaults.{undefined_definition, variable_input_type, told_input_type, is_of_input_type, DefaultBreaks, JudgedDefaultBreaks, VariableBreaks};
 
@@ -21,18 +22,18 @@ use tree_operations::VariableDefinition;
 fn undefined_definition(
     schema: &Schema,
     variable: &Node<VariableDefinition>,
-) -> Result<Option<Fault>, AllocError>
-    ensures { IfOk result (λ r. map fault_of (option_to_list r) ≡ undefined_definition (schema_tree schema.now) (node_tree variable_definition_tree variable.now)) }
+    faults: &mut Vec<Fault>,
+) -> Result<(), AllocError>
+    ensures { OnOk result (Tells faults.old faults.new (undefined_definition (schema_tree schema.now) (node_tree variable_definition_tree variable.now))) }
 {
     let name = variable.content().ty.content().inner_named_type();
     match schema.type_named(name) {
-        Some(_) => Ok(None),
+        Some(_) => Ok(()),
         None => {
             let name = name.clone()?;
-            Ok(Some(Fault {
-                location: variable.location(),
-                data: DiagnosticData::UndefinedDefinition { name },
-            }))
+            let data = DiagnosticData::UndefinedDefinition { name };
+            let location = variable.location();
+            tell(faults, Some(Fault { location, data }))
         }
     }
 }
@@ -41,18 +42,19 @@ fn undefined_definition(
 fn variable_input_type(
     schema: &Schema,
     variable: &Node<VariableDefinition>,
-) -> Result<Option<Fault>, AllocError>
-    ensures { IfOk result (λ r. map fault_of (option_to_list r) ≡ variable_input_type (schema_tree schema.now) (node_tree variable_definition_tree variable.now)) }
+    faults: &mut Vec<Fault>,
+) -> Result<(), AllocError>
+    ensures { OnOk result (Tells faults.old faults.new (variable_input_type (schema_tree schema.now) (node_tree variable_definition_tree variable.now))) }
 {
     let ty = variable.content().ty.content();
     let Some(found) = schema.type_named(ty.inner_named_type()) else {
-        return Ok(None);
+        return Ok(());
     };
     let kind = found.kind();
     if kind.is_input_type() {
-        return Ok(None);
+        return Ok(());
     }
-    Ok(Some(told_input_type(variable, kind)?))
+    tell(faults, Some(told_input_type(variable, kind)?))
 }
 
 /// What is told of a variable whose type is of that kind.
@@ -122,8 +124,8 @@ fn check_variable(
 ) -> Result<(), AllocError>
     ensures { OnOk result (Adds faults.old faults.new (VariableBreaks (schema_tree schema.now) (node_tree variable_definition_tree variable.now))) }
 {
-    tell(faults, undefined_definition(schema, variable)?)?;
-    tell(faults, variable_input_type(schema, variable)?)?;
+    undefined_definition(schema, variable, faults)?;
+    variable_input_type(schema, variable, faults)?;
     check_judged_default(schema, variable, faults)?;
     let directives = &variable.content().directives.0;
     let variables = DefinedVariables::listed(&[]);

@@ -1,13 +1,13 @@
 //! What stands twice: variables, and keys in their defaults.
-ghost use Rattle.std.specs.Prelude.{◌≡◌, ◌++◌, [], map, IfOk, OnOk, option_to_list};
+ghost use Rattle.std.specs.Prelude.{[], OnOk};
 ghost use Rattle.graphql_names.specs.Placed.{node_tree};
 ghost use Rattle.tree_operations.specs.OperationTree.{variable_definition_tree};
 ghost use Rattle.schema_components.specs.Lists.{each_place};
 ghost use Rattle.rule_definitions.specs.Names.{defined_name};
 ghost use Rattle.rule_definitions.specs.Words.{AtSomeIndex};
-ghost use Rattle.rule_values.specs.in_fault_data.FaultView.{fault_of, faults_of};
 ghost use Rattle.rule_values.specs.in_fault_data.Adds.{Adds};
 ghost use Rattle.rule_values.specs.Firsts.{AreFirsts};
+ghost use Rattle.rule_values.specs.Telling.{Tells};
 ghost use Rattle.rule_values.specs.Wanting.{variables_of};
 ghost use Rattle.rule_variables.specs.VariableFaults.{variable_again, repeated_variable, DefaultKeyBreaks};
 
@@ -22,11 +22,12 @@ use tree_operations::VariableDefinition;
 fn unique_variable(
     first: Option<Option<SourceSpan>>,
     later: &Node<VariableDefinition>,
-) -> Result<Option<Fault>, AllocError>
-    ensures { IfOk result (λ r. map fault_of (option_to_list r) ≡ variable_again first (node_tree variable_definition_tree later.now)) }
+    faults: &mut Vec<Fault>,
+) -> Result<(), AllocError>
+    ensures { OnOk result (Tells faults.old faults.new (variable_again first (node_tree variable_definition_tree later.now))) }
 {
     let Some(original_definition) = first else {
-        return Ok(None);
+        return Ok(());
     };
     let location = later.location();
     let data = DiagnosticData::UniqueVariable {
@@ -34,7 +35,7 @@ fn unique_variable(
         original_definition,
         redefined_definition: location,
     };
-    Ok(Some(Fault { location, data }))
+    tell(faults, Some(Fault { location, data }))
 }
 
 /// Adds a fault for each variable that is defined before.
@@ -42,7 +43,7 @@ pub(crate) fn tell_repeated_variables(
     variables: &[Node<VariableDefinition>],
     faults: &mut Vec<Fault>,
 ) -> Result<(), AllocError>
-    ensures { OnOk result (faults_of faults.new ≡ faults_of faults.old ++ each_place repeated_variable (variables_of variables.now)) }
+    ensures { OnOk result (Tells faults.old faults.new (each_place repeated_variable (variables_of variables.now))) }
 {
     let mut places = IndexMap::new(*faults.allocator());
     tell_variables_again(variables, &mut places, faults)
@@ -55,12 +56,12 @@ fn tell_variables_again(
     faults: &mut Vec<Fault>,
 ) -> Result<(), AllocError>
     requires { AreFirsts defined_name (λ i x. x.place) places.old (variables_of []) }
-    ensures { OnOk result (faults_of faults.new ≡ faults_of faults.old ++ each_place repeated_variable (variables_of variables.now)) }
+    ensures { OnOk result (Tells faults.old faults.new (each_place repeated_variable (variables_of variables.now))) }
 {
     for variable in variables {
         let name = &variable.content().name;
         let first = note_first(places, name, variable.location())?;
-        tell(faults, unique_variable(first, variable)?)?;
+        unique_variable(first, variable, faults)?;
     }
     Ok(())
 }

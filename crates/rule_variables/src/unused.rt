@@ -1,13 +1,11 @@
 //! Variables that are not used.
-ghost use Rattle.std.specs.Prelude.{◌≡◌, ◌↔◌, map, Contains, IfOk, IsTrue, OnOk, option_to_list};
+ghost use Rattle.std.specs.Prelude.{◌↔◌, Contains, IsTrue, OnOk};
 ghost use Rattle.graphql_names.specs.Placed.{node_tree};
 ghost use Rattle.graphql_names.specs.Places.{Recomposes};
 ghost use Rattle.tree_operations.specs.OperationTree.{variable_definition_tree};
 ghost use Rattle.rule_definitions.specs.Words.{AtSomeIndex};
-ghost use Rattle.rule_values.specs.in_fault_data.FaultView.{fault_of};
 ghost use Rattle.rule_values.specs.in_fault_data.Adds.{Adds};
 ghost use Rattle.rule_values.specs.Wanting.{variables_of};
-ghost use Rattle.rule_uses.specs.Steps.{Lists};
 ghost use Rattle.rule_document_ground.specs.NotedNames.{noted_names};
 ghost use Rattle.rule_variables.specs.VariableFaults.{UnusedAmong};
 
@@ -35,18 +33,18 @@ fn has_name(names: &IndexSet<Name>, name: &Name) -> bool
 fn unused_variable(
     used: &IndexSet<Name>,
     variable: &Node<VariableDefinition>,
-) -> Result<Option<Fault>, AllocError>
-    ensures { IfOk result (λ r. Lists (map fault_of (option_to_list r)) (UnusedAmong (noted_names used.now) (node_tree variable_definition_tree variable.now))) }
+    faults: &mut Vec<Fault>,
+) -> Result<(), AllocError>
+    ensures { OnOk result (Adds faults.old faults.new (UnusedAmong (noted_names used.now) (node_tree variable_definition_tree variable.now))) }
 {
     let name = &variable.content().name;
     if has_name(used, name) {
-        return Ok(None);
+        return Ok(());
     }
     let name = name.clone()?;
-    Ok(Some(Fault {
-        location: head(variable),
-        data: DiagnosticData::UnusedVariable { name },
-    }))
+    let data = DiagnosticData::UnusedVariable { name };
+    let location = head(variable);
+    tell(faults, Some(Fault { location, data }))
 }
 
 /// Adds a fault for each variable that is not used.
@@ -58,7 +56,7 @@ pub(crate) fn tell_unused_variables(
     ensures { OnOk result (Adds faults.old faults.new (λ f. AtSomeIndex (variables_of variables.now) (λ i x. UnusedAmong (noted_names used.now) x f))) }
 {
     for variable in variables {
-        tell(faults, unused_variable(used, variable)?)?;
+        unused_variable(used, variable, faults)?;
     }
     Ok(())
 }

@@ -7,7 +7,7 @@ use Rattle.rule_cycle_search.proofs.depths.deepen.Goals.{then-node-depths, else-
 
 pub loop-node-preserved : goal.loop-node-preserved
 loop-node-preserved c =
-    let g = c.args.graph.now in
+    let g = c.args.divided.now.graph.now in
     let node : ℕ = get_or c.args.order.now c.loop-node.node-index 0 in
     elim c.if-node-depths.branch [
       | then-node-depths w ↦

@@ -3,4 +3,4 @@ use Rattle.rule_cycle_search.specs.Depths.{AreCounted}
 use Rattle.rule_cycle_search.proofs.depths.deepen.Given as goal
 
 abbrev pub invariant-loop-node : goal.invariant-loop-node
-invariant-loop-node l = AreCounted l.graph (is_of l.graph l.first) l.depths
+invariant-loop-node l = AreCounted l.divided.graph.now (is_of l.divided.graph.now l.first) l.depths

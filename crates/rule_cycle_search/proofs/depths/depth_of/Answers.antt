@@ -11,8 +11,8 @@ use Rattle.rule_cycle_search.proofs.depths.depth_of.Goals.{then-next-depths+then
 
 pub loop-next-preserved : goal.loop-next-preserved
 loop-next-preserved c = λ kind all.
-    let g = c.args.graph.now in
-    let from = c.args.parts.now.from.items in
+    let g = c.args.divided.now.graph.now in
+    let from = c.args.divided.now.parts.now.from.items in
     let next : ℕ = get_or c.listed-next-items.result.now c.loop-next.next-index 0 in
     elim c.if-next-depths.branch [
       | then-next-depths+then-depths-next+then-not-is_in w ↦
@@ -22,20 +22,20 @@ loop-next-preserved c = λ kind all.
       | else-next-depths w ↦ subst (HasMost g kind c.args.node from c.in-Some.step.now.center) (sym w.most-is) (c.loop-next.invariant kind all)
     ]
 
-pub returns-then-most-graph : goal.returns-then-most-graph
-returns-then-most-graph c = λ kind is all.
-    let g = c.args.graph.now in
-    let from = c.args.parts.now.from.items in
+pub returns-then-most-divided : goal.returns-then-most-divided
+returns-then-most-divided c = λ kind is all.
+    let g = c.args.divided.now.graph.now in
+    let from = c.args.divided.now.parts.now.from.items in
     let a = c.in-Some.ensures.lookup in
     let here = subst (λ (l : List Step). IsIn l c.in-Some.step.now.center c.args.node) c.deref.ensures.value (in_center c.deref.result.now c.args.node c.in-Some.step.now a.3.0 a.1) in
     way_less g kind c.args.node (1 + c.loop-next.most) (c.loop-next.most + 1) (omega arith)
-    (way_more g kind c.args.parts.now.toward.items from c.requires c.args.node c.in-Some.step.now.center here c.loop-next.most 1 (c.loop-next.invariant kind all) (ap {B = ℕ} (λ (b : Bool). cond b 1 0) (sym c.if-counts.true ∙ sym is)))
+    (way_more g kind c.args.divided.now.parts.now.toward.items from c.requires c.args.node c.in-Some.step.now.center here c.loop-next.most 1 (c.loop-next.invariant kind all) (ap {B = ℕ} (λ (b : Bool). cond b 1 0) (sym c.if-counts.true ∙ sym is)))
 
 pub returns-else-counts : goal.returns-else-counts
 returns-else-counts c = λ kind is all.
-    let g = c.args.graph.now in
-    let from = c.args.parts.now.from.items in
+    let g = c.args.divided.now.graph.now in
+    let from = c.args.divided.now.parts.now.from.items in
     let a = c.in-Some.ensures.lookup in
     let here = subst (λ (l : List Step). IsIn l c.in-Some.step.now.center c.args.node) c.deref.ensures.value (in_center c.deref.result.now c.args.node c.in-Some.step.now a.3.0 a.1) in
     way_less g kind c.args.node (cond (kind c.args.node) 1 0 + c.loop-next.most) c.loop-next.most (omega arith)
-    (way_more g kind c.args.parts.now.toward.items from c.requires c.args.node c.in-Some.step.now.center here c.loop-next.most (cond (kind c.args.node) 1 0) (c.loop-next.invariant kind all) refl)
+    (way_more g kind c.args.divided.now.parts.now.toward.items from c.requires c.args.node c.in-Some.step.now.center here c.loop-next.most (cond (kind c.args.node) 1 0) (c.loop-next.invariant kind all) refl)

@@ -13,9 +13,9 @@ way_round-requires-clause-root_in c =
 
 pub returns-in-None-2 : goal.returns-in-None-2
 returns-in-None-2 c =
-    let from = c.args.parts.now.from.items in
+    let from = c.args.divided.now.parts.now.from.items in
     let a = c.in-Some.ensures.lookup in
     let inside = subst (λ (l : List Step). IsIn l c.in-Some.step.now.center c.args.root) c.deref.ensures.value (in_center c.deref.result.now c.args.root c.in-Some.step.now a.3.0 a.1) in
     let none : (n : ℕ) → Contains (listed c.args.referrers.now c.args.root) n → is_in from c.in-Some.step.now.center n ≡ false =
     subst (λ l. (n : ℕ) → Contains l n → is_in from c.in-Some.step.now.center n ≡ false) c.listed.ensures (subst (λ (s : List Step). (n : ℕ) → Contains c.listed.result.now n → is_in s c.in-Some.step.now.center n ≡ false) c.deref-2.ensures.value c.in-None-2.ensures) in
-    none_back c.args.graph.now c.args.referrers.now c.requires.referrers c.args.parts.now.toward.items from c.in-Some.step.now.center c.args.root c.requires.whole inside none
+    none_back c.args.divided.now.graph.now c.args.referrers.now c.requires.referrers c.args.divided.now.parts.now.toward.items from c.in-Some.step.now.center c.args.root c.requires.whole inside none

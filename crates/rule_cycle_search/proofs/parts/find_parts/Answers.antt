@@ -12,4 +12,4 @@ loop-node-init c =
     (c.in_ok-from.ensures ∙ ap (λ k. replicate k (record { center = k; via = k })) n)
 
 pub returns : goal.returns
-returns c = is_whole c.args.graph.now c.loop-node-2.toward.items c.loop-node-2.from.items c.loop-node-2.invariant.parted (λ n h. c.loop-node-2.invariant.settled n (omega arith))
+returns c = is_whole c.args.graph.now c.loop-node-2.parts.toward.items c.loop-node-2.parts.from.items c.loop-node-2.invariant.parted (λ n h. c.loop-node-2.invariant.settled n (omega arith))

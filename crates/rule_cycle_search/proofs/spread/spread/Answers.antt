@@ -5,11 +5,11 @@ use Rattle.rule_cycle_search.proofs.Spreading.{Spreading-begin, Spreading-more, 
 use Rattle.rule_cycle_search.proofs.spread.spread.Goals as goal
 
 pub loop-at-init : goal.loop-at-init
-loop-at-init c = Spreading-begin c.args.lists.now c.args.area.now c.args.key c.args.center c.args.steps.now c.requires.within c.requires.fresh _ refl c.push.new.self.items (c.in_ok-push.ensures.items ∙ ap (λ l. l ++ c.args.center ∷ []) c.new-reached.ensures.items)
+loop-at-init c = Spreading-begin c.args.lists.now c.args.area.now.steps.now c.args.area.now.key c.args.center c.args.steps.now c.requires.within c.requires.fresh _ refl c.push.new.self.items (c.in_ok-push.ensures.items ∙ ap (λ l. l ++ c.args.center ∷ []) c.new-reached.ensures.items)
 
 pub loop-at-preserved : goal.loop-at-preserved
-loop-at-preserved c = Spreading-more c.args.lists.now c.args.area.now c.args.key c.args.center c.args.steps.now c.loop-at.at c.loop-at.steps c.loop-at.reached.items c.loop-at.invariant (omega arith) c.index-node.result.now (get_or_read c.loop-at.reached.items c.loop-at.at c.index-node.result.now (omega arith) c.index-node.ensures 0) c.reach.new.steps c.reach.new.reached.items
-    (subst (λ ts. Reaches c.args.area.now c.args.key c.args.center c.index-node.result.now ts c.loop-at.steps c.reach.new.steps c.loop-at.reached.items c.reach.new.reached.items) c.listed.ensures c.in_ok-reach.ensures)
+loop-at-preserved c = Spreading-more c.args.lists.now c.args.area.now.steps.now c.args.area.now.key c.args.center c.args.steps.now c.loop-at.at c.loop-at.steps c.loop-at.reached.items c.loop-at.invariant (omega arith) c.index-node.result.now (get_or_read c.loop-at.reached.items c.loop-at.at c.index-node.result.now (omega arith) c.index-node.ensures 0) c.reach.new.steps c.reach.new.reached.items
+    (subst (λ ts. Reaches c.args.area.now.steps.now c.args.area.now.key c.args.center c.index-node.result.now ts c.loop-at.steps c.reach.new.steps c.loop-at.reached.items c.reach.new.reached.items) c.listed.ensures c.in_ok-reach.ensures)
 
 pub returns : goal.returns
-returns c = Spreading-end c.args.lists.now c.args.area.now c.args.key c.args.center c.args.steps.now c.loop-at.at c.loop-at.steps c.loop-at.reached.items c.loop-at.invariant (omega arith)
+returns c = Spreading-end c.args.lists.now c.args.area.now.steps.now c.args.area.now.key c.args.center c.args.steps.now c.loop-at.at c.loop-at.steps c.loop-at.reached.items c.loop-at.invariant (omega arith)

@@ -1,8 +1,8 @@
-use Rattle.graphql_schema.specs.SchemaOf.{schema_tree}
 use Rattle.fault_data.specs.FaultView.{faults_of}
 use Rattle.rule_cycles.specs.DirectiveFaults.{TellsDirective, TellsDeepDirective}
 use Rattle.rule_cycles.specs.Telling.{TellsRoots}
+use Rattle.rule_cycles.specs.Trees.{schema_of}
 use Rattle.rule_cycles.proofs.check_directives.check_directive_cycles.Given as goal
 
 abbrev pub invariant-loop-root : goal.invariant-loop-root
-invariant-loop-root l = TellsRoots (TellsDirective (schema_tree l.schema)) (TellsDeepDirective (schema_tree l.schema)) l.references.graph l.root (faults_of l.fn.faults) (faults_of l.faults)
+invariant-loop-root l = TellsRoots (TellsDirective (schema_of l.judging)) (TellsDeepDirective (schema_of l.judging)) l.references.graph l.root (faults_of l.fn.faults) (faults_of l.faults)

@@ -40,12 +40,11 @@ loop-own-preserved c =
     let inv = c.loop-own.invariant in
     let mid = c.loop-own.breaches in
     let new = c.check_own.new.breaches in
-    let told = subst (λ (l : List FieldSelection). AddsGroup c.args.pass s (fields_of (take 1 l ++ c.deref-in-loop-own-2.result.now)) mid new) c.deref-in-loop-own.ensures.value c.in_ok-check_own.ensures.told in
-    let here = subst (λ (l : List FieldSelection). AddsGroup c.args.pass s (fields_of (take 1 c.args.group.now.shared.items ++ l)) mid new) c.deref-in-loop-own-2.ensures.value told in
+    let here = subst (λ (l : List FieldSelection). AddsGroup c.args.pass s (fields_of (take 1 l ++ x.fields.items)) mid new) c.deref-in-loop-own.ensures.value c.in_ok-check_own.ensures.told in
     record {
       told = own_step c.args.pass s c.args.group.now.shared.items xs i x h c.own-item.is c.args.breaches.now mid new inv.told here;
       more = omega (arith, inv.more, c.check_own.ensures.more);
-      counted = omega (arith, inv.counted, c.check_own.ensures.counted, left_of (λ (o : OwnFields). compared c.args.pass o.fields.items) xs i x h c.own-item.is, ap (compared c.args.pass) c.deref-in-loop-own-2.ensures.value);
+      counted = omega (arith, inv.counted, c.check_own.ensures.counted, left_of (λ (o : OwnFields). compared c.args.pass o.fields.items) xs i x h c.own-item.is);
     }
 
 pub returns-in_err-check_group-clause-counted : goal.returns-in_err-check_group-clause-counted
@@ -60,7 +59,7 @@ returns-in_err-check_own-clause-counted c =
     let i = c.loop-own.own-index in
     let x = c.own-item.result in
     let h : i < length xs = omega arith in
-    omega (arith, c.loop-own.invariant.counted, c.check_own.ensures.counted, left_of (λ (o : OwnFields). compared c.args.pass o.fields.items) xs i x h c.own-item.is, ap (compared c.args.pass) c.deref-in-loop-own-2.ensures.value)
+    omega (arith, c.loop-own.invariant.counted, c.check_own.ensures.counted, left_of (λ (o : OwnFields). compared c.args.pass o.fields.items) xs i x h c.own-item.is)
 
 pub returns-clause-told : goal.returns-clause-told
 returns-clause-told c =

@@ -11,7 +11,7 @@ use Rattle.rule_field_groups.proofs.conflicts.check_key_group.Given as goal
 
 abbrev pub invariant-loop-own : goal.invariant-loop-own
 invariant-loop-own l = record {
-  told : AddsEach l.pass (judged (schema_tree l.schema)) (with_first l.pass (judged (schema_tree l.schema)) (fields_of l.group.shared.items) (map (λ o. fields_of o.fields.items) (take l.own-index l.own-items))) l.fn.breaches l.breaches;
+  told : AddsEach l.fn.pass (judged (schema_tree l.schema)) (with_first l.fn.pass (judged (schema_tree l.schema)) (fields_of l.group.shared.items) (map (λ o. fields_of o.fields.items) (take l.own-index l.own-items))) l.fn.breaches l.breaches;
   more : l.fn.comparisons ≤ l.comparisons;
-  counted : l.comparisons + sum (map (λ o. compared l.pass o.fields.items) (drop l.own-index l.own-items)) ≤ l.fn.comparisons + compared_in l.pass l.group;
+  counted : l.comparisons + sum (map (λ o. compared l.fn.pass o.fields.items) (drop l.own-index l.own-items)) ≤ l.fn.comparisons + compared_in l.fn.pass l.group;
 }

@@ -22,8 +22,8 @@ loop-argument-preserved c = λ vs are.
     let h : k < length xs = omega arith in
     let before = map (node_tree input_value_tree) (take k xs) in
     let front = map_more (node_tree input_value_tree) xs k x h ∙ ap (λ y. before ++ node_tree input_value_tree y ∷ []) (sym c.argument-item.is) in
-    c.in_ok-tell.ensures.told
-    ∙ (λ j. c.loop-argument.invariant vs are j ++ c.in_ok-wanted_argument_fault.ensures vs are j)
+    c.in_ok-check_wanted_argument.ensures vs are
+    ∙ (λ j. c.loop-argument.invariant vs are j ++ told (node_tree input_value_tree x))
     ∙ flat_map_more told (faults_of c.args.faults.now) before (node_tree input_value_tree x)
     ∙ ap (λ l. faults_of c.args.faults.now ++ flat_map told l) (sym front)
 

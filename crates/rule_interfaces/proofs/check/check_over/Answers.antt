@@ -6,16 +6,16 @@ use Rattle.graphql_names.specs.Placed.{name_tree}
 use Rattle.schema_components.specs.Given.{component_name_tree}
 use Rattle.schema_types.specs.TypeView.{extended_type, interface_type}
 use Rattle.schema_types.specs.declared.kinds.InterfaceType.{InterfaceType}
-use Rattle.graphql_schema.specs.SchemaOf.{schema_tree}
 use Rattle.fault_data.specs.FaultView.{faults_of}
 use Rattle.rule_interfaces.specs.InterfaceFaults.{transitive_implemented_interfaces, each_field_faults, fields_faults}
+use Rattle.rule_interfaces.specs.Trees.{schema_of}
 use Rattle.rule_interfaces.proofs.Whole.{fields_same}
 use Rattle.rule_interfaces.proofs.check.check_over.Goals as goal
 
 pub returns : goal.returns
 returns c =
     let own = c.args.implementer.now in
-    let s = schema_tree own.schema.now in
+    let s = schema_of c.args.judging.now in
     let n = own.name.now.text in
     let t = extended_type own.ty.now in
     let i = name_tree own.interface.now.name in

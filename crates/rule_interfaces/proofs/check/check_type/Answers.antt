@@ -3,14 +3,14 @@ use Rattle.std.specs.List.{flat_map}
 use Rattle.std.proofs.lemmas.List.{map_more, flat_map_more}
 use Rattle.schema_components.specs.Given.{component_name_tree}
 use Rattle.schema_types.specs.TypeView.{extended_type}
-use Rattle.graphql_schema.specs.SchemaOf.{schema_tree}
 use Rattle.fault_data.specs.FaultView.{faults_of}
 use Rattle.rule_interfaces.specs.InterfaceFaults.{interface_faults}
+use Rattle.rule_interfaces.specs.Trees.{schema_of}
 use Rattle.rule_interfaces.proofs.check.check_type.Goals as goal
 
 pub loop-interface-preserved : goal.loop-interface-preserved
 loop-interface-preserved c =
-    let told = interface_faults (schema_tree c.args.schema.now) c.args.name.now.text (extended_type c.args.ty.now) in
+    let told = interface_faults (schema_of c.args.judging.now) c.args.name.now.text (extended_type c.args.ty.now) in
     let xs = c.interfaces_of-interface-items.result.now in
     let k = c.loop-interface.interface-index in
     let x = c.interface-item.result in

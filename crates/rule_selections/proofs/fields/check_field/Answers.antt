@@ -1,4 +1,4 @@
-use Rattle.std.proofs.Common.{◌++◌, ◌∙◌, ap, subst}
+use Rattle.std.proofs.Common.{◌∙◌, ap, subst}
 use Rattle.std.proofs.lemmas.Result.{on_ok_weaker}
 use Rattle.graphql_names.specs.Placed.{Place}
 use Rattle.tree_directives.specs.DirectiveTree.{Arguments}
@@ -22,14 +22,14 @@ returns c =
     let vs = variables_of c.args.variables.now in
     let x = standing_field c.args.parent.now c.args.field.now in
     let a = faults_of c.args.faults.now in
-    let b = faults_of c.tell.new.faults in
+    let b = faults_of c.missing_subselection.new.faults in
     let d = faults_of c.check_given.new.faults in
     let e = faults_of c.check_defined.new.faults in
     let given = ap arguments_of c.deref.ensures.value ∙ ap (λ (f : Field). arguments_of f.arguments.items) c.content.ensures in
     on_ok_weaker c.check_defined.result
     (λ h defined. gains_both a b e
-    (gains_list a b (missing_subselection (judged s) x) (c.in_ok-tell.ensures.told ∙ ap (λ l. a ++ l) c.in_ok-missing_subselection.ensures) (lists_missing s x))
+    (gains_list a b (missing_subselection (judged s) x) c.in_ok-missing_subselection.ensures (lists_missing s x))
     (gains_both b d e
-    (subst (λ (l : Arguments Place). Adds c.tell.new.faults c.check_given.new.faults (GivenBreaks (place_or_built_in s) (judged s) vs l)) given (c.in_ok-check_given.ensures (place_or_built_in s) (judged s)))
+    (subst (λ (l : Arguments Place). Adds c.missing_subselection.new.faults c.check_given.new.faults (GivenBreaks (place_or_built_in s) (judged s) vs l)) given (c.in_ok-check_given.ensures (place_or_built_in s) (judged s)))
     (h defined)))
     c.check_defined.ensures

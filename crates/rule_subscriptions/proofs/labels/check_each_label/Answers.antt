@@ -1,4 +1,4 @@
-use Rattle.std.proofs.Common.{◌<◌, ◌++◌, length, arith, ap, ◌∙◌}
+use Rattle.std.proofs.Common.{◌<◌, length, arith}
 use Rattle.rule_subscriptions.specs.Broken.{brokens_of}
 use Rattle.rule_subscriptions.proofs.Labelled.{told_next, noted_next}
 use Rattle.rule_subscriptions.proofs.labels.check_each_label.Goals as goal
@@ -10,9 +10,8 @@ loop-label-preserved c =
     let x = c.label-item.result in
     let h : i < length xs = omega arith in
     let places = c.loop-label.places in
-    let before = brokens_of c.loop-label.breaches in
     record {
-      told = told_next xs i x h c.label-item.is places (brokens_of c.args.breaches.now) before (brokens_of c.tell_breach.new.breaches) (brokens_of c.check_string_label.new.breaches) c.loop-label.invariant.told c.loop-label.invariant.noted
-          (c.in_ok-tell_breach.ensures.told ∙ ap (λ l. before ++ l) c.defer_label_must_not_be_variable.ensures) c.in_ok-check_string_label.ensures.told;
+      told = told_next xs i x h c.label-item.is places (brokens_of c.args.breaches.now) (brokens_of c.loop-label.breaches) (brokens_of c.defer_label_must_not_be_variable.new.breaches) (brokens_of c.check_string_label.new.breaches) c.loop-label.invariant.told c.loop-label.invariant.noted
+          c.in_ok-defer_label_must_not_be_variable.ensures c.in_ok-check_string_label.ensures.told;
       noted = noted_next xs i x h c.label-item.is places c.check_string_label.new.places c.loop-label.invariant.noted c.in_ok-check_string_label.ensures.noted;
     }

@@ -10,6 +10,6 @@ use Rattle.rule_subscriptions.proofs.labels.check_string_label.Goals as goal
 pub returns-clause-noted : goal.returns-clause-noted
 returns-clause-noted c =
     let text = c.in-Some.ensures ∙ ap (λ (x : Value). string_text (value_tree x)) c.content.ensures in
-    on_ok_weaker c.tell_breach.result
+    on_ok_weaker c.duplicate_defer_label.result
     (λ told. some_noted c.args.places.now c.note_first.new.places (node_tree value_tree c.args.label.now) c.in-Some.text.now c.location-place.result text c.location-place.ensures c.in_ok-first.ensures.noted)
-    c.tell_breach.ensures.told
+    c.duplicate_defer_label.ensures

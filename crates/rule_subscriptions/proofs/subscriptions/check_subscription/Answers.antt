@@ -24,7 +24,7 @@ returns c =
     let ss = lent_all c.in_ok-roots.roots.items in
     let kind : o.operation_type ≡ operation.Subscription = search rules in
     let names : map (λ (n : NameValue). n.text) c.in_ok-fields.fields.items ≡ flat_map root_names ss = c.in_ok-fields.ensures ∙ ap (λ l. flat_map root_names (lent_all l)) c.deref.ensures.value in
-    let several = c.in_ok-tell_breach.ensures.told ∙ ap (λ l. brokens_of c.args.breaches.now ++ l) (c.in_ok-several.ensures ∙ ap (multiple_fields o) names) in
+    let several = c.in_ok-subscription_uses_multiple_fields.ensures ∙ ap (λ l. brokens_of c.args.breaches.now ++ multiple_fields o l) names in
     on_ok_weaker c.check_root_selections.result
     (λ told own. (
       multiple_fields o (flat_map root_names ss) ++ flat_map (at_root o) ss,

@@ -3,14 +3,14 @@ use Rattle.std.specs.List.{flat_map}
 use Rattle.std.proofs.lemmas.List.{map_more, flat_map_more}
 use Rattle.graphql_names.specs.Placed.{node_tree}
 use Rattle.tree_directives.specs.DirectiveTree.{input_value_tree}
-use Rattle.graphql_schema.specs.SchemaOf.{schema_tree}
 use Rattle.fault_data.specs.FaultView.{faults_of}
 use Rattle.rule_types.specs.FaultLists.{argument_faults}
+use Rattle.rule_types.specs.Trees.{schema_of}
 use Rattle.rule_types.proofs.arguments.check_each_argument.Goals as goal
 
 pub loop-argument-preserved : goal.loop-argument-preserved
 loop-argument-preserved c =
-    let s = schema_tree c.args.schema.now in
+    let s = schema_of c.args.judging.now in
     let xs = c.args.arguments.now in
     let k = c.loop-argument.argument-index in
     let x = c.argument-item.result in

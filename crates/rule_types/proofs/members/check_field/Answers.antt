@@ -7,14 +7,14 @@ use Rattle.tree_literals.specs.TypeQueries.{inner_name}
 use Rattle.tree_directives.specs.DirectiveTree.{input_value_tree}
 use Rattle.tree_type_members.specs.TypeSystemTree.{field_definition_tree}
 use Rattle.tree_type_members.specs.declared.field_definition.FieldDefinition.{FieldDefinition}
-use Rattle.graphql_schema.specs.SchemaOf.{schema_tree}
 use Rattle.fault_data.specs.FaultView.{faults_of}
 use Rattle.rule_types.specs.FaultLists.{kind_named, reserved_name, undefined_type, output_type, arguments_faults}
+use Rattle.rule_types.specs.Trees.{schema_of}
 use Rattle.rule_types.proofs.members.check_field.Goals as goal
 
 pub returns : goal.returns
 returns c =
-    let s = schema_tree c.args.schema.now in
+    let s = schema_of c.args.judging.now in
     let old = faults_of c.args.faults.now in
     let m = c.args.name.now.text in
     let f = node_tree field_definition_tree c.args.field.now in

@@ -1,4 +1,4 @@
-use Rattle.std.proofs.Common.{[], ◌++◌, sym, ap, subst, ◌∙◌}
+use Rattle.std.proofs.Common.{[], sym, ap, subst, ◌∙◌}
 use Rattle.std.specs.Option.{option_map_or}
 use Rattle.std.proofs.lemmas.Result.{on_ok_weaker}
 use Rattle.graphql_names.specs.Node.{content}
@@ -22,13 +22,13 @@ use Rattle.rule_uses.proofs.directives.check_defined_use.Goals as goal
 
 pub returns : goal.returns
 returns c =
-    let s = schema_tree c.args.schema.now in
-    let vs = variables_of c.args.variables.now in
+    let s = schema_tree c.args.judging.now.schema.now in
+    let vs = variables_of c.args.judging.now.variables.now in
     let d = node_tree directive_tree c.args.directive.now in
     let e = node_tree directive_definition_tree c.args.definition.now in
     let a = faults_of c.args.faults.now in
-    let b = faults_of c.tell.new.faults in
-    let u = c.in_ok-fault.ensures in
+    let b = faults_of c.unsupported_location.new.faults in
+    let u = c.in_ok-unsupported_location.ensures in
     let given = ap arguments_of c.as_slice.ensures.value ∙ ap (λ (x : Directive). arguments_of x.arguments.items) c.content-used.ensures in
     let definitions = ap input_value_trees c.as_slice-2.ensures.value ∙ ap (λ (x : DirectiveDefinition). input_value_trees x.arguments.items) c.content.ensures in
     let taker = same_taker d c.location-place.result (arguments_of c.as_slice.result.now) c.content-used.result.now.name.text (input_value_trees c.as_slice-2.result.now) (input_value_trees (content c.args.definition.now).arguments.items)
@@ -36,7 +36,7 @@ returns c =
     let stands = ap (λ (x : Directive). arguments_at s (DirectiveDefinitionAt x.name.text)) c.content-used.ensures ∙ ap (λ o. option_map_or (λ (x : Placed Place (DirectiveDefinitionTree Place)). x.it.arguments) o []) c.requires ∙ sym definitions in
     on_ok_weaker c.check_taken.result
     (λ h. gains_both a b (faults_of c.check_taken.new.faults)
-    (gains_list a b (unsupported_location u.0 e c.args.location d) (c.in_ok-tell.ensures.told ∙ ap (λ l. a ++ l) u.1.1)
+    (gains_list a b (unsupported_location u.0 e c.args.location d) u.1.1
     (lists_unsupported_location s vs (directive_look s) c.args.location d e c.requires u.0 u.1.0))
-    (subst (λ (t : Taker Place). Adds c.tell.new.faults c.check_taken.new.faults (TakerBreaks (place_at s) (judged s) vs t)) taker (h (place_at s) (stands_in s _ stands))))
+    (subst (λ (t : Taker Place). Adds c.unsupported_location.new.faults c.check_taken.new.faults (TakerBreaks (place_at s) (judged s) vs t)) taker (h (place_at s) (stands_in s _ stands))))
     c.check_taken.ensures

@@ -1,4 +1,4 @@
-use Rattle.std.proofs.Common.{[], ◌∷◌, ◌++◌, ap, subst, ◌∙◌}
+use Rattle.std.proofs.Common.{[], ◌∷◌, ap, subst, ◌∙◌}
 use Rattle.std.proofs.lemmas.Result.{on_ok_weaker}
 use Rattle.graphql_names.specs.Placed.{Place, node_tree}
 use Rattle.tree_directives.specs.DirectiveTree.{Arguments, directive_tree}
@@ -16,9 +16,9 @@ returns c =
     let d = node_tree directive_tree c.args.directive.now in
     let a = faults_of c.args.faults.now in
     let b = faults_of c.check_arguments_alone.new.faults in
-    let e = faults_of c.tell.new.faults in
+    let e = faults_of c.undefined_directive.new.faults in
     let taken = ap arguments_of c.deref.ensures.value ∙ ap (λ (x : Directive). arguments_of x.arguments.items) c.content.ensures in
     let given = subst (λ (l : Arguments Place). Adds c.args.faults.now c.check_arguments_alone.new.faults (ArgumentsBreak l)) taken c.in_ok-check_arguments_alone.ensures in
-    on_ok_weaker c.tell.result
-    (λ h. gains_both a b e given (gains_list b e (undefined_directive d ∷ []) (h ∙ ap (λ x. b ++ x ∷ []) c.in_ok-fault.ensures) (lists_one (undefined_directive d))))
-    c.tell.ensures.told
+    on_ok_weaker c.undefined_directive.result
+    (λ h. gains_both a b e given (gains_list b e (undefined_directive d ∷ []) h (lists_one (undefined_directive d))))
+    c.undefined_directive.ensures

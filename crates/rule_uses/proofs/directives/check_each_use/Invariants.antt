@@ -10,4 +10,4 @@ use Rattle.rule_uses.specs.Trees.{directives_of}
 use Rattle.rule_uses.proofs.directives.check_each_use.Given as goal
 
 abbrev pub invariant-loop-directive : goal.invariant-loop-directive
-invariant-loop-directive l = Adds l.fn.faults l.faults (λ f. AtSomeIndex (directives_of (take l.directive-index l.directives)) (λ i d. UseBreaks (place_at (schema_tree l.schema)) (judged (schema_tree l.schema)) (variables_of l.variables) l.location d f))
+invariant-loop-directive l = Adds l.fn.faults l.faults (λ f. AtSomeIndex (directives_of (take l.directive-index l.directives)) (λ i d. UseBreaks (place_at (schema_tree l.judging.schema.now)) (judged (schema_tree l.judging.schema.now)) (variables_of l.judging.variables.now) l.location d f))

@@ -1,4 +1,4 @@
-use Rattle.std.proofs.Common.{[], ◌∷◌, ◌++◌, sym, ap, subst, ◌∙◌}
+use Rattle.std.proofs.Common.{[], ◌∷◌, sym, ap, subst, ◌∙◌}
 use Rattle.std.proofs.lemmas.Result.{on_ok_weaker}
 use Rattle.graphql_names.specs.Placed.{Place, node_tree}
 use Rattle.tree_directives.specs.DirectiveTree.{Arguments, directive_tree, directive_definition_tree}
@@ -17,10 +17,10 @@ use Rattle.rule_values.proofs.in_fault_data.Judgings.{directive_look}
 use Rattle.rule_uses.proofs.Uses.{use_undefined, use_found}
 use Rattle.rule_uses.proofs.directives.check_use.Goals as goal
 
-pub returns-in_ok-fault-in-None : goal.returns-in_ok-fault-in-None
-returns-in_ok-fault-in-None c =
-    let s = schema_tree c.args.schema.now in
-    let vs = variables_of c.args.variables.now in
+pub returns-in-None : goal.returns-in-None
+returns-in-None c =
+    let s = schema_tree c.args.judging.now.schema.now in
+    let vs = variables_of c.args.judging.now.variables.now in
     let d = node_tree directive_tree c.args.directive.now in
     let a = faults_of c.args.faults.now in
     let b = faults_of c.check_given.new.faults in
@@ -28,16 +28,16 @@ returns-in_ok-fault-in-None c =
     let taken = ap arguments_of c.deref.ensures.value ∙ ap (λ (x : Directive). arguments_of x.arguments.items) c.content-used.ensures in
     let given = subst (λ (l : Arguments Place). Adds c.args.faults.now c.check_given.new.faults (GivenBreaks (place_at s) (judged s) vs l)) taken (c.in_ok-check_given.ensures (place_at s) (judged s)) in
     let same = ap (λ (x : Directive). directive_definition_at s x.name.text) (sym c.content-used.ensures) in
-    let e = faults_of c.tell.new.faults in
-    on_ok_weaker c.tell.result
+    let e = faults_of c.undefined_directive.new.faults in
+    on_ok_weaker c.undefined_directive.result
     (λ h. gains_same a e (use_undefined s vs defined c.args.location d (same ∙ sym c.in-None.ensures))
-    (gains_both a b e given (gains_list b e (undefined_directive d ∷ []) (h ∙ ap (λ x. b ++ x ∷ []) c.in_ok-fault-in-None.ensures) (lists_one (undefined_directive d)))))
-    c.tell.ensures.told
+    (gains_both a b e given (gains_list b e (undefined_directive d ∷ []) h (lists_one (undefined_directive d)))))
+    c.undefined_directive.ensures
 
 pub returns-in-Some : goal.returns-in-Some
 returns-in-Some c =
-    let s = schema_tree c.args.schema.now in
-    let vs = variables_of c.args.variables.now in
+    let s = schema_tree c.args.judging.now.schema.now in
+    let vs = variables_of c.args.judging.now.variables.now in
     let d = node_tree directive_tree c.args.directive.now in
     let a = faults_of c.args.faults.now in
     let b = faults_of c.check_given.new.faults in

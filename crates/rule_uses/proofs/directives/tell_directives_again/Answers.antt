@@ -26,9 +26,9 @@ loop-directive-preserved c =
     let named = ap (λ (d : Directive). d.name.text) c.content.ensures in
     let first = c.in_ok-first.ensures.there ∙ noted c.content.result.now.name ∙ ap (first_told directive_name (λ j d. d.place) before) named in
     record {
-      told = places_more (node_tree directive_tree) (λ before d. repeated_directive (directive_definition_at s (directive_name d)) before d) (faults_of c.args.faults.now) (faults_of c.loop-directive.faults) (faults_of c.tell.new.faults) _ xs i x h c.directive-item.is
-          c.loop-directive.invariant.told c.in_ok-tell.ensures.told
-          (c.in_ok-unique_directive.ensures ∙ directive_again_is (directive_definition_at s (directive_name (node_tree directive_tree x))) before (node_tree directive_tree x) c.in_ok-first.first first);
+      told = places_more (node_tree directive_tree) (λ before d. repeated_directive (directive_definition_at s (directive_name d)) before d) (faults_of c.args.faults.now) (faults_of c.loop-directive.faults) (faults_of c.unique_directive.new.faults) _ xs i x h c.directive-item.is
+          c.loop-directive.invariant.told c.in_ok-unique_directive.ensures
+          (directive_again_is (directive_definition_at s (directive_name (node_tree directive_tree x))) before (node_tree directive_tree x) c.in_ok-first.first first);
       noted = noted_next directive_name (node_tree directive_tree) (λ j d. d.place) c.loop-directive.places c.note_first.new.firsts c.content.result.now.name c.location.result xs i x h c.directive-item.is named c.location.ensures
           c.in_ok-first.ensures.noted noted;
     }

@@ -23,8 +23,8 @@ loop-argument-preserved c =
     let named = ap (λ (a : Argument). a.name.text) c.content.ensures in
     let first = c.in_ok-first.ensures.there ∙ noted c.content.result.now.name ∙ ap (first_told argument_name (λ j a. a.place) before) named in
     record {
-      told = places_more (node_tree argument_tree) repeated_argument (faults_of c.args.faults.now) (faults_of c.loop-argument.faults) (faults_of c.tell.new.faults) _ xs i x h c.argument-item.is c.loop-argument.invariant.told c.in_ok-tell.ensures.told
-          (c.in_ok-unique_argument.ensures ∙ argument_again_is before (node_tree argument_tree x) c.in_ok-first.first first);
+      told = places_more (node_tree argument_tree) repeated_argument (faults_of c.args.faults.now) (faults_of c.loop-argument.faults) (faults_of c.unique_argument.new.faults) _ xs i x h c.argument-item.is c.loop-argument.invariant.told c.in_ok-unique_argument.ensures
+          (argument_again_is before (node_tree argument_tree x) c.in_ok-first.first first);
       noted = noted_next argument_name (node_tree argument_tree) (λ j a. a.place) c.loop-argument.places c.note_first.new.firsts c.content.result.now.name c.location.result xs i x h c.argument-item.is named c.location.ensures
           c.in_ok-first.ensures.noted noted;
     }

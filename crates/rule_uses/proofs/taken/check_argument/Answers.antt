@@ -14,8 +14,8 @@ use Rattle.rule_uses.proofs.taken.check_argument.Goals as goal
 
 pub returns : goal.returns
 returns c =
-    let s = schema_tree c.args.schema.now in
-    let vs = variables_of c.args.variables.now in
+    let s = schema_tree c.args.judging.now.schema.now in
+    let vs = variables_of c.args.judging.now.variables.now in
     let at = place c.args.argument.now in
     let told = map fault_of (option_to_list c.in_ok-fault.fault) in
     let a = faults_of c.args.faults.now in

@@ -19,13 +19,13 @@ use Rattle.rule_uses.proofs.taken.check_arguments.Goals.{then-has_number+in_ok-c
 
 pub loop-index-init : goal.loop-index-init
 loop-index-init c =
-    let s = schema_tree c.args.schema.now in
-    gains_none {X = Placed Place (ArgumentTree Place)} (faults_of c.args.faults.now) (λ j a f. FirstGivenBreaks s (variables_of c.args.variables.now) (input_value_trees c.args.taker.now.definitions.now) (take j (arguments_of c.args.taker.now.given.now)) a f)
+    let s = schema_tree c.args.judging.now.schema.now in
+    gains_none {X = Placed Place (ArgumentTree Place)} (faults_of c.args.faults.now) (λ j a f. FirstGivenBreaks s (variables_of c.args.judging.now.variables.now) (input_value_trees c.args.taker.now.definitions.now) (take j (arguments_of c.args.taker.now.given.now)) a f)
 
 pub loop-index-preserved : goal.loop-index-preserved
 loop-index-preserved c =
-    let s = schema_tree c.args.schema.now in
-    let vs = variables_of c.args.variables.now in
+    let s = schema_tree c.args.judging.now.schema.now in
+    let vs = variables_of c.args.judging.now.variables.now in
     let definitions = input_value_trees c.args.taker.now.definitions.now in
     let xs = c.args.taker.now.given.now in
     let i = c.loop-index.index in
@@ -49,8 +49,8 @@ loop-index-preserved c =
 
 pub returns : goal.returns
 returns c =
-    let s = schema_tree c.args.schema.now in
-    let vs = variables_of c.args.variables.now in
+    let s = schema_tree c.args.judging.now.schema.now in
+    let vs = variables_of c.args.judging.now.variables.now in
     let definitions = input_value_trees c.args.taker.now.definitions.now in
     let xs = c.args.taker.now.given.now in
     subst (λ l. Adds c.args.faults.now c.loop-index.faults (λ f. AtSomeIndex (arguments_of l) (λ j a. FirstGivenBreaks s vs definitions (take j (arguments_of xs)) a f)))

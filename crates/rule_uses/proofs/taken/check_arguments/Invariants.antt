@@ -9,4 +9,4 @@ use Rattle.rule_uses.specs.Steps.{FirstGivenBreaks}
 use Rattle.rule_uses.proofs.taken.check_arguments.Given as goal
 
 abbrev pub invariant-loop-index : goal.invariant-loop-index
-invariant-loop-index l = Adds l.fn.faults l.faults (λ f. AtSomeIndex (arguments_of (take l.index l.taker.given.now)) (λ j a. FirstGivenBreaks (schema_tree l.schema) (variables_of l.variables) (input_value_trees l.taker.definitions.now) (take j (arguments_of l.taker.given.now)) a f))
+invariant-loop-index l = Adds l.fn.faults l.faults (λ f. AtSomeIndex (arguments_of (take l.index l.taker.given.now)) (λ j a. FirstGivenBreaks (schema_tree l.judging.schema.now) (variables_of l.judging.variables.now) (input_value_trees l.taker.definitions.now) (take j (arguments_of l.taker.given.now)) a f))

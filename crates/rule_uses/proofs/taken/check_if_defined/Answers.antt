@@ -14,8 +14,8 @@ use Rattle.rule_uses.proofs.taken.check_if_defined.Goals as goal
 
 pub returns-in-Some : goal.returns-in-Some
 returns-in-Some c =
-    let s = schema_tree c.args.schema.now in
-    let vs = variables_of c.args.variables.now in
+    let s = schema_tree c.args.judging.now.schema.now in
+    let vs = variables_of c.args.judging.now.variables.now in
     let definitions = input_value_trees c.args.taker.now.definitions.now in
     let found = ap (λ (x : Argument). find (input_value_has_name x.name.text) definitions) (sym c.content.ensures) ∙ sym c.in-Some.ensures in
     on_ok_weaker c.check_argument.result
@@ -24,8 +24,8 @@ returns-in-Some c =
 
 pub returns-in-None : goal.returns-in-None
 returns-in-None c =
-    let s = schema_tree c.args.schema.now in
-    let vs = variables_of c.args.variables.now in
+    let s = schema_tree c.args.judging.now.schema.now in
+    let vs = variables_of c.args.judging.now.variables.now in
     let definitions = input_value_trees c.args.taker.now.definitions.now in
     let none = ap (λ (x : Argument). find (input_value_has_name x.name.text) definitions) (sym c.content.ensures) ∙ sym c.in-None.ensures in
     gains_nothing (faults_of c.args.faults.now) (DefinedArgumentBreaks s vs definitions (node_tree argument_tree c.args.argument.now)) (λ f q. true≢false (sym (ap is_some (sym none ∙ q.1.0))))

@@ -12,8 +12,8 @@ use Rattle.rule_uses.proofs.taken.check_some_taken.Goals as goal
 
 pub returns : goal.returns
 returns c =
-    let s = schema_tree c.args.schema.now in
-    let vs = variables_of c.args.variables.now in
+    let s = schema_tree c.args.judging.now.schema.now in
+    let vs = variables_of c.args.judging.now.variables.now in
     let t = taker_of c.args.taker.now in
     let ds = input_value_trees c.args.taker.now.definitions.now in
     let a = faults_of c.args.faults.now in

@@ -1,4 +1,4 @@
-use Rattle.std.proofs.Common.{◌++◌, List, [], ap, subst, ◌∙◌}
+use Rattle.std.proofs.Common.{List, [], ap, subst, ◌∙◌}
 use Rattle.std.proofs.lemmas.Result.{on_ok_weaker}
 use Rattle.graphql_names.specs.Placed.{Place, node_tree}
 use Rattle.graphql_names.specs.declared.node.Node.{Node}
@@ -24,14 +24,14 @@ returns c =
     let s = schema_tree c.args.schema.now in
     let x = node_tree variable_definition_tree c.args.variable.now in
     let a = faults_of c.args.faults.now in
-    let b = faults_of c.tell.new.faults in
-    let d = faults_of c.tell-2.new.faults in
+    let b = faults_of c.undefined_definition.new.faults in
+    let d = faults_of c.variable_input_type.new.faults in
     let e = faults_of c.check_judged_default.new.faults in
     let g = faults_of c.check_uses.new.faults in
     let used = ap directives_of c.deref.ensures.value ∙ ap (λ (v : VariableDefinition). directives_of v.directives.0.items) c.content.ensures in
     on_ok_weaker c.check_uses.result
-    (λ h. gains_both a b g (gains_list a b (undefined_definition s x) (c.in_ok-tell.ensures.told ∙ ap (λ l. a ++ l) c.in_ok-undefined_definition.ensures) (lists_undefined s x))
-    (gains_both b d g (gains_list b d (variable_input_type s x) (c.in_ok-tell-2.ensures.told ∙ ap (λ l. b ++ l) c.in_ok-variable_input_type.ensures) (lists_input_type s x))
+    (λ h. gains_both a b g (gains_list a b (undefined_definition s x) c.in_ok-undefined_definition.ensures (lists_undefined s x))
+    (gains_both b d g (gains_list b d (variable_input_type s x) c.in_ok-variable_input_type.ensures (lists_input_type s x))
     (gains_both d e g c.in_ok-check_judged_default.ensures
     (subst (λ (ds : Directives Place). Adds c.check_judged_default.new.faults c.check_uses.new.faults (UsesBreak (place_at s) (judged s) [] location.VariableDefinition ds)) used
     (subst (λ (vs : List (Node VariableDefinition)). Adds c.check_judged_default.new.faults c.check_uses.new.faults (UsesBreak (place_at s) (judged s) (variables_of vs) location.VariableDefinition (directives_of c.deref.result.now))) c.listed-variables.ensures h)))))

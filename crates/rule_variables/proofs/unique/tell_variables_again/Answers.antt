@@ -23,8 +23,8 @@ loop-variable-preserved c =
     let named = ap (λ (v : VariableDefinition). v.name.text) c.content.ensures in
     let first = c.in_ok-first.ensures.there ∙ noted c.content.result.now.name ∙ ap (first_told defined_name (λ j v. v.place) before) named in
     record {
-      told = places_more (node_tree variable_definition_tree) repeated_variable (faults_of c.args.faults.now) (faults_of c.loop-variable.faults) (faults_of c.tell.new.faults) _ xs i x h c.variable-item.is c.loop-variable.invariant.told c.in_ok-tell.ensures.told
-          (c.in_ok-unique_variable.ensures ∙ variable_again_is before (node_tree variable_definition_tree x) c.in_ok-first.first first);
+      told = places_more (node_tree variable_definition_tree) repeated_variable (faults_of c.args.faults.now) (faults_of c.loop-variable.faults) (faults_of c.unique_variable.new.faults) _ xs i x h c.variable-item.is c.loop-variable.invariant.told c.in_ok-unique_variable.ensures
+          (variable_again_is before (node_tree variable_definition_tree x) c.in_ok-first.first first);
       noted = noted_next defined_name (node_tree variable_definition_tree) (λ j v. v.place) c.loop-variable.places c.note_first.new.firsts c.content.result.now.name c.location.result xs i x h c.variable-item.is named c.location.ensures
           c.in_ok-first.ensures.noted noted;
     }

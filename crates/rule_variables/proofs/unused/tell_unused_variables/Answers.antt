@@ -6,7 +6,7 @@ use Rattle.rule_definitions.specs.Words.{AtSomeIndex}
 use Rattle.rule_values.specs.in_fault_data.FaultView.{faults_of}
 use Rattle.rule_values.specs.in_fault_data.Adds.{Adds}
 use Rattle.rule_values.specs.Wanting.{variables_of}
-use Rattle.rule_definitions.proofs.Listing.{gains_none, gains_more, gains_list, mapped_more}
+use Rattle.rule_definitions.proofs.Listing.{gains_none, gains_more, mapped_more}
 use Rattle.rule_document_ground.specs.NotedNames.{noted_names}
 use Rattle.rule_variables.specs.VariableFaults.{Defined, UnusedAmong}
 use Rattle.rule_variables.proofs.unused.tell_unused_variables.Goals as goal
@@ -21,9 +21,8 @@ loop-variable-preserved c =
     let i = c.loop-variable.variable-index in
     let x = c.variable-item.result in
     let h : i < length xs = omega arith in
-    gains_more (faults_of c.args.faults.now) (faults_of c.loop-variable.faults) (faults_of c.tell.new.faults) (variables_of (take i xs)) (variables_of (take (i + 1) xs)) (node_tree variable_definition_tree x)
-    (λ k y f. UnusedAmong used y f) (mapped_more (node_tree variable_definition_tree) xs i x h c.variable-item.is) c.loop-variable.invariant
-    (gains_list (faults_of c.loop-variable.faults) (faults_of c.tell.new.faults) _ c.in_ok-tell.ensures.told c.in_ok-unused_variable.ensures)
+    gains_more (faults_of c.args.faults.now) (faults_of c.loop-variable.faults) (faults_of c.unused_variable.new.faults) (variables_of (take i xs)) (variables_of (take (i + 1) xs)) (node_tree variable_definition_tree x)
+    (λ k y f. UnusedAmong used y f) (mapped_more (node_tree variable_definition_tree) xs i x h c.variable-item.is) c.loop-variable.invariant c.in_ok-unused_variable.ensures
 
 pub returns : goal.returns
 returns c =

@@ -1,12 +1,13 @@
-use Rattle.std.proofs.Common.{[], ap, ◌∙◌}
+use Rattle.std.proofs.Common.{◌++◌, [], ap, ◌∙◌}
 use Rattle.std.specs.Option.{option_map_or}
-use Rattle.std.proofs.lemmas.Result.{IfOk-weaker}
+use Rattle.std.proofs.lemmas.Result.{IfOk-equal}
 use Rattle.graphql_names.specs.Placed.{node_tree}
 use Rattle.tree_directives.specs.DirectiveTree.{input_value_tree}
 use Rattle.tree_type_members.specs.TypeSystemTree.{field_definition_tree}
+use Rattle.fault_data.specs.FaultView.{faults_of}
 use Rattle.rule_interfaces.specs.InterfaceFaults.{Input, extra_required_argument}
 use Rattle.rule_interfaces.proofs.FirstsFacts.{none_lent}
-use Rattle.rule_interfaces.proofs.arguments.own_argument_fault.Goals as goal
+use Rattle.rule_interfaces.proofs.arguments.check_own_argument.Goals as goal
 
 pub returns-in-None : goal.returns-in-None
 returns-in-None c = λ vs are.
@@ -16,6 +17,5 @@ returns-in-None c = λ vs are.
     let m = own.field_name.now.text in
     let w = node_tree input_value_tree c.args.argument.now in
     let lacking = extra_required_argument n i m (node_tree field_definition_tree own.wanted.now) (node_tree field_definition_tree own.field.now) w in
-    IfOk-weaker c.extra_required_implementation_field_argument.result _ _
-    (λ r is. is ∙ ap (λ o. option_map_or (λ (v : Input). []) o lacking) (none_lent (node_tree input_value_tree) c.first_like.result c.in-None.is ∙ c.first_like.ensures vs are))
-    c.extra_required_implementation_field_argument.ensures
+    IfOk-equal c.extra_required_implementation_field_argument.result _ _ _ c.extra_required_implementation_field_argument.ensures
+    (ap (λ o. faults_of c.args.faults.now ++ option_map_or (λ (v : Input). []) o lacking) (none_lent (node_tree input_value_tree) c.first_like.result c.in-None.is ∙ c.first_like.ensures vs are))

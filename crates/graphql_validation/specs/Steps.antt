@@ -1,0 +1,98 @@
+-- Private: leads to `TellsData` and `TellsDocument`. What the checks of operations find and note, and what is told at the end, as the program has it.
+use Rattle.std.specs.Prelude.{◌≡◌, ◌++◌, List, map, Option, Contains}
+use Rattle.indexmap.specs.IndexMap.{IndexMap}
+use Rattle.graphql_names.specs.NameValue.{NameValue}
+use Rattle.graphql_names.specs.Placed.{Place}
+use Rattle.graphql_names.specs.declared.node.Node.{Node}
+use Rattle.schema_types.specs.SchemaTree.{SchemaTree}
+use Rattle.schema_types.specs.Plain.{plain}
+use Rattle.document_typed_operations.specs.declared.operation.Fragment.{Fragment}
+use Rattle.document_meaning.specs.MeantTree.{MeantOperation, MeantDocument}
+use Rattle.document_typing.specs.Meanings.{meanings}
+use Rattle.fault_data.specs.Adds.{Adds}
+use Rattle.fault_data.specs.FaultView.{faults_of}
+use Rattle.graphql_faults.specs.DetailsTree.{of_document}
+use Rattle.graphql_faults.specs.DetailsView.{diagnostics_of}
+use Rattle.graphql_faults.specs.declared.diagnostic_list.DiagnosticList.{DiagnosticList}
+use Rattle.rule_definitions.specs.Judged.{judged}
+use Rattle.rule_definitions.specs.Told.{PlacedFault}
+use Rattle.rule_document_definitions.specs.Merging.{FieldsMerge}
+use Rattle.rule_document_definitions.specs.Reached.{AtOperation}
+use Rattle.rule_document_definitions.specs.Selected.{operations}
+use Rattle.rule_document_definitions.specs.Told.{PlacedDocumentFault}
+use Rattle.rule_document_ground.specs.NotedNames.{noted_names}
+use Rattle.rule_document_ground.specs.Reach.{meant_fragments}
+use Rattle.rule_fragments.specs.Possible.{ArePossibleIfFound}
+use Rattle.rule_fragments.specs.Used.{AreUnderOwnNames, AreUsed}
+use Rattle.rule_fragments.specs.declared.possible_types.PossibleTypes.{PossibleTypes}
+use Rattle.rule_merging.specs.Merged.{DocumentMergingTold}
+use Rattle.rule_selections.specs.Settled.{StandIn}
+use Rattle.rule_selections.specs.Typed.{ReachesTyped}
+use Rattle.graphql_validation.specs.Operations.{OperationFailsAlone, OperationFails, ReachesNamed, AreReachesTyped, NotesNames, FragmentsTold, TellsData, AllAlone, AllUnder}
+use Rattle.graphql_validation.specs.declared.found.Found.{Found}
+
+-- what was told, and after it this of documents
+abbrev pub AddsDetails : DiagnosticList → DiagnosticList → List PlacedDocumentFault → Type 0
+AddsDetails old new told = diagnostics_of new ≡ diagnostics_of old ++ map of_document told
+
+-- the names of the fragments that an operation reaches are noted, and of those that one of a document does
+abbrev pub NotesReached : MeantDocument Place → MeantOperation Place → Found → Found → Type 0
+NotesReached d o old new = NotesNames (noted_names old.used) (noted_names new.used) (ReachesNamed d o)
+
+abbrev pub NotesAllReached : MeantDocument Place → Found → Found → Type 0
+NotesAllReached d old new = NotesNames (noted_names old.used) (noted_names new.used) (λ n. AtOperation d (λ o. ReachesNamed d o n))
+
+-- where fragments are under their own names, and the names are those that operations reach, the faults of all fragments come after these
+abbrev pub TellsFragments : MeantDocument Place → Found → List PlacedFault → Type 0
+TellsFragments d found told = AreUnderOwnNames d → AreUsed d (noted_names found.used) → FragmentsTold d (faults_of found.faults) told
+
+-- ---- without a schema
+
+-- what is found of an operation, and of each of a document
+abbrev pub FindsAlone : MeantDocument Place → MeantOperation Place → Found → Found → Type 0
+FindsAlone d o old new = Adds old.faults new.faults (OperationFailsAlone d o)
+
+abbrev pub FindsAllAlone : MeantDocument Place → Found → Found → Type 0
+FindsAllAlone d old new = Adds old.faults new.faults (λ f. AtOperation d (λ o. OperationFailsAlone d o f))
+
+abbrev pub TellsAlone : MeantDocument Place → List PlacedFault → Type 0
+TellsAlone d told = AreUnderOwnNames d → TellsData d (AllAlone d) (OperationFailsAlone d) told
+
+-- ---- under a schema
+
+-- fragments under their names
+abbrev pub FragmentsOf : Type 0 → Type 0
+FragmentsOf S = IndexMap NameValue (Node Fragment) S
+
+module _ (s : SchemaTree Place) where
+  -- if the possible types that were found are right, so are these
+  abbrev pub StayPossible : Option PossibleTypes → Option PossibleTypes → Type 0
+  StayPossible old new = ArePossibleIfFound (judged s) old → ArePossibleIfFound (judged s) new
+
+  -- what is found of an operation, whatever the document for whose fragments these stand in
+  abbrev pub FindsUnder : {S : Type 0} → FragmentsOf S → MeantOperation Place → Option PossibleTypes → Found → Found → Type 0
+  FindsUnder fragments o possible old new = (d : MeantDocument Place) → StandIn s d.fragments (meant_fragments fragments) → ReachesTyped (meanings (plain s)) d o → ArePossibleIfFound (judged s) possible
+      → Adds old.faults new.faults (OperationFails d o s)
+
+  abbrev pub NotesUnder : {S : Type 0} → FragmentsOf S → MeantOperation Place → Found → Found → Type 0
+  NotesUnder fragments o old new = (d : MeantDocument Place) → StandIn s d.fragments (meant_fragments fragments) → NotesReached d o old new
+
+  module _ (d : MeantDocument Place) where
+    -- what is found of each operation of the document, if these stand in for its fragments
+    abbrev pub FindsAllUnder : {S : Type 0} → FragmentsOf S → Option PossibleTypes → Found → Found → Type 0
+    FindsAllUnder fragments possible old new = StandIn s d.fragments (meant_fragments fragments) → AreReachesTyped s d → ArePossibleIfFound (judged s) possible
+        → Adds old.faults new.faults (λ f. AtOperation d (λ o. OperationFails d o s f))
+
+    abbrev pub NotesAllUnder : {S : Type 0} → FragmentsOf S → Found → Found → Type 0
+    NotesAllUnder fragments old new = StandIn s d.fragments (meant_fragments fragments) → NotesAllReached d old new
+
+    abbrev pub TellsUnder : List PlacedFault → Type 0
+    TellsUnder told = AreReachesTyped s d → AreUnderOwnNames d → TellsData d (AllUnder s d) (λ o. OperationFails d o s) told
+
+    -- what merging tells of the operations of the document
+    abbrev pub TellsMerging : DiagnosticList → DiagnosticList → Type 0
+    TellsMerging old new = DocumentMergingTold (judged s) d (diagnostics_of old) (diagnostics_of new)
+
+    -- the fields of each operation merge
+    abbrev pub AllMerge : Type 0
+    AllMerge = (o : MeantOperation Place) → Contains (operations d) o → FieldsMerge (judged s) d o

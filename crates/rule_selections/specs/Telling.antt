@@ -1,0 +1,72 @@
+-- Private: leads to `SelectionsBreak`. What the checks of fields, selections and fragments add, and what settles a fragment, as the program has it.
+use Rattle.std.specs.Prelude.{List, Vec, Contains}
+use Rattle.std.specs.declared.alloc.Global.{Global}
+use Rattle.graphql_names.specs.Node.{content}
+use Rattle.graphql_names.specs.NameValue.{NameValue}
+use Rattle.graphql_names.specs.Placed.{Place}
+use Rattle.graphql_names.specs.declared.node.Node.{Node}
+use Rattle.tree_directives.specs.declared.directive_location.DirectiveLocation.TheVariants as location
+use Rattle.schema_components.specs.Names.{Entries}
+use Rattle.schema_types.specs.SchemaTree.{SchemaTree}
+use Rattle.schema_types.specs.Plain.{plain}
+use Rattle.schema_types.specs.Addresses.{place_at}
+use Rattle.document_typed_selections.specs.TypedTree.{typed_selection_tree, typed_set_tree}
+use Rattle.document_typed_selections.specs.declared.selection.Selection.{Selection}
+use Rattle.document_typed_selections.specs.declared.selection.SelectionSet.{SelectionSet}
+use Rattle.document_typed_operations.specs.TypedDocument.{typed_fragment_tree}
+use Rattle.document_typed_operations.specs.declared.operation.Fragment.{Fragment}
+use Rattle.document_meaning.specs.MeantTree.{MeantFragment, meant}
+use Rattle.document_typing.specs.Meanings.{meanings}
+use Rattle.document_typing.specs.TypedByPlace.{IsTyped}
+use Rattle.fault_data.specs.Adds.{Adds}
+use Rattle.fault_data.specs.declared.fault.Fault.{Fault}
+use Rattle.rule_definitions.specs.GivenValues.{Variables}
+use Rattle.rule_definitions.specs.Judged.{judged}
+use Rattle.rule_definitions.specs.Told.{PlacedFault}
+use Rattle.rule_definitions.specs.Uses.{TakerBreaks, UsesBreak}
+use Rattle.rule_definitions.specs.Words.{AtSomeIndex}
+use Rattle.rule_document_definitions.specs.Selected.{StandingField}
+use Rattle.rule_document_definitions.specs.Selections.{field_taker}
+use Rattle.rule_document_definitions.specs.Told.{place_or_built_in, places_in}
+use Rattle.rule_document_ground.specs.Reach.{Member}
+use Rattle.rule_selections.specs.Settled.{KeepsUnlessQuiet, StandIn}
+use Rattle.rule_selections.specs.Steps.{IsDefined, FieldBreaks, SelectionBreaks}
+
+-- faults
+abbrev pub Faults : Type 0
+Faults = Vec Fault Global
+
+-- a selection of a set on the type `parent`
+abbrev pub member_there : NameValue → Selection → Member Place
+member_there parent selection = (parent.text, meant (typed_selection_tree selection))
+
+module _ (s : SchemaTree Place) where
+  module _ (variables : Variables Place) where
+    -- of a field that has the definition on the type around it: the faults of what is given by that; and all of a field
+    abbrev pub AddsTaken : StandingField Place → Faults → Faults → Type 0
+    AddsTaken x old new = IsDefined s x → Adds old new (TakerBreaks (place_or_built_in s) (judged s) variables (field_taker (places_in s) x))
+
+    abbrev pub AddsOfField : StandingField Place → Faults → Faults → Type 0
+    AddsOfField x old new = IsDefined s x → Adds old new (FieldBreaks s variables x)
+
+    -- of a selection that is typed there, and of each of these
+    abbrev pub AddsOfSelection : Member Place → Faults → Faults → Type 0
+    AddsOfSelection e old new = IsTyped (meanings (plain s)) e.0 e.1 → Adds old new (SelectionBreaks s variables e)
+
+    abbrev pub AddsOfSelections : List (Member Place) → Faults → Faults → Type 0
+    AddsOfSelections es old new = ((e : Member Place) → Contains es e → IsTyped (meanings (plain s)) e.0 e.1) → Adds old new (λ f. AtSomeIndex es (λ i e. SelectionBreaks s variables e f))
+
+    -- of the directives of a fragment, and of each of these
+    abbrev pub AddsOfFragment : Node Fragment → Faults → Faults → Type 0
+    AddsOfFragment n old new = Adds old new (UsesBreak (place_at s) (judged s) variables location.FragmentDefinition (typed_fragment_tree (content n)).directives)
+
+    abbrev pub AddsOfFragments : List (MeantFragment Place) → Faults → Faults → Type 0
+    AddsOfFragments fragments old new = Adds old new (λ f. AtSomeIndex fragments (λ i x. UsesBreak (place_at s) (judged s) variables location.FragmentDefinition x.directives f))
+
+  -- a selection is put last, or of it nothing is told
+  abbrev pub KeepsSelection : NameValue → Selection → SelectionSet → SelectionSet → Type 0
+  KeepsSelection ty selection old new = KeepsUnlessQuiet s ty.text (typed_selection_tree selection) (typed_set_tree old) (typed_set_tree new)
+
+  -- if the old ones may stand in for these, so may the new ones
+  abbrev pub StillStandIn : (fragments old new : Entries (MeantFragment Place)) → Type 0
+  StillStandIn fragments old new = StandIn s fragments old → StandIn s fragments new
