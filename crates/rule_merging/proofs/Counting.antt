@@ -1,5 +1,5 @@
 -- How often shapes are compared, and that the members of each list that is examined are last fields of chains.
-use Rattle.std.proofs.Common.{◌≡◌, ◌∙◌, ℕ, ◌+◌, ◌≤◌, None, List, [], ◌∷◌, ◌++◌, map, length, Contains, refl, sym, ap, subst, append_assoc, append-nil, arith, inl, inr}
+use Rattle.std.proofs.Common.{◌≡◌, ◌⊎◌, ◌∙◌, ℕ, ◌+◌, ◌*◌, ◌≤◌, None, List, [], ◌∷◌, ◌++◌, map, length, Contains, refl, sym, ap, subst, append_assoc, append-nil, arith, inl, inr}
 use Rattle.std.specs.List.{sum}
 use Rattle.std.specs.List.Sorted.{IsPermutation}
 use Rattle.std.proofs.lemmas.List.{length-map}
@@ -29,20 +29,16 @@ use Rattle.rule_field_groups.specs.Below.{contents_of, IsMergedIn}
 use Rattle.rule_merging.specs.Remembered.{Kept}
 use Rattle.rule_merging.specs.Examined.{SelectsAsMuch, SetsExamined}
 use Rattle.rule_merging.specs.Twos.{IsListOf, are_two}
-use Rattle.rule_merging.specs.Verdict.{OnlyGrow}
+use Rattle.rule_merging.specs.Verdict.{OnlyGrow, IsCountedIn}
 use Rattle.rule_field_groups.specs.Compared.{compared}
-use Rattle.rule_merging.specs.Counted.{DifferInMembers, AreApart, IsLast, AreLast, AreListed, Grows, IsCountedBy}
-use Rattle.rule_number_lists.specs.NumberLists.{HaveSame}
+use Rattle.rule_merging.specs.Counted.{Account, no_account, most_members, most_comparisons, IsWithin, Meets, OnlyMeets, Pays, DifferInMembers, AreApart, IsLast, AreLast, AreListed, Grows, IsCountedBy, IsPaidBy}
+use Rattle.rule_number_lists.specs.NumberLists.{HaveSame, length_above_two}
 use Rattle.rule_number_lists.proofs.Standing.{same_order, same_trans, same_sym, no_repeat_order}
+use Rattle.rule_number_lists.proofs.Few.{squares, no_longer, few, above_two_length, above_two_le}
 use Rattle.rule_field_groups.proofs.Counts.{sums}
 use Rattle.rule_field_groups.proofs.Lists.{slice_get-push_cases, contains_from_get, none_twice, apart_more}
 
 -- ---- sums
-
--- where nothing is compared
-no_sum : {X : Type 0} (lists : List (List X)) → sum (map (compared Selections) lists) ≡ 0
-no_sum [] = refl
-no_sum (list ∷ lists) = no_sum lists
 
 -- a list is as long as its contents, in whatever order
 pub compared_contents : (pass : Pass) (list : List FieldSelection) → compared pass (contents_of list) ≡ compared pass list
@@ -70,6 +66,18 @@ differ_more lists list differ none i j a b h k same = elim (slice_get-push_cases
     | inr q ↦ p.0 ∙ sym q.0
   ]
 ]
+
+-- ---- what is paid
+
+-- nothing is spent, and the fields that were met stay
+still_within : (old new : Account) → new.spent ≡ old.spent → length old.met ≤ length new.met → IsWithin old → IsWithin new
+still_within old new e more within = omega (arith, e, more, within, squares (length old.met) (length new.met) more)
+
+pub pays_nothing : (list : List PlainField) (old new : Account) → new.lists ≡ old.lists → Meets list old new → new.spent ≡ old.spent → Pays list old new
+pays_nothing list old new is m e = record { lists = is; meets = m; spends = omega (arith, e); within = still_within old new e m.more }
+
+pub pays_all : (list : List PlainField) (old new : Account) → new.lists ≡ old.lists → Meets list old new → new.spent ≡ old.spent + length list → new.spent ≤ most_members (length new.met) → Pays list old new
+pays_all list old new is m e within = record { lists = is; meets = m; spends = omega (arith, e); within = λ h. within }
 
 -- ---- last fields of chains
 
@@ -127,40 +135,28 @@ module _ (d : MeantDocument Place) where
   Premise = List (MeantOperation Place) → Type 0
 
   -- none
-  pub grows_not : (Given : Premise) (pass : Pass) (lists : List (List PlainField)) (count : ℕ) → Grows d Given pass lists lists count count
-  grows_not Given pass lists count = record {
+  pub grows_not : (Given : Premise) (pass : Pass) (a : Account) → Grows d Given pass a a
+  grows_not Given pass a = record {
     added = [];
-    is = sym (append-nil lists);
+    is = sym (append-nil a.lists);
     more = omega arith;
     count = omega arith;
     apart = λ list c. not_in_nil list c;
     different = λ apart differ. differ;
     last = λ os given list c. not_in_nil list c;
+    paid = omega arith;
+    within = λ h. h;
+    once = λ h. h;
+    meets = λ os given x c. inl c;
   }
 
-  -- the same lists under another name
-  pub grows_same : (Given : Premise) (pass : Pass) (old new : List (List PlainField)) (count : ℕ) → new ≡ old → Grows d Given pass old new count count
-  grows_same Given pass old new count e = subst (λ l. Grows d Given pass old l count count) (sym e) (grows_not Given pass old count)
-
-  -- one, in some order
-  pub grows_one : (pass : Pass) (list : List FieldSelection) (kept : List PlainField) (old new : List (List PlainField)) (before after : ℕ) → HasNoRepeat (contents_of list) → IsPermutation (contents_of list) kept
-      → ((known : List PlainField) → Contains old known → HasNoRepeat known → HasNoRepeat (contents_of list) → HaveSame known (contents_of list) → ⊥) → new ≡ old ++ kept ∷ []
-      → before ≤ after → after ≤ before + compared pass list → Grows d (λ os. AreLast d os (contents_of list)) pass old new before after
-  grows_one pass list kept old new before after apart order none is more count = record {
-    added = kept ∷ [];
-    is = is;
-    more = more;
-    count = omega (arith, count, compared_contents pass list, compared_order pass (contents_of list) kept order);
-    apart = λ l c. subst HasNoRepeat (sym (only kept l c)) (no_repeat_order (contents_of list) kept order apart);
-    different = λ each differ. subst DifferInMembers (sym is) (differ_more old kept differ (λ known c same.
-        none known c (each known c) apart (same_trans known kept (contents_of list) same (same_sym (contents_of list) kept (same_order (contents_of list) kept order)))));
-    last = λ os given l c x k. given x ((same_order (contents_of list) kept order x).1 (subst (λ m. Contains m x) (only kept l c) k));
-  }
+  -- the same under another name
+  pub grows_same : (Given : Premise) (pass : Pass) (old new : Account) → new ≡ old → Grows d Given pass old new
+  grows_same Given pass old new e = subst (Grows d Given pass old) (sym e) (grows_not Given pass old)
 
   -- where less is given
-  pub grows_given : (Given Other : Premise) → ((os : List (MeantOperation Place)) → Other os → Given os) → (pass : Pass) (old new : List (List PlainField)) (before after : ℕ)
-      → Grows d Given pass old new before after → Grows d Other pass old new before after
-  grows_given Given Other less pass old new before after g = record {
+  pub grows_given : (Given Other : Premise) → ((os : List (MeantOperation Place)) → Other os → Given os) → (pass : Pass) (old new : Account) → Grows d Given pass old new → Grows d Other pass old new
+  grows_given Given Other less pass old new g = record {
     added = g.added;
     is = g.is;
     more = g.more;
@@ -168,82 +164,179 @@ module _ (d : MeantDocument Place) where
     apart = g.apart;
     different = g.different;
     last = λ os given. g.last os (less os given);
+    paid = g.paid;
+    within = g.within;
+    once = g.once;
+    meets = λ os given. g.meets os (less os given);
   }
 
-  -- a list of two fields
-  pub grows_two : (pass : Pass) (one other : FieldSelection) (list : List FieldSelection) (kept : List PlainField) (old new : List (List PlainField)) (before after : ℕ) → IsListOf one other list → IsPermutation (contents_of list) kept
-      → ((known : List PlainField) → Contains old known → HasNoRepeat known → HasNoRepeat (contents_of list) → HaveSame known (contents_of list) → ⊥) → new ≡ old ++ kept ∷ []
-      → before ≤ after → after ≤ before + compared pass list
-      → Grows d (λ os. (p q : FieldSelection) → are_two one other p q → IsLast d os (content_of p) × IsLast d os (content_of q)) pass old new before after
-  grows_two pass one other list kept old new before after two order none is more count =
-      grows_given (λ os. AreLast d os (contents_of list)) (λ os. (p q : FieldSelection) → are_two one other p q → IsLast d os (content_of p) × IsLast d os (content_of q)) (λ os given. lasts os (given one other (refl, refl))) pass old new before after
-      (grows_one pass list kept old new before after (apart two) order none is more count)
-    where
-      lasts : (os : List (MeantOperation Place)) → IsLast d os (content_of one) × IsLast d os (content_of other) → AreLast d os (contents_of list)
-      lasts os (a, b) = by two
-        where
-          by : IsListOf one other list → AreLast d os (contents_of list)
-          by (inl (e, l)) x c = subst (IsLast d os) (sym (only (content_of one) x (subst (λ (m : List FieldSelection). Contains (contents_of m) x) l c))) a
-          by (inr (e, l)) x c = elim (Contains-cons (content_of one) (content_of other ∷ []) x (subst (λ (m : List FieldSelection). Contains (contents_of m) x) l c)) [
-            | inl i ↦ subst (IsLast d os) i a
-            | inr r ↦ subst (IsLast d os) (sym (only (content_of other) x r)) b
-          ]
+  -- what is met of a list
+  met_so : (list : List PlainField) (old new : Account) → Meets list old new → (os : List (MeantOperation Place)) → AreLast d os list → (x : PlainField) → Contains new.met x → Contains old.met x ⊎ IsLast d os x
+  met_so list old new m os given x c = elim (m.only x c) [ inl a ↦ inl a | inr b ↦ inr (given x b) ]
 
-      apart : IsListOf one other list → HasNoRepeat (contents_of list)
-      apart (inl (e, l)) = subst (λ (m : List FieldSelection). HasNoRepeat (contents_of m)) (sym l) (apart_more [] (content_of one) none_twice (λ c. not_in_nil (content_of one) c))
-      apart (inr (e, l)) = subst (λ (m : List FieldSelection). HasNoRepeat (contents_of m)) (sym l)
-          (apart_more (content_of one ∷ []) (content_of other) (apart_more [] (content_of one) none_twice (λ c. not_in_nil (content_of one) c)) (λ c. e (sym (only (content_of one) (content_of other) c))))
+  -- no list comes, but fields are met, and members may be paid
+  no_lists : (pass : Pass) (list : List PlainField) (old new : Account) → new.lists ≡ old.lists → Meets list old new → old.spent ≤ new.spent → (IsWithin old → IsWithin new) → Grows d (λ os. AreLast d os list) pass old new
+  no_lists pass list old new is m spends within = record {
+    added = [];
+    is = is ∙ sym (append-nil old.lists);
+    more = omega (arith, m.same);
+    count = omega (arith, m.same);
+    apart = λ l c. not_in_nil l c;
+    different = λ apart differ. subst DifferInMembers (sym is) differ;
+    last = λ os given l c. not_in_nil l c;
+    paid = omega (arith, spends);
+    within = within;
+    once = λ h. m.once;
+    meets = met_so list old new m;
+  }
+
+  -- a list is asked for, and paid or not
+  pub grows_paying : (pass : Pass) (list : List PlainField) (old new : Account) → Pays list old new → Grows d (λ os. AreLast d os list) pass old new
+  grows_paying pass list old new p = no_lists pass list old new p.lists p.meets p.spends p.within
+
+  -- a list is known, or memory is refused
+  pub grows_meeting : (pass : Pass) (list : List PlainField) (old new : Account) → new.lists ≡ old.lists → OnlyMeets list old new → Grows d (λ os. AreLast d os list) pass old new
+  grows_meeting pass list old new is (m, e) = no_lists pass list old new is m (omega (arith, e)) (still_within old new e m.more)
+
+  -- one list, in some order
+  grows_one : (pass : Pass) (list : List FieldSelection) (kept : List PlainField) (old mid new : Account) → HasNoRepeat (contents_of list) → IsPermutation (contents_of list) kept
+      → ((known : List PlainField) → Contains old.lists known → HasNoRepeat known → HasNoRepeat (contents_of list) → HaveSame known (contents_of list) → ⊥) → mid.lists ≡ old.lists ++ kept ∷ []
+      → Meets (contents_of list) old mid → old.spent + length_above_two (contents_of list) ≤ mid.spent → (IsWithin old → IsWithin mid)
+      → mid.comparisons ≤ new.comparisons → new.comparisons ≤ mid.comparisons + compared pass list → new ≡ record mid { comparisons = new.comparisons }
+      → Grows d (λ os. AreLast d os (contents_of list)) pass old new
+  grows_one pass list kept old mid new apart order none is m paid within more count e = subst (Grows d (λ os. AreLast d os (contents_of list)) pass old) (sym e) (record {
+    added = kept ∷ [];
+    is = is;
+    more = omega (arith, more, m.same);
+    count = omega (arith, count, m.same, compared_contents pass list, compared_order pass (contents_of list) kept order);
+    apart = λ l c. subst HasNoRepeat (sym (only kept l c)) (no_repeat_order (contents_of list) kept order apart);
+    different = λ each differ. subst DifferInMembers (sym is) (differ_more old.lists kept differ (λ known c same.
+        none known c (each known c) apart (same_trans known kept (contents_of list) same (same_sym (contents_of list) kept (same_order (contents_of list) kept order)))));
+    last = λ os given l c x k. given x ((same_order (contents_of list) kept order x).1 (subst (λ m. Contains m x) (only kept l c) k));
+    paid = omega (arith, paid, above_two_length kept (contents_of list) (length_permutation (contents_of list) kept order));
+    within = within;
+    once = λ h. m.once;
+    meets = met_so (contents_of list) old mid m;
+  })
+
+  -- a list that was paid before
+  pub grows_paid : (pass : Pass) (list : List FieldSelection) (kept : List PlainField) (before old mid new : Account) → Pays (contents_of list) before old → before.spent + length (contents_of list) ≤ old.spent
+      → HasNoRepeat (contents_of list) → IsPermutation (contents_of list) kept
+      → ((known : List PlainField) → Contains old.lists known → HasNoRepeat known → HasNoRepeat (contents_of list) → HaveSame known (contents_of list) → ⊥) → mid.lists ≡ old.lists ++ kept ∷ []
+      → OnlyMeets (contents_of list) old mid → mid.comparisons ≤ new.comparisons → new.comparisons ≤ mid.comparisons + compared pass list → new ≡ record mid { comparisons = new.comparisons }
+      → Grows d (λ os. AreLast d os (contents_of list)) pass before new
+  grows_paid pass list kept before old mid new p enough apart order none is (m, spent) more count e =
+      grows_one pass list kept before mid new apart order (λ known c. none known (subst (λ l. Contains l known) (sym p.lists) c)) (is ∙ ap (λ l. l ++ kept ∷ []) p.lists) both
+      (omega (arith, enough, spent, above_two_le (contents_of list))) (λ h. still_within old mid spent m.more (p.within h)) more count e
+    where
+      both : Meets (contents_of list) before mid
+      both = record {
+        only = λ x c. elim (m.only x c) [ inl a ↦ p.meets.only x a | inr b ↦ inr b ];
+        once = m.once;
+        more = omega (arith, m.more, p.meets.more);
+        same = m.same ∙ p.meets.same;
+      }
+
+  -- fields of one of two
+  abbrev pub LastOfTwo : FieldSelection → FieldSelection → Premise
+  LastOfTwo one other os = (p q : FieldSelection) → are_two one other p q → IsLast d os (content_of p) × IsLast d os (content_of q)
+
+  lasts : (one other : FieldSelection) (list : List FieldSelection) → IsListOf one other list → (os : List (MeantOperation Place)) → LastOfTwo one other os → AreLast d os (contents_of list)
+  lasts one other list two os given = by two
+    where
+      by : IsListOf one other list → AreLast d os (contents_of list)
+      by (inl (e, l)) x c = subst (IsLast d os) (sym (only (content_of one) x (subst (λ (m : List FieldSelection). Contains (contents_of m) x) l c))) (given one other (refl, refl)).0
+      by (inr (e, l)) x c = elim (Contains-cons (content_of one) (content_of other ∷ []) x (subst (λ (m : List FieldSelection). Contains (contents_of m) x) l c)) [
+        | inl i ↦ subst (IsLast d os) i (given one other (refl, refl)).0
+        | inr r ↦ subst (IsLast d os) (sym (only (content_of other) x r)) (given one other (refl, refl)).1
+      ]
+
+  two_apart : (one other : FieldSelection) (list : List FieldSelection) → IsListOf one other list → HasNoRepeat (contents_of list)
+  two_apart one other list (inl (e, l)) = subst (λ (m : List FieldSelection). HasNoRepeat (contents_of m)) (sym l) (apart_more [] (content_of one) none_twice (λ c. not_in_nil (content_of one) c))
+  two_apart one other list (inr (e, l)) = subst (λ (m : List FieldSelection). HasNoRepeat (contents_of m)) (sym l)
+      (apart_more (content_of one ∷ []) (content_of other) (apart_more [] (content_of one) none_twice (λ c. not_in_nil (content_of one) c)) (λ c. e (sym (only (content_of one) (content_of other) c))))
+
+  -- two are not many
+  two_short : (one other : FieldSelection) (list : List FieldSelection) → IsListOf one other list → length_above_two (contents_of list) ≡ 0
+  two_short one other list (inl (e, l)) = ap (λ (m : List FieldSelection). length_above_two (contents_of m)) l
+  two_short one other list (inr (e, l)) = ap (λ (m : List FieldSelection). length_above_two (contents_of m)) l
+
+  -- a list of two fields
+  pub grows_two : (pass : Pass) (one other : FieldSelection) (list : List FieldSelection) (kept : List PlainField) (old mid new : Account) → IsListOf one other list → IsPermutation (contents_of list) kept
+      → ((known : List PlainField) → Contains old.lists known → HasNoRepeat known → HasNoRepeat (contents_of list) → HaveSame known (contents_of list) → ⊥) → mid.lists ≡ old.lists ++ kept ∷ []
+      → OnlyMeets (contents_of list) old mid → mid.comparisons ≤ new.comparisons → new.comparisons ≤ mid.comparisons + compared pass list → new ≡ record mid { comparisons = new.comparisons }
+      → Grows d (LastOfTwo one other) pass old new
+  grows_two pass one other list kept old mid new two order none is (m, spent) more count e =
+      grows_given (λ os. AreLast d os (contents_of list)) (LastOfTwo one other) (lasts one other list two) pass old new
+      (grows_one pass list kept old mid new (two_apart one other list two) order none is m (omega (arith, spent, two_short one other list two)) (still_within old mid spent m.more) more count e)
+
+  -- two that are known, or for which memory is refused
+  pub two_meeting : (pass : Pass) (one other : FieldSelection) (list : List FieldSelection) (old new : Account) → IsListOf one other list → new.lists ≡ old.lists → OnlyMeets (contents_of list) old new → Grows d (LastOfTwo one other) pass old new
+  two_meeting pass one other list old new two is m = grows_given (λ os. AreLast d os (contents_of list)) (LastOfTwo one other) (lasts one other list two) pass old new (grows_meeting pass (contents_of list) old new is m)
 
   both_apart : (xs ys : List (List PlainField)) → AreApart xs → AreApart ys → AreApart (xs ++ ys)
   both_apart xs ys a b list c = elim (Contains-append_cases xs ys list c) [ inl h ↦ a list h | inr h ↦ b list h ]
 
   -- some and then others
-  pub grows_on : (Given : Premise) (pass : Pass) (old mid new : List (List PlainField)) (before between after : ℕ) → Grows d Given pass old mid before between → Grows d Given pass mid new between after
-      → Grows d Given pass old new before after
-  grows_on Given pass old mid new before between after first later = record {
+  pub grows_on : (Given : Premise) (pass : Pass) (old mid new : Account) → Grows d Given pass old mid → Grows d Given pass mid new → Grows d Given pass old new
+  grows_on Given pass old mid new first later = record {
     added = first.added ++ later.added;
-    is = later.is ∙ ap (λ l. l ++ later.added) first.is ∙ append_assoc old first.added later.added;
+    is = later.is ∙ ap (λ l. l ++ later.added) first.is ∙ append_assoc old.lists first.added later.added;
     more = omega (arith, first.more, later.more);
     count = omega (arith, first.count, later.count, sums (compared pass) first.added later.added);
     apart = both_apart first.added later.added first.apart later.apart;
-    different = λ apart differ. later.different (subst AreApart (sym first.is) (both_apart old first.added apart first.apart)) (first.different apart differ);
+    different = λ apart differ. later.different (subst AreApart (sym first.is) (both_apart old.lists first.added apart first.apart)) (first.different apart differ);
     last = λ os given list c. elim (Contains-append_cases first.added later.added list c) [ inl a ↦ first.last os given list a | inr b ↦ later.last os given list b ];
+    paid = omega (arith, first.paid, later.paid, sums length_above_two first.added later.added);
+    within = λ h. later.within (first.within h);
+    once = λ h. later.once (first.once h);
+    meets = λ os given x c. elim (later.meets os given x c) [ inl a ↦ first.meets os given x a | inr b ↦ inr b ];
   }
 
   -- the others where less is given
-  pub grows_with : (Given Other : Premise) (pass : Pass) (old mid new : List (List PlainField)) (before between after : ℕ) → Grows d Given pass old mid before between
-      → ((os : List (MeantOperation Place)) → Given os → Other os) → Grows d Other pass mid new between after → Grows d Given pass old new before after
-  grows_with Given Other pass old mid new before between after first less later = grows_on Given pass old mid new before between after first (grows_given Other Given less pass mid new between after later)
+  pub grows_with : (Given Other : Premise) (pass : Pass) (old mid new : Account) → Grows d Given pass old mid → ((os : List (MeantOperation Place)) → Given os → Other os) → Grows d Other pass mid new
+      → Grows d Given pass old new
+  grows_with Given Other pass old mid new first less later = grows_on Given pass old mid new first (grows_given Other Given less pass mid new later)
 
-  -- lists stay and the count never falls, in one pass and then in the other, whose lists are others
-  pub only_grow : (Given : Premise) (pass : Pass) (old new : List (List PlainField)) (before after : ℕ) → Grows d Given pass old new before after → OnlyGrow old before new after
-  only_grow Given pass old new before after g = ((g.added, g.is), g.more)
-
-  pub only_more : (Given : Premise) (pass : Pass) (others others_too : List (List PlainField)) (between after : ℕ) (old new : List (List PlainField)) (before : ℕ) → OnlyGrow old before new between
-      → Grows d Given pass others others_too between after → OnlyGrow old before new after
-  only_more Given pass others others_too between after old new before (stay, more) g = (stay, omega (arith, more, g.more))
+  -- lists stay and the count never falls
+  pub only_grow : (Given : Premise) (pass : Pass) (old new : Account) → Grows d Given pass old new → OnlyGrow old.lists old.comparisons new.lists new.comparisons
+  only_grow Given pass old new g = ((g.added, g.is), g.more)
 
   -- ---- the count
 
   module _ (os : List (MeantOperation Place)) where
-    pub none_counted : IsCountedBy d os [] 0
-    none_counted = record { bound = omega arith; different = none_differ; listed = λ list c. not_in_nil list c }
+    pub none_counted : IsCountedIn d os no_account
+    none_counted = (
+      record { bound = omega arith; different = none_differ; listed = λ list c. not_in_nil list c },
+      record { paid = omega arith; within = omega arith; once = none_twice; last = λ x c. not_in_nil x c },
+    )
 
     -- lists that were examined for shapes
-    pub shapes_counted : (Given : Premise) → Given os → (old new : List (List PlainField)) (before after : ℕ) → IsCountedBy d os old before → Grows d Given Shapes old new before after → IsCountedBy d os new after
-    shapes_counted Given given old new before after so_far more = record {
-      bound = subst (λ l. after ≤ sum (map length l)) (sym more.is) (omega (arith, so_far.bound, more.count, sums length old more.added));
-      different = more.different (λ list c. (so_far.listed list c).apart) so_far.different;
-      listed = λ list c. elim (Contains-append_cases old more.added list (subst (λ l. Contains l list) more.is c)) [
-        | inl a ↦ so_far.listed list a
-        | inr b ↦ record { apart = more.apart list b; last = more.last os given list b }
-      ];
-    }
+    pub shapes_counted : (Given : Premise) → Given os → (old new : Account) → IsCountedIn d os old → Grows d Given Shapes old new → IsCountedIn d os new
+    shapes_counted Given given old new (so_far, paid) more = (
+      record {
+        bound = subst (λ l. new.comparisons ≤ sum (map length l)) (sym more.is) (omega (arith, so_far.bound, more.count, sums length old.lists more.added));
+        different = more.different (λ list c. (so_far.listed list c).apart) so_far.different;
+        listed = λ list c. elim (Contains-append_cases old.lists more.added list (subst (λ l. Contains l list) more.is c)) [
+          | inl a ↦ so_far.listed list a
+          | inr b ↦ record { apart = more.apart list b; last = more.last os given list b }
+        ];
+      },
+      record {
+        paid = subst (λ l. sum (map length_above_two l) ≤ new.spent) (sym more.is) (omega (arith, paid.paid, more.paid, sums length_above_two old.lists more.added));
+        within = more.within paid.within;
+        once = more.once paid.once;
+        last = λ x c. elim (more.meets os given x c) [ inl a ↦ paid.last x a | inr b ↦ b ];
+      },
+    )
 
-    -- lists that were examined for names and arguments do not count
-    pub selections_counted : (Given : Premise) (lists old new : List (List PlainField)) (before after : ℕ) → IsCountedBy d os lists before → Grows d Given Selections old new before after → IsCountedBy d os lists after
-    selections_counted Given lists old new before after so_far more = record {
-      bound = omega (arith, so_far.bound, more.count, no_sum more.added);
-      different = so_far.different;
-      listed = so_far.listed;
-    }
+    -- few fields are compared few times
+    module _ (all : List PlainField) (has : (x : PlainField) → IsLast d os x → Contains all x) (lists : List (List PlainField)) (met : List PlainField) (spent : ℕ) (paid : IsPaidBy d os lists met spent) where
+      pub members_few : sum (map length_above_two lists) ≤ most_members (length all)
+      members_few =
+          let less : length met ≤ length all = no_longer met all paid.once (λ x c. has x (paid.last x c)) in
+          omega (arith, paid.paid, paid.within, less, squares (length met) (length all) less)
+
+      pub comparisons_few : (count : ℕ) → IsCountedBy d os lists count → count ≤ most_comparisons (length all)
+      comparisons_few count counted =
+          omega (arith, counted.bound, members_few, few lists all counted.different (λ l c. (counted.listed l c).apart) (λ l c x k. has x ((counted.listed l c).last x k)))

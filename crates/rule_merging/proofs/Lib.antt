@@ -5,6 +5,7 @@ pub mod Looking
 pub mod Pairing
 pub mod PairStep
 pub mod Counting
+pub mod Written
 pub mod Operating
 pub mod Behind
 pub mod Conflicts

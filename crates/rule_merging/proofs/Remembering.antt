@@ -8,9 +8,9 @@ use Rattle.std.proofs.lemmas.Map.Keys.{apart_from_distinct}
 use Rattle.std.proofs.lemmas.Option.{slice_get_within, get_or_from_slice_get}
 use Rattle.rule_cycle_search.specs.Paths.{HasNoRepeat}
 use Rattle.rule_cycle_search.proofs.Lists.{mapped_some, slice_get-map}
-use Rattle.rule_number_lists.specs.Numbered.{AreNumbersIn, Grows, AreWithin, at_places}
+use Rattle.rule_number_lists.specs.Numbered.{AreNumbersIn, Grows, AddsOnly, AreWithin, at_places}
 use Rattle.rule_number_lists.specs.NumberLists.{Keeps}
-use Rattle.rule_number_lists.proofs.Standing.{AllWithin, HasSame, Notes, NoneSame, all_stay, kept_same, notes, none_same, numbered_so, of_table, same_sym, same_order}
+use Rattle.rule_number_lists.proofs.Standing.{in_map, of_map, AllWithin, HasSame, Notes, NoneSame, all_stay, kept_same, notes, none_same, numbered_so, of_table, same_sym, same_order}
 use Rattle.document_meaning.specs.Unplaced.{unplaced_set}
 use Rattle.rule_field_groups.specs.in_ground.Fields.{content_of}
 use Rattle.rule_field_groups.specs.in_ground.declared.field_selection.FieldSelection.{FieldSelection}
@@ -19,6 +19,7 @@ use Rattle.rule_field_groups.specs.declared.below.SelectedSet.{SelectedSet}
 use Rattle.rule_document_definitions.specs.PlainFields.{PlainField, PlainSet}
 use Rattle.rule_field_groups.specs.Below.{contents_of, meant_at, meant_sets, plain_sets}
 use Rattle.rule_field_groups.proofs.Sets.{set_key_eq, same_sets}
+use Rattle.rule_merging.specs.Counted.{Account, Meets}
 use Rattle.rule_merging.specs.Remembered.{Kept, Remembers, HasLooked, Expands, LooksAt}
 
 -- ---- what items of a table say
@@ -112,6 +113,21 @@ module _ (base : Kept) where
       subst (λ t. Remembers (kept_with (map (at_places t) lists)) (contents_of list) is_new (kept_with (map (at_places (contents_of new)) now))) (contents_said old)
       (subst (λ t. Remembers (kept_with (map (at_places (map content_of old)) lists)) (contents_of list) is_new (kept_with (map (at_places t) now))) (contents_said new)
       (subst (λ l. Remembers (kept_with (map (at_places (map content_of old)) lists)) l is_new (kept_with (map (at_places (map content_of new)) now))) (contents_said list) from))
+
+-- fields that are met
+pub fields_met : (old new list : List FieldSelection) (before after : Account) → IsDistinct selection_eq new → Grows old new → AddsOnly old list new → before.met ≡ contents_of old → after.met ≡ contents_of new
+    → after.comparisons ≡ before.comparisons → Meets (contents_of list) before after
+fields_met old new list before after distinct grown only was now same = record {
+  only = λ x c.
+      let y = of_map content_of new x (subst (λ l. Contains l x) (now ∙ sym (contents_said new)) c) in
+      elim (only y.0 y.1.0) [
+        | inl a ↦ inl (subst (λ l. Contains l x) (contents_said old ∙ sym was) (subst (Contains (map content_of old)) y.1.1 (in_map content_of old y.0 a)))
+        | inr b ↦ inr (subst (λ l. Contains l x) (contents_said list) (subst (Contains (map content_of list)) y.1.1 (in_map content_of list y.0 b)))
+      ];
+  once = subst HasNoRepeat (contents_said new ∙ sym now) (said_apart selection_eq content_of sound_fields complete_fields new distinct);
+  more = omega (arith, ap length was, ap length now, ap length (sym (contents_said old)), ap length (sym (contents_said new)), length-map old content_of, length-map new content_of, ap length grown.1, length-append old grown.0);
+  same = same;
+}
 
 -- nothing came to the lists
 pub lists_still : (old new : List FieldSelection) (lists now : List (List ℕ)) → Grows old new → AllWithin old lists → now ≡ lists → map (at_places (contents_of new)) now ≡ map (at_places (contents_of old)) lists

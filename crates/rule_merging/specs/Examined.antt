@@ -25,8 +25,8 @@ pub use Rattle.rule_field_groups.specs.Under.{Sets, all_sets, sets_in, AreOf, Is
 use Rattle.rule_field_groups.specs.Below.{contents_of, plain_sets, IsMergedIn}
 use Rattle.rule_field_groups.specs.declared.pass.Pass.{Pass}
 use Rattle.rule_number_lists.specs.NumberLists.{HaveSame}
-use Rattle.rule_merging.specs.Remembered.{Kept, HasLooked, remembered, kept_of}
-use Rattle.rule_merging.specs.Counted.{AreLast, AreListed, Grows}
+use Rattle.rule_merging.specs.Remembered.{Kept, HasLooked, account_of, kept_of}
+use Rattle.rule_merging.specs.Counted.{Account, Pays, IsPaidIf, AreLast, AreListed, Grows}
 use Rattle.rule_merging.specs.declared.remembered.Remembered.{Remembered}
 use Rattle.rule_merging.specs.declared.examination.Examination.{Examination}
 
@@ -239,12 +239,14 @@ ExaminesAll e start examined examined' old new left = (o : MeantOperation Place)
     → (added : List (Broken Place)) × ((brokens_of new ≡ brokens_of old ++ added) × AllExamined e.pass (schema_of e) (document_of e) o examined examined' added left)
 
 -- lists of fields that come to those that were examined for what such sets select; the same for one list of fields
-abbrev pub GrowsOver : Examination → List Sets → Remembered → Remembered → ℕ → ℕ → Type 0
-GrowsOver e lists old new before after = Grows (document_of e) (λ os. AreListed (document_of e) os lists) e.pass (remembered old) (remembered new) before after
+abbrev pub GrowsOver : Examination → List Sets → Remembered → Remembered → Type 0
+GrowsOver e lists old new = Grows (document_of e) (λ os. AreListed (document_of e) os lists) e.pass (account_of old) (account_of new)
 
 -- the same of the pairs
-abbrev pub GrowsHere : Examination → Remembered → Remembered → ℕ → ℕ → Type 0
-GrowsHere e old new before after = GrowsOver e (kept_of old).pairs old new before after
+abbrev pub GrowsHere : Examination → Remembered → Remembered → Type 0
+GrowsHere e old new = GrowsOver e (kept_of old).pairs old new
 
-abbrev pub GrowsBy : Examination → List FieldSelection → Remembered → Remembered → ℕ → ℕ → Type 0
-GrowsBy e list old new before after = Grows (document_of e) (λ os. AreLast (document_of e) os (contents_of list)) e.pass (remembered old) (remembered new) before after
+-- and of one list of fields, which was paid before
+abbrev pub GrowsBy : Examination → List FieldSelection → Remembered → Remembered → Type 0
+GrowsBy e list old new = (before : Account) → Pays (contents_of list) before (account_of old) → IsPaidIf true (contents_of list) before (account_of old)
+    → Grows (document_of e) (λ os. AreLast (document_of e) os (contents_of list)) e.pass before (account_of new)

@@ -6,3 +6,4 @@ pub mod Twos
 pub mod Verdict
 pub mod Merged
 pub mod Merger
+pub mod OfProgram

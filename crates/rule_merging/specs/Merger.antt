@@ -1,16 +1,20 @@
 -- What contracts see of a `FieldsInSetCanMerge`.
-use Rattle.std.specs.Prelude.{◌≡◌, ◌↔◌, ℕ, Bool, List, Contains, IsTrue}
+use Rattle.std.specs.Prelude.{◌≡◌, ◌≤◌, ◌↔◌, ℕ, Bool, List, [], map, flat_map, length, Contains, IsTrue}
+use Rattle.std.specs.List.{sum, cons_option}
+use Rattle.std.specs.Option.{option_map}
 use Rattle.graphql_names.specs.Placed.{Place}
 use Rattle.document_typing.specs.in_schema.SchemaOf.{schema_tree}
 use Rattle.document_meaning.specs.MeantTree.{MeantOperation, MeantDocument}
 use Rattle.document_typing.specs.DocumentView.{document_meant}
 use Rattle.rule_definitions.specs.Judged.{Judged, judged}
 use Rattle.rule_document_definitions.specs.Merging.{FieldsMerge, SameKey}
-use Rattle.rule_document_definitions.specs.Selected.{operations}
+use Rattle.rule_document_definitions.specs.Selected.{Standing, as_field, all_selections, operations}
+use Rattle.rule_document_definitions.specs.Contents.{unplaced_content}
 use Rattle.rule_document_definitions.specs.PlainFields.{PlainField, PlainStarts, AreShapesStanding}
 use Rattle.rule_document_definitions.specs.Settled.{StandWhere, StartsStand}
-use Rattle.rule_merging.specs.Counted.{IsCountedBy}
-use Rattle.rule_merging.specs.Verdict.{lists_examined, comparisons_of, OnlyGrow}
+use Rattle.rule_number_lists.specs.NumberLists.{length_above_two}
+use Rattle.rule_merging.specs.Counted.{IsLast, IsCountedBy, IsPaidBy, most_members, most_comparisons}
+use Rattle.rule_merging.specs.Verdict.{account_in, lists_examined, comparisons_of, OnlyGrow}
 use Rattle.graphql_faults.specs.DetailsTree.{Telling}
 use Rattle.graphql_faults.specs.DetailsView.{diagnostics_of}
 use Rattle.graphql_faults.specs.declared.diagnostic_list.DiagnosticList.{DiagnosticList}
@@ -22,8 +26,11 @@ pub record Merger : Type 0 where
   pub document : MeantDocument Place
   -- whether each call so far ended and told nothing
   pub is_clean : Bool
-  -- the lists of fields that were examined for shapes, and how often the shapes of two fields were compared
+  -- the lists of fields that were examined for shapes, the fields that were met, how many members of lists these paid for, and how often
+  -- the shapes of two fields were compared
   pub lists : List (List PlainField)
+  pub met : List PlainField
+  pub paid : ℕ
   pub comparisons : ℕ
 
 abbrev pub merger_of : FieldsInSetCanMerge → Merger
@@ -32,17 +39,39 @@ merger_of m = record {
   document = document_meant m.document.now;
   is_clean = m.is_clean;
   lists = lists_examined m.examined;
+  met = (account_in m.examined).met;
+  paid = (account_in m.examined).spent;
   comparisons = comparisons_of m.examined;
 }
 
 -- shapes were compared at most as often as the lists are long in all; no two lists have the same members, each is without equal
--- members, and all members are last fields of chains of these operations, in the document
+-- members, and all members are last fields of chains of these operations, in the document; the lists of more than two have in all at most
+-- so many members as the fields pay for that were met, which are different ones, all of them last fields of chains
 abbrev pub IsCountedOver : List (MeantOperation Place) → Merger → Type 0
-IsCountedOver os m = IsCountedBy m.document os m.lists m.comparisons
+IsCountedOver os m = IsCountedBy m.document os m.lists m.comparisons × IsPaidBy m.document os m.lists m.met m.paid
 
 -- the same of the operations of the document
 abbrev pub IsCountedMerger : Merger → Type 0
 IsCountedMerger m = IsCountedOver (operations m.document) m
+
+-- how time grows: if the last fields of chains of these operations have no other contents than so many, shapes were compared at most so
+-- often as `most_comparisons` says: twice their number times itself, four times it, and 200. The lists of more than two have in all at most
+-- `most_members` members
+abbrev pub ComparesFew : Merger → Type 0
+ComparesFew m = (os : List (MeantOperation Place)) (all : List PlainField) → IsCountedOver os m → ((x : PlainField) → IsLast m.document os x → Contains all x)
+    → (m.comparisons ≤ most_comparisons (length all)) × (sum (map length_above_two m.lists) ≤ most_members (length all))
+
+-- what a selection says, if it is a field; the fields of a document at any depth, as often as they are written
+abbrev pub written : Standing Place → List PlainField
+written x = cons_option (option_map unplaced_content (as_field x)) []
+
+abbrev pub fields_written : MeantDocument Place → List PlainField
+fields_written d = flat_map written (all_selections d)
+
+-- so of the operations of a document, by how many fields are written in it
+abbrev pub ComparesFewInDocument : Merger → Type 0
+ComparesFewInDocument m = IsCountedMerger m
+    → (m.comparisons ≤ most_comparisons (length (fields_written m.document))) × (sum (map length_above_two m.lists) ≤ most_members (length (fields_written m.document)))
 
 -- behind what was told stands only what merging tells of the operation, under the schema and in the document of the value
 abbrev pub MergerTold : Merger → MeantOperation Place → Telling → Telling → Type 0

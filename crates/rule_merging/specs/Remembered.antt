@@ -9,6 +9,8 @@ use Rattle.rule_number_lists.specs.NumberLists.{HaveSame}
 use Rattle.rule_number_lists.specs.ListMemory.{items_of, numbers_kept}
 use Rattle.rule_document_definitions.specs.PlainFields.{PlainField, PlainSet}
 use Rattle.rule_field_groups.specs.Below.{contents_of, meant_at, meant_sets, plain_sets}
+use Rattle.rule_field_groups.specs.Under.{sets_in}
+use Rattle.rule_merging.specs.Counted.{Account}
 use Rattle.rule_merging.specs.declared.remembered.Pair.{Pair}
 use Rattle.rule_merging.specs.declared.remembered.Remembered.{Remembered}
 
@@ -39,6 +41,17 @@ pairs_at r = map (at_places (plain_sets (meant_sets (items_of r.looked)))) (numb
 
 abbrev pub kept_of : Remembered → Kept
 kept_of r = record { lists = remembered r; expanded = looked_at r; looked = pairs_at r; pairs = map two_of r.pairs.items }
+
+-- what is counted of it; this and the lists of sets that are left
+abbrev pub account_of : Remembered → Account
+account_of r = record { lists = remembered r; met = contents_of (items_of r.lists); spent = r.spent; comparisons = r.comparisons }
+
+pub record Beside : Type 0 where
+  pub account : Account
+  pub next : List (List (MeantSet Place))
+
+abbrev pub beside_of : Remembered → Beside
+beside_of r = record { account = account_of r; next = sets_in r.next }
 
 -- a list of contents that is new is put last, in some order, and none that stood there has the same members, if nothing stands in it
 -- twice; one with the members of a list that is not new stood there

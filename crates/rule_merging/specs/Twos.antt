@@ -1,5 +1,5 @@
 -- Private: leads to `FieldsMerge`. What the examination of two fields comes to, each an own one of one of two sets that are looked at together.
-use Rattle.std.specs.Prelude.{◌≡◌, ◌++◌, ◌∷◌, ◌⊎◌, ℕ, List, [], Contains}
+use Rattle.std.specs.Prelude.{◌≡◌, ◌++◌, ◌∷◌, ◌⊎◌, List, [], Contains}
 use Rattle.graphql_names.specs.Placed.{Place}
 use Rattle.document_meaning.specs.MeantTree.{MeantDocument}
 use Rattle.rule_definitions.specs.Judged.{Judged}
@@ -12,7 +12,7 @@ use Rattle.rule_field_groups.specs.in_ground.Fields.{field_of, content_of}
 use Rattle.rule_field_groups.specs.in_ground.declared.field_selection.FieldSelection.{FieldSelection}
 use Rattle.rule_field_groups.specs.Passes.{Together, Conflict}
 use Rattle.rule_field_groups.specs.declared.pass.Pass.{Pass}
-use Rattle.rule_merging.specs.Remembered.{Kept, remembered}
+use Rattle.rule_merging.specs.Remembered.{Kept, account_of}
 use Rattle.rule_merging.specs.Counted.{IsLast, Grows}
 use Rattle.rule_merging.specs.Examined.{Sets, Breaches, AreOf, IsFresh, all_plain, schema_of, document_of}
 use Rattle.rule_merging.specs.declared.remembered.Remembered.{Remembered}
@@ -70,5 +70,5 @@ PairsFields e Wanted examined examined' old new next next' = (added : List (Brok
     × FieldsPaired e.pass (schema_of e) (document_of e) Wanted examined examined' added below)))
 
 -- lists of fields that come to those that were examined for such two
-abbrev pub GrowsByTwo : Examination → TwoFields → Remembered → Remembered → ℕ → ℕ → Type 0
-GrowsByTwo e Wanted old new before after = Grows (document_of e) (λ os. (p q : FieldSelection) → Wanted p q → IsLast (document_of e) os (content_of p) × IsLast (document_of e) os (content_of q)) e.pass (remembered old) (remembered new) before after
+abbrev pub GrowsByTwo : Examination → TwoFields → Remembered → Remembered → Type 0
+GrowsByTwo e Wanted old new = Grows (document_of e) (λ os. (p q : FieldSelection) → Wanted p q → IsLast (document_of e) os (content_of p) × IsLast (document_of e) os (content_of q)) e.pass (account_of old) (account_of new)

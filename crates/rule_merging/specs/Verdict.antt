@@ -10,8 +10,8 @@ use Rattle.rule_field_groups.specs.in_ground.Broken.{brokens_of}
 use Rattle.rule_document_definitions.specs.PlainFields.{PlainField, PlainStarts}
 use Rattle.rule_document_definitions.specs.Settled.{StartsStand}
 use Rattle.rule_number_lists.specs.Numbered.{Grows}
-use Rattle.rule_merging.specs.Counted.{IsCountedBy}
-use Rattle.rule_merging.specs.Remembered.{remembered, kept_of}
+use Rattle.rule_merging.specs.Counted.{Account, IsCountedBy, IsPaidBy}
+use Rattle.rule_merging.specs.Remembered.{remembered, account_of, kept_of}
 use Rattle.rule_merging.specs.Examined.{Breaches, StandTogether, AreSettled}
 use Rattle.rule_merging.specs.declared.operation.Examined.{Examined}
 use Rattle.rule_field_groups.specs.declared.pass.Pass.TheVariants.{Shapes, Selections}
@@ -34,16 +34,22 @@ module _ (s : Judged) (d : MeantDocument Place) where
   abbrev pub ExaminesOperation : MeantOperation Place → Examined → Examined → Breaches → Breaches → Bool → Type 0
   ExaminesOperation o old new breaches told left = (added : List (Broken Place)) × ((brokens_of told ≡ brokens_of breaches ++ added) × OperationExamined o old new added left)
 
--- the lists that were examined for shapes, and how often shapes were compared
+-- what is counted of the lists that were examined for shapes
+abbrev pub account_in : Examined → Account
+account_in e = account_of e.shapes
+
 abbrev pub lists_examined : Examined → List (List PlainField)
-lists_examined e = remembered e.shapes
+lists_examined e = (account_in e).lists
 
 abbrev pub comparisons_of : Examined → ℕ
-comparisons_of e = e.comparisons
+comparisons_of e = (account_in e).comparisons
 
--- the count is right, and the members of the lists are last fields of chains of these operations
+-- the count is right, the members of the lists are last fields of chains of these operations, and pay for long lists
+abbrev pub IsCountedIn : MeantDocument Place → List (MeantOperation Place) → Account → Type 0
+IsCountedIn d os a = IsCountedBy d os a.lists a.comparisons × IsPaidBy d os a.lists a.met a.spent
+
 abbrev pub IsCounted : MeantDocument Place → List (MeantOperation Place) → Examined → Type 0
-IsCounted d os e = IsCountedBy d os (lists_examined e) (comparisons_of e)
+IsCounted d os e = IsCountedIn d os (account_in e)
 
 -- it stays so, if the operation is one of them
 abbrev pub StaysCountedIn : MeantDocument Place → MeantOperation Place → Examined → Examined → Type 0

@@ -1,5 +1,7 @@
 //! What lists of sets may cost. What is not paid is examined in pairs of sets: in lists of different sets members would never
 //! come to an end, and pairs are no more than sets times sets.
+ghost use Rattle.std.specs.Prelude.{◌≡◌, ◌≤◌, ◌+◌, IsTrue, IfSome};
+ghost use Rattle.rule_merging.specs.Counted.{most_members};
 
 /// So many members of lists may be examined for each field that was seen, if these are few.
 const FOR_EACH_FIELD: usize = 4;
@@ -10,16 +12,23 @@ const FIELDS_FOR_ONE: usize = 4;
 /// So many may be examined before that.
 const AT_FIRST: usize = 200;
 
-/// Whether so many members are more than so many fields pay.
-fn is_above(members: usize, fields: usize) -> bool {
-    if members / FOR_EACH_FIELD <= fields {
-        return false;
-    }
+/// Whether so many fields pay for so many members of lists.
+fn is_paid(members: usize, fields: usize) -> bool
+    ensures { IsTrue result → members ≤ most_members fields }
+{
+    let more = members.saturating_sub(AT_FIRST);
     let each = fields / FIELDS_FOR_ONE;
-    each == 0 || members / each > fields
+    more <= fields.saturating_mul(FOR_EACH_FIELD) || more <= fields.saturating_mul(each)
 }
 
-/// Whether so many members of lists are paid by so many fields.
-pub(crate) fn is_paid(members: usize, fields: usize) -> bool {
-    !is_above(members.saturating_sub(AT_FIRST), fields)
+/// What is spent with so many members more, if so many fields pay for all.
+pub(crate) fn spent_with(spent: usize, more: usize, fields: usize) -> Option<usize>
+    ensures { IfSome result (λ all. (all ≡ spent + more) × (all ≤ most_members fields)) }
+{
+    let all = spent.checked_add(more)?;
+    if is_paid(all, fields) {
+        Some(all)
+    } else {
+        None
+    }
 }

@@ -6,8 +6,8 @@ ghost use Rattle.rule_field_groups.specs.KeyGroups.{parts_of, compared_in};
 ghost use Rattle.rule_field_groups.specs.Under.{sets_in};
 ghost use Rattle.rule_field_groups.specs.Below.{contents_of, meant_at, meant_sets};
 ghost use Rattle.rule_cycle_search.specs.Paths.{HasNoRepeat};
-ghost use Rattle.rule_merging.specs.Remembered.{kept_of};
-ghost use Rattle.rule_merging.specs.Examined.{document_of, HaveFields, ExaminesGroups, ExaminesList, ExaminesFields, ExaminesSets, ExaminesAll, GrowsOver, GrowsBy};
+ghost use Rattle.rule_merging.specs.Examined.{document_of, HaveFields, ExaminesGroups, ExaminesList, ExaminesFields, GrowsOver, GrowsBy};
+ghost use Rattle.rule_merging.specs.OfProgram.{Comes, ExaminesLevel, ExaminesFrom, ExaminesThese};
 
 use crate::remembered::Remembered;
 use document_typed_operations::ExecutableDocument;
@@ -17,6 +17,7 @@ use rule_field_groups::{
     merged_list,
 };
 use std::alloc::{AllocError, Global};
+use std::mem::replace;
 
 /// The greatest length of a chain of fields, each selected by the one before.
 const CHAIN_BOUND: usize = 128;
@@ -86,17 +87,16 @@ impl<'doc> Examination<'doc> {
         &self,
         list: &[FieldSelection<'doc>],
         examined: &mut Remembered<'doc>,
-        next: &mut Vec<Vec<SelectedSet<'doc>>>,
         breaches: &mut Vec<Breach>,
-        comparisons: &mut u128,
     ) -> Result<(), AllocError>
-        ensures examined { OnOk result (ExaminesFields self.now list.now (kept_of examined.old) (kept_of examined.new) breaches.old breaches.new (sets_in next.old) (sets_in next.new)) }
-        ensures counted { HasNoRepeat (contents_of list.now) → GrowsBy self.now list.now examined.old examined.new comparisons.old comparisons.new }
+        ensures examined { OnOk result (Comes (ExaminesFields self.now list.now) examined.old examined.new breaches.old breaches.new) }
+        ensures counted { HasNoRepeat (contents_of list.now) → GrowsBy self.now list.now examined.old examined.new }
     {
         if !examined.remember(list)? {
             return Ok(());
         }
-        self.examine_list(list, next, breaches, comparisons)
+        let comparisons = &mut examined.comparisons;
+        self.examine_list(list, &mut examined.next, breaches, comparisons)
     }
 
     /// Examines what some sets select: all of it, or where that is not paid, what each two of them select.
@@ -104,18 +104,16 @@ impl<'doc> Examination<'doc> {
         &self,
         sets: &[SelectedSet<'doc>],
         examined: &mut Remembered<'doc>,
-        next: &mut Vec<Vec<SelectedSet<'doc>>>,
         breaches: &mut Vec<Breach>,
-        comparisons: &mut u128,
     ) -> Result<(), AllocError>
-        ensures examined { OnOk result (ExaminesSets self.now (meant_sets sets.now ∷ []) (kept_of examined.old) (kept_of examined.new) breaches.old breaches.new (sets_in next.old) (sets_in next.new)) }
-        ensures counted { GrowsOver self.now (meant_sets sets.now ∷ []) examined.old examined.new comparisons.old comparisons.new }
+        ensures examined { OnOk result (ExaminesThese self.now sets.now examined.old examined.new breaches.old breaches.new) }
+        ensures counted { GrowsOver self.now (meant_sets sets.now ∷ []) examined.old examined.new }
     {
-        let list = merged_list(*next.allocator(), &self.document.fragments, sets)?;
+        let list = merged_list(*breaches.allocator(), &self.document.fragments, sets)?;
         if !examined.pays(&list)? {
-            return self.examine_twos(sets, examined, next, breaches, comparisons);
+            return self.examine_twos(sets, examined, breaches);
         }
-        self.examine_fields(&list, examined, next, breaches, comparisons)
+        self.examine_fields(&list, examined, breaches)
     }
 
     /// Examines what some sets select.
@@ -123,17 +121,15 @@ impl<'doc> Examination<'doc> {
         &self,
         sets: &[SelectedSet<'doc>],
         examined: &mut Remembered<'doc>,
-        next: &mut Vec<Vec<SelectedSet<'doc>>>,
         breaches: &mut Vec<Breach>,
-        comparisons: &mut u128,
     ) -> Result<(), AllocError>
-        ensures examined { OnOk result (ExaminesSets self.now (meant_sets sets.now ∷ []) (kept_of examined.old) (kept_of examined.new) breaches.old breaches.new (sets_in next.old) (sets_in next.new)) }
-        ensures counted { GrowsOver self.now (meant_sets sets.now ∷ []) examined.old examined.new comparisons.old comparisons.new }
+        ensures examined { OnOk result (ExaminesThese self.now sets.now examined.old examined.new breaches.old breaches.new) }
+        ensures counted { GrowsOver self.now (meant_sets sets.now ∷ []) examined.old examined.new }
     {
         if examined.skips(sets) {
-            return self.examine_twos(sets, examined, next, breaches, comparisons);
+            return self.examine_twos(sets, examined, breaches);
         }
-        self.examine_paid(sets, examined, next, breaches, comparisons)
+        self.examine_paid(sets, examined, breaches)
     }
 
     /// Examines what some sets select, unless this was looked at before.
@@ -141,18 +137,16 @@ impl<'doc> Examination<'doc> {
         &self,
         sets: &[SelectedSet<'doc>],
         examined: &mut Remembered<'doc>,
-        next: &mut Vec<Vec<SelectedSet<'doc>>>,
         breaches: &mut Vec<Breach>,
-        comparisons: &mut u128,
     ) -> Result<(), AllocError>
-        ensures examined { OnOk result (ExaminesSets self.now (meant_sets sets.now ∷ []) (kept_of examined.old) (kept_of examined.new) breaches.old breaches.new (sets_in next.old) (sets_in next.new)) }
-        ensures counted { GrowsOver self.now (meant_sets sets.now ∷ []) examined.old examined.new comparisons.old comparisons.new }
+        ensures examined { OnOk result (ExaminesThese self.now sets.now examined.old examined.new breaches.old breaches.new) }
+        ensures counted { GrowsOver self.now (meant_sets sets.now ∷ []) examined.old examined.new }
     {
         let is_known = examined.has_expanded(sets)?;
         if is_known {
             return Ok(());
         }
-        self.examine_new(sets, examined, next, breaches, comparisons)?;
+        self.examine_new(sets, examined, breaches)?;
         examined.expand(sets)?;
         Ok(())
     }
@@ -163,16 +157,16 @@ impl<'doc> Examination<'doc> {
         level: &[Vec<SelectedSet<'doc>>],
         examined: &mut Remembered<'doc>,
         breaches: &mut Vec<Breach>,
-        comparisons: &mut u128,
     ) -> Result<Vec<Vec<SelectedSet<'doc>>>, AllocError>
-        ensures examined { IfOk result (λ next. ExaminesSets self.now (map (λ v. meant_sets v.items) level.now) (kept_of examined.old) (kept_of examined.new) breaches.old breaches.new [] (sets_in next)) }
-        ensures counted { GrowsOver self.now (map (λ v. meant_sets v.items) level.now) examined.old examined.new comparisons.old comparisons.new }
+        ensures examined { IfOk result (λ next. ExaminesLevel self.now level.now examined.old examined.new breaches.old breaches.new next) }
+        ensures counted { GrowsOver self.now (map (λ v. meant_sets v.items) level.now) examined.old examined.new }
     {
-        let mut next = Vec::new(*breaches.allocator());
+        examined.next.clear();
         for sets in level {
-            self.examine_once(sets, examined, &mut next, breaches, comparisons)?;
+            self.examine_once(sets, examined, breaches)?;
         }
-        Ok(next)
+        let none = Vec::new(*breaches.allocator());
+        Ok(replace(&mut examined.next, none))
     }
 
     /// Whether one of the lists of sets selects a field.
@@ -198,16 +192,15 @@ impl<'doc> Examination<'doc> {
         start: SelectedSet<'doc>,
         examined: &mut Remembered<'doc>,
         breaches: &mut Vec<Breach>,
-        comparisons: &mut u128,
     ) -> Result<bool, AllocError>
-        ensures examined { IfOk result (λ left. ExaminesAll self.now (meant_at start.entry) (kept_of examined.old) (kept_of examined.new) breaches.old breaches.new left) }
-        ensures counted { GrowsOver self.now ((meant_at start.entry ∷ []) ∷ []) examined.old examined.new comparisons.old comparisons.new }
+        ensures examined { IfOk result (λ left. ExaminesFrom self.now start.entry examined.old examined.new breaches.old breaches.new left) }
+        ensures counted { GrowsOver self.now ((meant_at start.entry ∷ []) ∷ []) examined.old examined.new }
     {
         let alloc = *breaches.allocator();
         let mut level = first_level(alloc, start)?;
         let mut length = 0;
         while length < CHAIN_BOUND && !level.is_empty() {
-            level = self.examine_level(&level, examined, breaches, comparisons)?;
+            level = self.examine_level(&level, examined, breaches)?;
             length += 1;
         }
         self.have_fields(alloc, &level)

@@ -7,6 +7,7 @@ ghost use Rattle.rule_definitions.specs.Judged.{judged};
 ghost use Rattle.document_typing.specs.in_schema.SchemaOf.{schema_tree};
 ghost use Rattle.document_typing.specs.DocumentView.{document_meant, operation_meant};
 ghost use Rattle.rule_merging.specs.Merged.{AreSettledIf, limit_told, conflicts_told};
+ghost use Rattle.rule_merging.specs.OfProgram.{AddsDetails};
 
 use crate::operation::{Examined, examine_operation};
 use crate::told::append_breaches;
@@ -43,7 +44,7 @@ impl Drop for FieldsInSetCanMerge<'_> {
 }
 
 impl<'doc> FieldsInSetCanMerge<'doc> {
-    ghost use Rattle.rule_merging.specs.Merger.{merger_of, IsCountedMerger, OnlyGrows, MergerTold, SilenceMeansMerging, KeepsClosed, AddsNothing, StaysCleanInSilence, StaysCounted};
+    ghost use Rattle.rule_merging.specs.Merger.{merger_of, IsCountedMerger, ComparesFew, ComparesFewInDocument, OnlyGrows, MergerTold, SilenceMeansMerging, KeepsClosed, AddsNothing, StaysCleanInSilence, StaysCounted};
 
     /// A clean value, for the operations of the document.
     pub fn new(
@@ -76,7 +77,9 @@ impl<'doc> FieldsInSetCanMerge<'doc> {
 
     /// How often the shapes of two fields were compared, in all calls; where this is the greatest number, at least as often.
     pub fn comparisons(&self) -> u128
-        ensures { result ≡ (merger_of self.now).comparisons }
+        ensures is { result ≡ (merger_of self.now).comparisons }
+        ensures few { ComparesFew (merger_of self.now) }
+        ensures in_document { ComparesFewInDocument (merger_of self.now) }
     {
         self.examined.comparisons()
     }
@@ -143,7 +146,7 @@ fn append_conflicts(
     breaches: Vec<Breach>,
     left: bool,
 ) -> Result<(), AllocError>
-    ensures added { OnOk result (diagnostics_of list.new ≡ diagnostics_of list.old ++ map of_document (conflicts_told (brokens_of breaches) (operation_meant operation.now).place left)) }
+    ensures added { OnOk result (AddsDetails list.old list.new (conflicts_told (brokens_of breaches) (operation_meant operation.now).place left)) }
     ensures begins { OnErr result (BeginsAs (diagnostics_of list.old) (diagnostics_of list.new)) }
 {
     append_breaches(list, breaches)?;

@@ -20,7 +20,6 @@ use std::alloc::{AllocError, Global};
 pub struct Examined<'doc> {
     pub(crate) shapes: Remembered<'doc>,
     pub(crate) selections: Remembered<'doc>,
-    pub(crate) comparisons: u128,
 }
 
 impl Drop for Examined<'_> {
@@ -28,7 +27,6 @@ impl Drop for Examined<'_> {
         let Examined {
             shapes: _,
             selections: _,
-            comparisons: _,
         } = self;
     }
 }
@@ -44,7 +42,6 @@ impl<'doc> Examined<'doc> {
         Examined {
             shapes: Remembered::new(alloc),
             selections: Remembered::new(alloc),
-            comparisons: 0,
         }
     }
 
@@ -52,7 +49,7 @@ impl<'doc> Examined<'doc> {
     pub fn comparisons(&self) -> u128
         ensures { result ≡ comparisons_of self.now }
     {
-        self.comparisons
+        self.shapes.comparisons
     }
 }
 
@@ -76,14 +73,12 @@ pub fn examine_operation<'doc>(
         schema,
         document,
     };
-    let comparisons = &mut examined.comparisons;
-    let left = by_shape.examine_all(start, &mut examined.shapes, breaches, comparisons)?;
+    let left = by_shape.examine_all(start, &mut examined.shapes, breaches)?;
     let by_selection = Examination {
         pass: Pass::Selections,
         schema,
         document,
     };
-    let comparisons = &mut examined.comparisons;
-    let too = by_selection.examine_all(start, &mut examined.selections, breaches, comparisons)?;
+    let too = by_selection.examine_all(start, &mut examined.selections, breaches)?;
     Ok(left || too)
 }

@@ -2,7 +2,7 @@
 ghost use Rattle.std.specs.Prelude.{◌≡◌, ◌∷◌, [], OnOk};
 ghost use Rattle.rule_field_groups.specs.Below.{meant_at, meant_sets};
 ghost use Rattle.rule_field_groups.specs.Laws.{meant_spread};
-ghost use Rattle.rule_merging.specs.Remembered.{remembered, kept_of};
+ghost use Rattle.rule_merging.specs.Remembered.{kept_of, beside_of};
 ghost use Rattle.rule_merging.specs.Examined.{with_each};
 ghost use Rattle.rule_merging.specs.Pairs.{Looks, LooksAtTwos, each_with};
 
@@ -18,7 +18,7 @@ impl<'doc> Remembered<'doc> {
         other: SelectedSet<'doc>,
     ) -> Result<(), AllocError>
         ensures looks { OnOk result (Looks ((meant_at one.entry ∷ meant_at other.entry ∷ []) ∷ []) (kept_of self.old) (kept_of self.new)) }
-        ensures lists { remembered self.new ≡ remembered self.old }
+        ensures beside { beside_of self.new ≡ beside_of self.old }
     {
         let is_new = self.look(one, other)?;
         if is_new {
@@ -34,7 +34,7 @@ impl<'doc> Remembered<'doc> {
         other: SelectedSet<'doc>,
     ) -> Result<(), AllocError>
         ensures looks { OnOk result (Looks (each_with (meant_spread sets.now) (meant_at other.entry)) (kept_of self.old) (kept_of self.new)) }
-        ensures lists { remembered self.new ≡ remembered self.old }
+        ensures beside { beside_of self.new ≡ beside_of self.old }
     {
         for set in sets {
             self.look_at_pair(SelectedSet { set: set.set }, other)?;
@@ -49,7 +49,7 @@ impl<'doc> Remembered<'doc> {
         sets: &[SpreadSet<'doc>],
     ) -> Result<(), AllocError>
         ensures looks { OnOk result (Looks (with_each (meant_at one.entry) (meant_spread sets.now)) (kept_of self.old) (kept_of self.new)) }
-        ensures lists { remembered self.new ≡ remembered self.old }
+        ensures beside { beside_of self.new ≡ beside_of self.old }
     {
         for set in sets {
             self.look_at_pair(one, SelectedSet { set: set.set })?;
@@ -64,7 +64,7 @@ impl<'doc> Remembered<'doc> {
         last: SelectedSet<'doc>,
     ) -> Result<(), AllocError>
         ensures looks { OnOk result (Looks (each_with (meant_sets sets.now) (meant_at last.entry)) (kept_of self.old) (kept_of self.new)) }
-        ensures lists { remembered self.new ≡ remembered self.old }
+        ensures beside { beside_of self.new ≡ beside_of self.old }
     {
         for set in sets {
             self.look_at_pair(*set, last)?;
@@ -75,7 +75,7 @@ impl<'doc> Remembered<'doc> {
     /// Looks at each two of the sets, and at each with itself.
     pub(crate) fn look_at_twos(&mut self, sets: &[SelectedSet<'doc>]) -> Result<(), AllocError>
         ensures looks { OnOk result (LooksAtTwos (meant_sets sets.now) (kept_of self.old) (kept_of self.new)) }
-        ensures lists { remembered self.new ≡ remembered self.old }
+        ensures beside { beside_of self.new ≡ beside_of self.old }
     {
         self.begin_pairs();
         let mut seen = Vec::new(*self.pairs.allocator());

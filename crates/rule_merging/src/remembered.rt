@@ -1,9 +1,11 @@
 //! What was examined.
 ghost use Rattle.std.specs.Prelude.{◌≡◌, ◌∷◌, [], IsTrue, IfOk, OnErr};
 ghost use Rattle.rule_field_groups.specs.Below.{contents_of, meant_at, meant_sets, plain_sets};
-ghost use Rattle.rule_merging.specs.Remembered.{remembered, kept_of, nothing_kept, HasLooked, Remembers, Expands, LooksAt};
+ghost use Rattle.rule_field_groups.specs.Under.{sets_in};
+ghost use Rattle.rule_merging.specs.Counted.{OnlyMeets, Pays, IsPaidIf, no_account};
+ghost use Rattle.rule_merging.specs.Remembered.{kept_of, account_of, beside_of, nothing_kept, HasLooked, Remembers, Expands, LooksAt};
 
-use crate::budget::is_paid;
+use crate::budget::spent_with;
 use rule_field_groups::{FieldSelection, SelectedSet};
 use rule_number_lists::ListMemory;
 use std::alloc::{AllocError, Global};
@@ -26,24 +28,31 @@ pub(crate) struct Remembered<'doc> {
     looked: ListMemory<SelectedSet<'doc>>,
     /// Of these the ones that came last, in turn.
     pub(crate) pairs: Vec<Pair<'doc>>,
+    /// The lists of sets that are left for the next level.
+    pub(crate) next: Vec<Vec<SelectedSet<'doc>>>,
     /// How many members of lists were examined.
     spent: usize,
     /// Whether a list was not paid.
     is_spent: bool,
+    /// How often shapes were compared.
+    pub(crate) comparisons: u128,
 }
 
 impl<'doc> Remembered<'doc> {
     /// None.
     pub(crate) fn new(alloc: Global) -> Remembered<'doc>
-        ensures { kept_of result ≡ nothing_kept }
+        ensures kept { kept_of result ≡ nothing_kept }
+        ensures account { account_of result ≡ no_account }
     {
         Remembered {
             lists: ListMemory::new(alloc),
             expanded: ListMemory::new(alloc),
             looked: ListMemory::new(alloc),
             pairs: Vec::new(alloc),
+            next: Vec::new(alloc),
             spent: 0,
             is_spent: false,
+            comparisons: 0,
         }
     }
 
@@ -51,6 +60,8 @@ impl<'doc> Remembered<'doc> {
     pub(crate) fn remember(&mut self, list: &[FieldSelection<'doc>]) -> Result<bool, AllocError>
         ensures remembers { IfOk result (λ is_new. Remembers (kept_of self.old) (contents_of list.now) is_new (kept_of self.new)) }
         ensures refused { OnErr result (kept_of self.new ≡ kept_of self.old) }
+        ensures meets { OnlyMeets (contents_of list.now) (account_of self.old) (account_of self.new) }
+        ensures next { sets_in self.new.next ≡ sets_in self.old.next }
     {
         self.lists.remember(list)
     }
@@ -58,7 +69,7 @@ impl<'doc> Remembered<'doc> {
     /// Remembers a list of sets. Whether it was not remembered before is given: one with the same contents.
     pub(crate) fn expand(&mut self, sets: &[SelectedSet<'doc>]) -> Result<bool, AllocError>
         ensures expands { IfOk result (λ is_new. Expands (kept_of self.old) (plain_sets (meant_sets sets.now)) is_new (kept_of self.new)) }
-        ensures lists { remembered self.new ≡ remembered self.old }
+        ensures beside { beside_of self.new ≡ beside_of self.old }
     {
         self.expanded.remember(sets)
     }
@@ -67,6 +78,7 @@ impl<'doc> Remembered<'doc> {
     pub(crate) fn has_expanded(&mut self, sets: &[SelectedSet<'doc>]) -> Result<bool, AllocError>
         ensures known { IfOk result (λ is_known. IsTrue is_known → HasLooked (kept_of self.old).expanded (plain_sets (meant_sets sets.now))) }
         ensures same { kept_of self.new ≡ kept_of self.old }
+        ensures beside { beside_of self.new ≡ beside_of self.old }
     {
         self.expanded.contains(sets)
     }
@@ -78,14 +90,15 @@ impl<'doc> Remembered<'doc> {
         other: SelectedSet<'doc>,
     ) -> Result<bool, AllocError>
         ensures looks { IfOk result (λ is_new. LooksAt (kept_of self.old) (plain_sets (meant_at one.entry ∷ meant_at other.entry ∷ [])) is_new (kept_of self.new)) }
-        ensures lists { remembered self.new ≡ remembered self.old }
+        ensures beside { beside_of self.new ≡ beside_of self.old }
     {
         self.looked.remember(&[one, other])
     }
 
     /// No pair is left to look at.
     pub(crate) fn begin_pairs(&mut self)
-        ensures { kept_of self.new ≡ record (kept_of self.old) { pairs = [] } }
+        ensures kept { kept_of self.new ≡ record (kept_of self.old) { pairs = [] } }
+        ensures beside { beside_of self.new ≡ beside_of self.old }
     {
         self.pairs.clear();
     }
@@ -98,16 +111,21 @@ impl<'doc> Remembered<'doc> {
 
     /// Whether a list may be examined: what it costs is paid by fields that are new.
     pub(crate) fn pays(&mut self, list: &[FieldSelection<'doc>]) -> Result<bool, AllocError>
-        ensures { kept_of self.new ≡ kept_of self.old }
+        ensures kept { kept_of self.new ≡ kept_of self.old }
+        ensures pays { Pays (contents_of list.now) (account_of self.old) (account_of self.new) }
+        ensures paid { IfOk result (λ is_paid. IsPaidIf is_paid (contents_of list.now) (account_of self.old) (account_of self.new)) }
+        ensures next { sets_in self.new.next ≡ sets_in self.old.next }
     {
         let fields = self.lists.note(list)?;
-        let spent = self.spent.saturating_add(list.len());
-        let is_paid = is_paid(spent, fields);
-        if is_paid {
-            self.spent = spent;
-        } else {
-            self.is_spent = true;
+        match spent_with(self.spent, list.len(), fields) {
+            None => {
+                self.is_spent = true;
+                Ok(false)
+            }
+            Some(spent) => {
+                self.spent = spent;
+                Ok(true)
+            }
         }
-        Ok(is_paid)
     }
 }

@@ -3,10 +3,10 @@ ghost use Rattle.std.specs.Prelude.{◌≡◌, ◌<◌, ◌∷◌, [], length, I
 ghost use Rattle.std.specs.Str.{bytes_eq};
 ghost use Rattle.rule_field_groups.specs.Grouped.{key_of};
 ghost use Rattle.rule_field_groups.specs.Below.{meant_sets};
-ghost use Rattle.rule_field_groups.specs.Under.{sets_in};
-ghost use Rattle.rule_merging.specs.Remembered.{kept_of, two_of};
-ghost use Rattle.rule_merging.specs.Twos.{are_two, are_of, IsListOf, PairsFields, GrowsByTwo};
-ghost use Rattle.rule_merging.specs.Examined.{ExaminesPair, ExaminesPairs, ExaminesSets, GrowsOver, GrowsHere};
+ghost use Rattle.rule_merging.specs.Remembered.{two_of};
+ghost use Rattle.rule_merging.specs.Twos.{are_two, are_of, IsListOf, GrowsByTwo};
+ghost use Rattle.rule_merging.specs.Examined.{ExaminesPair, ExaminesPairs, GrowsOver, GrowsHere};
+ghost use Rattle.rule_merging.specs.OfProgram.{Comes, ExaminesThese, PairsOf};
 
 use crate::examination::Examination;
 use crate::remembered::{Pair, Remembered};
@@ -50,21 +50,20 @@ impl<'doc> Examination<'doc> {
         one: FieldSelection<'doc>,
         other: FieldSelection<'doc>,
         examined: &mut Remembered<'doc>,
-        next: &mut Vec<Vec<SelectedSet<'doc>>>,
         breaches: &mut Vec<Breach>,
-        comparisons: &mut u128,
     ) -> Result<(), AllocError>
-        ensures examined { OnOk result (PairsFields self.now (are_two one.entry other.entry) (kept_of examined.old) (kept_of examined.new) breaches.old breaches.new (sets_in next.old) (sets_in next.new)) }
-        ensures counted { GrowsByTwo self.now (are_two one.entry other.entry) examined.old examined.new comparisons.old comparisons.new }
+        ensures examined { OnOk result (PairsOf self.now (are_two one.entry other.entry) examined.old examined.new breaches.old breaches.new) }
+        ensures counted { GrowsByTwo self.now (are_two one.entry other.entry) examined.old examined.new }
     {
         if !have_one_key(one, other) {
             return Ok(());
         }
-        let list = list_of_two(*next.allocator(), one, other)?;
+        let list = list_of_two(*breaches.allocator(), one, other)?;
         if !examined.remember(&list)? {
             return Ok(());
         }
-        self.examine_list(&list, next, breaches, comparisons)
+        let comparisons = &mut examined.comparisons;
+        self.examine_list(&list, &mut examined.next, breaches, comparisons)
     }
 
     /// Compares a field with each of the others.
@@ -73,15 +72,13 @@ impl<'doc> Examination<'doc> {
         one: FieldSelection<'doc>,
         others: &[FieldSelection<'doc>],
         examined: &mut Remembered<'doc>,
-        next: &mut Vec<Vec<SelectedSet<'doc>>>,
         breaches: &mut Vec<Breach>,
-        comparisons: &mut u128,
     ) -> Result<(), AllocError>
-        ensures examined { OnOk result (PairsFields self.now (are_of (one.entry ∷ []) others.now) (kept_of examined.old) (kept_of examined.new) breaches.old breaches.new (sets_in next.old) (sets_in next.new)) }
-        ensures counted { GrowsByTwo self.now (are_of (one.entry ∷ []) others.now) examined.old examined.new comparisons.old comparisons.new }
+        ensures examined { OnOk result (PairsOf self.now (are_of (one.entry ∷ []) others.now) examined.old examined.new breaches.old breaches.new) }
+        ensures counted { GrowsByTwo self.now (are_of (one.entry ∷ []) others.now) examined.old examined.new }
     {
         for other in others {
-            self.examine_two_fields(one, *other, examined, next, breaches, comparisons)?;
+            self.examine_two_fields(one, *other, examined, breaches)?;
         }
         Ok(())
     }
@@ -93,19 +90,17 @@ impl<'doc> Examination<'doc> {
         ones: &[FieldSelection<'doc>],
         others: &[FieldSelection<'doc>],
         examined: &mut Remembered<'doc>,
-        next: &mut Vec<Vec<SelectedSet<'doc>>>,
         breaches: &mut Vec<Breach>,
-        comparisons: &mut u128,
     ) -> Result<(), AllocError>
-        ensures examined { OnOk result (PairsFields self.now (are_of ones.now others.now) (kept_of examined.old) (kept_of examined.new) breaches.old breaches.new (sets_in next.old) (sets_in next.new)) }
-        ensures counted { GrowsByTwo self.now (are_of ones.now others.now) examined.old examined.new comparisons.old comparisons.new }
+        ensures examined { OnOk result (PairsOf self.now (are_of ones.now others.now) examined.old examined.new breaches.old breaches.new) }
+        ensures counted { GrowsByTwo self.now (are_of ones.now others.now) examined.old examined.new }
     {
         let told = breaches.len();
         for one in ones {
             if is_told(breaches, told) {
                 return Ok(());
             }
-            self.examine_with_each(*one, others, examined, next, breaches, comparisons)?;
+            self.examine_with_each(*one, others, examined, breaches)?;
         }
         Ok(())
     }
@@ -115,18 +110,16 @@ impl<'doc> Examination<'doc> {
         &self,
         pair: Pair<'doc>,
         examined: &mut Remembered<'doc>,
-        next: &mut Vec<Vec<SelectedSet<'doc>>>,
         breaches: &mut Vec<Breach>,
-        comparisons: &mut u128,
     ) -> Result<(), AllocError>
-        ensures examined { OnOk result (ExaminesPair self.now (two_of pair.entry) (kept_of examined.old) (kept_of examined.new) breaches.old breaches.new (sets_in next.old) (sets_in next.new)) }
-        ensures counted { GrowsOver self.now (two_of pair.entry ∷ []) examined.old examined.new comparisons.old comparisons.new }
+        ensures examined { OnOk result (Comes (ExaminesPair self.now (two_of pair.entry)) examined.old examined.new breaches.old breaches.new) }
+        ensures counted { GrowsOver self.now (two_of pair.entry ∷ []) examined.old examined.new }
     {
         let alloc = *breaches.allocator();
         let Pair { one, other } = pair;
         let ones = own_fields_of(alloc, one.set)?;
         let others = own_fields_of(alloc, other.set)?;
-        self.examine_each(&ones, &others, examined, next, breaches, comparisons)?;
+        self.examine_each(&ones, &others, examined, breaches)?;
         let spreads = spread_sets_of(alloc, one.set, &self.document.fragments)?;
         examined.look_at_each(&spreads, other)?;
         let spreads = spread_sets_of(alloc, other.set, &self.document.fragments)?;
@@ -137,12 +130,10 @@ impl<'doc> Examination<'doc> {
     fn examine_pairs(
         &self,
         examined: &mut Remembered<'doc>,
-        next: &mut Vec<Vec<SelectedSet<'doc>>>,
         breaches: &mut Vec<Breach>,
-        comparisons: &mut u128,
     ) -> Result<(), AllocError>
-        ensures examined { OnOk result (ExaminesPairs self.now (kept_of examined.old) (kept_of examined.new) breaches.old breaches.new (sets_in next.old) (sets_in next.new)) }
-        ensures counted { GrowsHere self.now examined.old examined.new comparisons.old comparisons.new }
+        ensures examined { OnOk result (Comes (ExaminesPairs self.now) examined.old examined.new breaches.old breaches.new) }
+        ensures counted { GrowsHere self.now examined.old examined.new }
     {
         let told = breaches.len();
         let mut done = 0;
@@ -151,7 +142,7 @@ impl<'doc> Examination<'doc> {
                 return Ok(());
             }
             let pair = examined.pairs[done];
-            self.examine_pair(pair, examined, next, breaches, comparisons)?;
+            self.examine_pair(pair, examined, breaches)?;
             done += 1;
         }
         Ok(())
@@ -162,14 +153,12 @@ impl<'doc> Examination<'doc> {
         &self,
         sets: &[SelectedSet<'doc>],
         examined: &mut Remembered<'doc>,
-        next: &mut Vec<Vec<SelectedSet<'doc>>>,
         breaches: &mut Vec<Breach>,
-        comparisons: &mut u128,
     ) -> Result<(), AllocError>
-        ensures examined { OnOk result (ExaminesSets self.now (meant_sets sets.now ∷ []) (kept_of examined.old) (kept_of examined.new) breaches.old breaches.new (sets_in next.old) (sets_in next.new)) }
-        ensures counted { GrowsOver self.now (meant_sets sets.now ∷ []) examined.old examined.new comparisons.old comparisons.new }
+        ensures examined { OnOk result (ExaminesThese self.now sets.now examined.old examined.new breaches.old breaches.new) }
+        ensures counted { GrowsOver self.now (meant_sets sets.now ∷ []) examined.old examined.new }
     {
         examined.look_at_twos(sets)?;
-        self.examine_pairs(examined, next, breaches, comparisons)
+        self.examine_pairs(examined, breaches)
     }
 }

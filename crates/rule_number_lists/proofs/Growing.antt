@@ -1,9 +1,10 @@
 -- A table that gets items.
-use Rattle.std.proofs.Common.{◌≡◌, ◌∙◌, ℕ, zero, suc, ◌+◌, ◌<◌, Bool, true, false, List, [], ◌∷◌, ◌++◌, length, take, get_or, slice_get, Some, refl, sym, ap, subst, append_assoc, append-nil, if◌then◌else◌}
+use Rattle.std.proofs.Common.{◌≡◌, ◌⊎◌, ◌∙◌, ℕ, zero, suc, ◌+◌, ◌<◌, Bool, true, false, List, [], ◌∷◌, ◌++◌, length, take, get_or, slice_get, Some, Contains, refl, sym, ap, subst, append_assoc, append-nil, if◌then◌else◌, inl, inr}
 use Rattle.std.specs.List.{list_any}
 use Rattle.indexmap.specs.IndexSet.{insert_key}
 use Rattle.std.proofs.lemmas.List.{take_more}
-use Rattle.rule_number_lists.specs.Numbered.{IsNumberIn, AreNumbersIn, Grows}
+use Rattle.std.proofs.lemmas.List.Elements.{Contains-push_cases}
+use Rattle.rule_number_lists.specs.Numbered.{IsNumberIn, AreNumbersIn, Grows, AddsOnly}
 
 module _ {X : Type 0} where
   pub grows_not : (xs : List X) → Grows xs xs
@@ -21,6 +22,23 @@ module _ {X : Type 0} where
 
   pub grows_same : (xs ys : List X) → ys ≡ xs → Grows xs ys
   grows_same xs ys is = ([], is ∙ sym (append-nil xs))
+
+  -- one item of these more, or none
+  pub adds_same : (xs ys items : List X) → ys ≡ xs → AddsOnly xs items ys
+  adds_same xs ys items is x c = inl (subst (λ l. Contains l x) is c)
+
+  pub adds_one : (eq : X → X → Bool) (xs ys items : List X) (x : X) → ys ≡ insert_key eq xs x → Contains items x → AddsOnly xs items ys
+  adds_one eq xs ys items x is here y c = by (list_any (eq x) xs) refl
+    where
+      by : (b : Bool) → list_any (eq x) xs ≡ b → Contains xs y ⊎ Contains items y
+      by true i = inl (subst (λ l. Contains l y) (is ∙ ap (λ b. if b then xs else xs ++ x ∷ []) i) c)
+      by false i = elim (Contains-push_cases xs x y (subst (λ l. Contains l y) (is ∙ ap (λ b. if b then xs else xs ++ x ∷ []) i) c)) [
+        | inl a ↦ inl a
+        | inr e ↦ inr (subst (Contains items) e here)
+      ]
+
+  pub adds_on : (xs ys zs items : List X) → AddsOnly xs items ys → AddsOnly ys items zs → AddsOnly xs items zs
+  adds_on xs ys zs items a b x c = elim (b x c) [ inl h ↦ a x h | inr h ↦ inr h ]
 
   -- what stands at a place of a table stands there when it is longer
   stays_at : (xs more : List X) (n : ℕ) (k : X) → slice_get xs n ≡ Some k → slice_get (xs ++ more) n ≡ Some k

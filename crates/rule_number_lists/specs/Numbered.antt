@@ -1,5 +1,5 @@
 -- Numbers of items: the places of what they are equal to in a table.
-use Rattle.std.specs.Prelude.{◌≡◌, ◌++◌, ◌∷◌, [], ℕ, ◌<◌, Bool, true, List, map, length, get_or, slice_get, Some, Contains}
+use Rattle.std.specs.Prelude.{◌≡◌, ◌⊎◌, ◌++◌, ◌∷◌, [], ℕ, ◌<◌, Bool, true, List, map, length, get_or, slice_get, Some, Contains}
 use Rattle.std.specs.List.{AllZip}
 
 module _ {X : Type 0} where
@@ -14,6 +14,10 @@ module _ {X : Type 0} where
   -- what stood there stands there, and perhaps more behind it
   abbrev pub Grows : List X → List X → Type 0
   Grows old new = (added : List X) × (new ≡ old ++ added)
+
+  -- nothing stands there but what stood there and these
+  abbrev pub AddsOnly : List X → List X → List X → Type 0
+  AddsOnly old items new = (x : X) → Contains new x → Contains old x ⊎ Contains items x
 
   -- what stands at these places
   abbrev pub at_places : List X → List ℕ → List X

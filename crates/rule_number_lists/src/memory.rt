@@ -25,7 +25,7 @@ impl<T: Eq + Hash + Copy> Drop for ListMemory<T> {
 
 impl<T: Eq + Hash + Copy> ListMemory<T> {
     ghost use Rattle.indexmap.specs.IndexSet.{IsUnique};
-    ghost use Rattle.rule_number_lists.specs.Numbered.{Grows};
+    ghost use Rattle.rule_number_lists.specs.Numbered.{Grows, AddsOnly};
     ghost use Rattle.rule_number_lists.specs.ListMemory.{items_of, numbers_kept, Remembers, HasList};
 
     /// None.
@@ -43,6 +43,7 @@ impl<T: Eq + Hash + Copy> ListMemory<T> {
     pub fn remember(&mut self, list: &[T]) -> Result<bool, AllocError>
         ensures remembers { IfOk result (λ is_new. Remembers T.eq self.old list.now is_new self.new) }
         ensures grown { Grows (items_of self.old) (items_of self.new) }
+        ensures only { AddsOnly (items_of self.old) list.now (items_of self.new) }
         ensures unique { IsUnique T.eq self.new.items }
         ensures refused { OnErr result (numbers_kept self.new ≡ numbers_kept self.old) }
     {
@@ -66,6 +67,8 @@ impl<T: Eq + Hash + Copy> ListMemory<T> {
     pub fn note(&mut self, items: &[T]) -> Result<usize, AllocError>
         ensures count { IfOk result (λ count. count ≡ length (items_of self.new)) }
         ensures grown { Grows (items_of self.old) (items_of self.new) }
+        ensures only { AddsOnly (items_of self.old) items.now (items_of self.new) }
+        ensures unique { IsUnique T.eq self.new.items }
         ensures lists { numbers_kept self.new ≡ numbers_kept self.old }
     {
         let alloc = *self.items.allocator();

@@ -1,7 +1,7 @@
 //! Numbers of items.
 ghost use Rattle.std.specs.Prelude.{IfOk};
 ghost use Rattle.indexmap.specs.IndexSet.{IsUnique};
-ghost use Rattle.rule_number_lists.specs.Numbered.{AreNumbersIn, Grows};
+ghost use Rattle.rule_number_lists.specs.Numbered.{AreNumbersIn, Grows, AddsOnly};
 
 use indexmap::IndexSet;
 use std::alloc::{AllocError, Global};
@@ -15,6 +15,7 @@ pub fn numbers_of<T: Eq + Hash + Copy>(
 ) -> Result<Vec<usize>, AllocError>
     ensures numbers { IfOk result (λ numbers. AreNumbersIn T.eq table.new.keys items.now numbers.items) }
     ensures grown { Grows table.old.keys table.new.keys }
+    ensures only { AddsOnly table.old.keys items.now table.new.keys }
     ensures unique { IsUnique T.eq table.new }
 {
     let mut numbers = Vec::new(alloc);

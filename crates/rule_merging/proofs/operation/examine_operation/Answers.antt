@@ -6,8 +6,8 @@ use Rattle.document_meaning.specs.MeantTree.{meant_of_set}
 use Rattle.rule_definitions.specs.Judged.{judged}
 use Rattle.rule_field_groups.specs.in_ground.Broken.{brokens_of}
 use Rattle.rule_merging.specs.Counted.{AreListed}
-use Rattle.rule_merging.specs.Remembered.{remembered}
-use Rattle.rule_merging.proofs.Counting.{starting_listed, shapes_counted, selections_counted, only_grow, only_more}
+use Rattle.rule_merging.specs.Remembered.{account_of}
+use Rattle.rule_merging.proofs.Counting.{starting_listed, shapes_counted, only_grow}
 use Rattle.rule_merging.proofs.Operating.{starts, operation_step}
 use Rattle.rule_merging.proofs.operation.examine_operation.Goals as goal
 
@@ -17,32 +17,27 @@ returns-in_err-left-clause-counted c os there counted =
     let o = operation_meant c.args.operation.now in
     let start = meant_of_set (typed_set_tree c.content.result.now.selection_set) in
     shapes_counted d os (λ ps. AreListed d ps ((start ∷ []) ∷ [])) (starting_listed d os o start there (starts c.args.operation.now c.content.result.now c.content.ensures))
-    (remembered c.args.examined.now.shapes) (remembered c.examine_all.new.examined) c.args.examined.now.comparisons c.examine_all.new.comparisons counted c.in_err-left.ensures.counted
+    (account_of c.args.examined.now.shapes) (account_of c.examine_all.new.examined) counted c.in_err-left.ensures.counted
 
 pub returns-in_err-left-clause-grown : goal.returns-in_err-left-clause-grown
 returns-in_err-left-clause-grown c =
     let d = document_meant c.args.document.now in
     let start = meant_of_set (typed_set_tree c.content.result.now.selection_set) in
-    only_grow d (λ ps. AreListed d ps ((start ∷ []) ∷ [])) _ (remembered c.args.examined.now.shapes) (remembered c.examine_all.new.examined) c.args.examined.now.comparisons c.examine_all.new.comparisons c.in_err-left.ensures.counted
+    only_grow d (λ ps. AreListed d ps ((start ∷ []) ∷ [])) _ (account_of c.args.examined.now.shapes) (account_of c.examine_all.new.examined) c.in_err-left.ensures.counted
 
 pub returns-in_err-too-clause-counted : goal.returns-in_err-too-clause-counted
 returns-in_err-too-clause-counted c os there counted =
     let d = document_meant c.args.document.now in
     let o = operation_meant c.args.operation.now in
     let start = meant_of_set (typed_set_tree c.content.result.now.selection_set) in
-    let first = shapes_counted d os (λ ps. AreListed d ps ((start ∷ []) ∷ [])) (starting_listed d os o start there (starts c.args.operation.now c.content.result.now c.content.ensures))
-    (remembered c.args.examined.now.shapes) (remembered c.examine_all.new.examined) c.args.examined.now.comparisons c.examine_all.new.comparisons counted c.in_ok-left.ensures.counted in
-    selections_counted d os (λ ps. AreListed d ps ((start ∷ []) ∷ [])) (remembered c.examine_all.new.examined) (remembered c.args.examined.now.selections) (remembered c.examine_all-2.new.examined)
-    c.examine_all.new.comparisons c.examine_all-2.new.comparisons first c.in_err-too.ensures.counted
+    shapes_counted d os (λ ps. AreListed d ps ((start ∷ []) ∷ [])) (starting_listed d os o start there (starts c.args.operation.now c.content.result.now c.content.ensures))
+    (account_of c.args.examined.now.shapes) (account_of c.examine_all.new.examined) counted c.in_ok-left.ensures.counted
 
 pub returns-in_err-too-clause-grown : goal.returns-in_err-too-clause-grown
 returns-in_err-too-clause-grown c =
     let d = document_meant c.args.document.now in
     let start = meant_of_set (typed_set_tree c.content.result.now.selection_set) in
-    only_more d (λ ps. AreListed d ps ((start ∷ []) ∷ [])) _ (remembered c.args.examined.now.selections) (remembered c.examine_all-2.new.examined) c.examine_all.new.comparisons c.examine_all-2.new.comparisons
-    (remembered c.args.examined.now.shapes) (remembered c.examine_all.new.examined) c.args.examined.now.comparisons
-    (only_grow d (λ ps. AreListed d ps ((start ∷ []) ∷ [])) _ (remembered c.args.examined.now.shapes) (remembered c.examine_all.new.examined) c.args.examined.now.comparisons c.examine_all.new.comparisons c.in_ok-left.ensures.counted)
-    c.in_err-too.ensures.counted
+    only_grow d (λ ps. AreListed d ps ((start ∷ []) ∷ [])) _ (account_of c.args.examined.now.shapes) (account_of c.examine_all.new.examined) c.in_ok-left.ensures.counted
 
 pub returns-then-left-clause-examined : goal.returns-then-left-clause-examined
 returns-then-left-clause-examined c =
@@ -50,7 +45,7 @@ returns-then-left-clause-examined c =
     let o = operation_meant c.args.operation.now in
     let starting = starts c.args.operation.now c.content.result.now c.content.ensures in
     operation_step (judged (schema_tree c.args.schema.now)) d o c.args.examined.now
-    (record { shapes = c.examine_all.new.examined; selections = c.examine_all-2.new.examined; comparisons = c.examine_all-2.new.comparisons })
+    (record { shapes = c.examine_all.new.examined; selections = c.examine_all-2.new.examined })
     (brokens_of c.args.breaches.now) (brokens_of c.examine_all.new.breaches) (brokens_of c.examine_all-2.new.breaches) c.in_ok-left.left c.in_ok-too.too c.in_ok-left.left
     (c.in_ok-left.ensures.examined o starting)
     (c.in_ok-too.ensures.examined o starting)
@@ -61,19 +56,14 @@ returns-then-left-clause-counted c os there counted =
     let d = document_meant c.args.document.now in
     let o = operation_meant c.args.operation.now in
     let start = meant_of_set (typed_set_tree c.content.result.now.selection_set) in
-    let first = shapes_counted d os (λ ps. AreListed d ps ((start ∷ []) ∷ [])) (starting_listed d os o start there (starts c.args.operation.now c.content.result.now c.content.ensures))
-    (remembered c.args.examined.now.shapes) (remembered c.examine_all.new.examined) c.args.examined.now.comparisons c.examine_all.new.comparisons counted c.in_ok-left.ensures.counted in
-    selections_counted d os (λ ps. AreListed d ps ((start ∷ []) ∷ [])) (remembered c.examine_all.new.examined) (remembered c.args.examined.now.selections) (remembered c.examine_all-2.new.examined)
-    c.examine_all.new.comparisons c.examine_all-2.new.comparisons first c.in_ok-too.ensures.counted
+    shapes_counted d os (λ ps. AreListed d ps ((start ∷ []) ∷ [])) (starting_listed d os o start there (starts c.args.operation.now c.content.result.now c.content.ensures))
+    (account_of c.args.examined.now.shapes) (account_of c.examine_all.new.examined) counted c.in_ok-left.ensures.counted
 
 pub returns-then-left-clause-grown : goal.returns-then-left-clause-grown
 returns-then-left-clause-grown c =
     let d = document_meant c.args.document.now in
     let start = meant_of_set (typed_set_tree c.content.result.now.selection_set) in
-    only_more d (λ ps. AreListed d ps ((start ∷ []) ∷ [])) _ (remembered c.args.examined.now.selections) (remembered c.examine_all-2.new.examined) c.examine_all.new.comparisons c.examine_all-2.new.comparisons
-    (remembered c.args.examined.now.shapes) (remembered c.examine_all.new.examined) c.args.examined.now.comparisons
-    (only_grow d (λ ps. AreListed d ps ((start ∷ []) ∷ [])) _ (remembered c.args.examined.now.shapes) (remembered c.examine_all.new.examined) c.args.examined.now.comparisons c.examine_all.new.comparisons c.in_ok-left.ensures.counted)
-    c.in_ok-too.ensures.counted
+    only_grow d (λ ps. AreListed d ps ((start ∷ []) ∷ [])) _ (account_of c.args.examined.now.shapes) (account_of c.examine_all.new.examined) c.in_ok-left.ensures.counted
 
 pub returns-else-left-clause-examined : goal.returns-else-left-clause-examined
 returns-else-left-clause-examined c =
@@ -81,7 +71,7 @@ returns-else-left-clause-examined c =
     let o = operation_meant c.args.operation.now in
     let starting = starts c.args.operation.now c.content.result.now c.content.ensures in
     operation_step (judged (schema_tree c.args.schema.now)) d o c.args.examined.now
-    (record { shapes = c.examine_all.new.examined; selections = c.examine_all-2.new.examined; comparisons = c.examine_all-2.new.comparisons })
+    (record { shapes = c.examine_all.new.examined; selections = c.examine_all-2.new.examined })
     (brokens_of c.args.breaches.now) (brokens_of c.examine_all.new.breaches) (brokens_of c.examine_all-2.new.breaches) c.in_ok-left.left c.in_ok-too.too c.in_ok-too.too
     (c.in_ok-left.ensures.examined o starting)
     (c.in_ok-too.ensures.examined o starting)
@@ -92,16 +82,11 @@ returns-else-left-clause-counted c os there counted =
     let d = document_meant c.args.document.now in
     let o = operation_meant c.args.operation.now in
     let start = meant_of_set (typed_set_tree c.content.result.now.selection_set) in
-    let first = shapes_counted d os (λ ps. AreListed d ps ((start ∷ []) ∷ [])) (starting_listed d os o start there (starts c.args.operation.now c.content.result.now c.content.ensures))
-    (remembered c.args.examined.now.shapes) (remembered c.examine_all.new.examined) c.args.examined.now.comparisons c.examine_all.new.comparisons counted c.in_ok-left.ensures.counted in
-    selections_counted d os (λ ps. AreListed d ps ((start ∷ []) ∷ [])) (remembered c.examine_all.new.examined) (remembered c.args.examined.now.selections) (remembered c.examine_all-2.new.examined)
-    c.examine_all.new.comparisons c.examine_all-2.new.comparisons first c.in_ok-too.ensures.counted
+    shapes_counted d os (λ ps. AreListed d ps ((start ∷ []) ∷ [])) (starting_listed d os o start there (starts c.args.operation.now c.content.result.now c.content.ensures))
+    (account_of c.args.examined.now.shapes) (account_of c.examine_all.new.examined) counted c.in_ok-left.ensures.counted
 
 pub returns-else-left-clause-grown : goal.returns-else-left-clause-grown
 returns-else-left-clause-grown c =
     let d = document_meant c.args.document.now in
     let start = meant_of_set (typed_set_tree c.content.result.now.selection_set) in
-    only_more d (λ ps. AreListed d ps ((start ∷ []) ∷ [])) _ (remembered c.args.examined.now.selections) (remembered c.examine_all-2.new.examined) c.examine_all.new.comparisons c.examine_all-2.new.comparisons
-    (remembered c.args.examined.now.shapes) (remembered c.examine_all.new.examined) c.args.examined.now.comparisons
-    (only_grow d (λ ps. AreListed d ps ((start ∷ []) ∷ [])) _ (remembered c.args.examined.now.shapes) (remembered c.examine_all.new.examined) c.args.examined.now.comparisons c.examine_all.new.comparisons c.in_ok-left.ensures.counted)
-    c.in_ok-too.ensures.counted
+    only_grow d (λ ps. AreListed d ps ((start ∷ []) ∷ [])) _ (account_of c.args.examined.now.shapes) (account_of c.examine_all.new.examined) c.in_ok-left.ensures.counted

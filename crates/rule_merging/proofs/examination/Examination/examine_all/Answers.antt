@@ -9,7 +9,7 @@ use Rattle.rule_definitions.proofs.Lists.{not_in_nil}
 use Rattle.rule_document_definitions.specs.Limits.{chain_bound}
 use Rattle.rule_field_groups.specs.in_ground.Broken.{brokens_of}
 use Rattle.rule_field_groups.specs.Below.{meant_at}
-use Rattle.rule_merging.specs.Remembered.{remembered, kept_of}
+use Rattle.rule_merging.specs.Remembered.{account_of, kept_of}
 use Rattle.rule_merging.specs.Counted.{AreListed}
 use Rattle.rule_merging.specs.Examined.{Sets, all_sets, sets_in, ExaminesSets, HaveFields, schema_of, document_of}
 use Rattle.rule_merging.proofs.Examining.{items_in, sets_at, emptied, SoFar, first_level, level_step, no_more_levels}
@@ -26,7 +26,7 @@ level_sets : (e : Examination) (os : List (MeantOperation Place)) (level : List 
 level_sets e os level listed = subst (AreListed (document_of e) os) (sym (as_sets level)) listed
 
 pub returns-in_err-level-clause-counted : goal.returns-in_err-level-clause-counted
-returns-in_err-level-clause-counted c = grows_not (document_of c.args.self.now) (λ os. AreListed (document_of c.args.self.now) os ((meant_at c.args.start ∷ []) ∷ [])) c.args.self.now.pass (remembered c.args.examined.now) c.args.comparisons.now
+returns-in_err-level-clause-counted c = grows_not (document_of c.args.self.now) (λ os. AreListed (document_of c.args.self.now) os ((meant_at c.args.start ∷ []) ∷ [])) c.args.self.now.pass (account_of c.args.examined.now)
 
 pub loop-length-init : goal.loop-length-init
 loop-length-init c =
@@ -42,7 +42,7 @@ loop-length-init c =
         ),
       );
       listed = λ os listed. subst (AreListed (document_of e) os) (sym first) listed;
-      counted = grows_not (document_of e) (λ os. AreListed (document_of e) os ((meant_at c.args.start ∷ []) ∷ [])) e.pass (remembered c.args.examined.now) c.args.comparisons.now;
+      counted = grows_not (document_of e) (λ os. AreListed (document_of e) os ((meant_at c.args.start ∷ []) ∷ [])) e.pass (account_of c.args.examined.now);
       short = omega arith;
     }
 
@@ -51,7 +51,7 @@ returns-in_err-level-2-clause-counted c =
     let e = c.args.self.now in
     let d = document_of e in
     grows_with d (λ os. AreListed d os ((meant_at c.args.start ∷ []) ∷ [])) (λ os. AreListed d os (map sets_at c.deref.result.now)) e.pass
-    (remembered c.args.examined.now) (remembered c.loop-length.examined) (remembered c.examine_level.new.examined) c.args.comparisons.now c.loop-length.comparisons c.examine_level.new.comparisons
+    (account_of c.args.examined.now) (account_of c.loop-length.examined) (account_of c.examine_level.new.examined)
     c.loop-length.invariant.counted
     (λ os listed. subst (λ l. AreListed d os (map sets_at l)) (sym c.deref.ensures.value) (level_sets e os c.loop-length.level.items (c.loop-length.invariant.listed os listed)))
     c.in_err-level-2.ensures.counted
@@ -75,7 +75,7 @@ loop-length-preserved c =
           (inv.examined o is) here;
       listed = λ os listed. subst (AreListed d os) (sym here.1.1.1.0) (listed_next d os e.pass s level old new here.0 here.1.0 (inv.listed os listed) here.1.1.1.1);
       counted = grows_with d (λ os. AreListed d os ((meant_at c.args.start ∷ []) ∷ [])) (λ os. AreListed d os (map sets_at c.deref.result.now)) e.pass
-          (remembered c.args.examined.now) (remembered c.loop-length.examined) (remembered c.examine_level.new.examined) c.args.comparisons.now c.loop-length.comparisons c.examine_level.new.comparisons
+          (account_of c.args.examined.now) (account_of c.loop-length.examined) (account_of c.examine_level.new.examined)
           inv.counted
           (λ os listed. subst (λ l. AreListed d os (map sets_at l)) (sym c.deref.ensures.value) (level_sets e os c.loop-length.level.items (inv.listed os listed)))
           c.in_ok-level-2.ensures.counted;

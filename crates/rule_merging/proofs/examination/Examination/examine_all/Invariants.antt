@@ -15,7 +15,7 @@ invariant-loop-length l = record {
   examined : (o : MeantOperation Place) → o.set ≡ meant_at l.fn.start → (added : List (Broken Place)) × ((brokens_of l.breaches ≡ brokens_of l.fn.breaches ++ added)
       × SoFar l.self.pass (schema_of l.self) (document_of l.self) o (kept_of l.fn.examined) (kept_of l.examined) l.length added (sets_in l.level));
   listed : (os : List (MeantOperation Place)) → AreListed (document_of l.self) os ((meant_at l.fn.start ∷ []) ∷ []) → AreListed (document_of l.self) os (sets_in l.level);
-  counted : GrowsOver l.self ((meant_at l.fn.start ∷ []) ∷ []) l.fn.examined l.examined l.fn.comparisons l.comparisons;
+  counted : GrowsOver l.self ((meant_at l.fn.start ∷ []) ∷ []) l.fn.examined l.examined;
   short : l.length ≤ 128;
 }
 

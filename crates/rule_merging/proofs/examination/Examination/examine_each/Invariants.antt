@@ -6,6 +6,6 @@ use Rattle.rule_merging.proofs.examination.Examination.examine_each.Given as goa
 
 abbrev pub invariant-loop-one : goal.invariant-loop-one
 invariant-loop-one l = record {
-  examined : PairsFields l.self (are_of (take l.one-index l.ones) l.others) (kept_of l.fn.examined) (kept_of l.examined) l.fn.breaches l.breaches (sets_in l.fn.next) (sets_in l.next);
-  counted : GrowsByTwo l.self (are_of l.ones l.others) l.fn.examined l.examined l.fn.comparisons l.comparisons;
+  examined : PairsFields l.self (are_of (take l.one-index l.ones) l.others) (kept_of l.fn.examined) (kept_of l.examined) l.fn.breaches l.breaches (sets_in l.fn.examined.next) (sets_in l.examined.next);
+  counted : GrowsByTwo l.self (are_of l.ones l.others) l.fn.examined l.examined;
 }

@@ -6,6 +6,6 @@ use Rattle.rule_merging.proofs.examination.Examination.examine_level.Given as go
 
 abbrev pub invariant-loop-sets : goal.invariant-loop-sets
 invariant-loop-sets l = record {
-  examined : ExaminesSets l.self (map (λ v. meant_sets v.items) (take l.sets-index l.level)) (kept_of l.fn.examined) (kept_of l.examined) l.fn.breaches l.breaches [] (sets_in l.next);
-  counted : GrowsOver l.self (map (λ v. meant_sets v.items) l.level) l.fn.examined l.examined l.fn.comparisons l.comparisons;
+  examined : ExaminesSets l.self (map (λ v. meant_sets v.items) (take l.sets-index l.level)) (kept_of l.fn.examined) (kept_of l.examined) l.fn.breaches l.breaches [] (sets_in l.examined.next);
+  counted : GrowsOver l.self (map (λ v. meant_sets v.items) l.level) l.fn.examined l.examined;
 }

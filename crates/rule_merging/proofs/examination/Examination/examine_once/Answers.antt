@@ -1,8 +1,8 @@
-use Rattle.std.proofs.Common.{◌∷◌, [], ap, sym, subst, append-nil}
+use Rattle.std.proofs.Common.{◌∙◌, ◌∷◌, [], ap, sym, subst, append-nil}
 use Rattle.rule_field_groups.specs.in_ground.Broken.{brokens_of}
 use Rattle.rule_field_groups.specs.Below.{meant_sets}
 use Rattle.rule_merging.specs.Counted.{AreListed}
-use Rattle.rule_merging.specs.Remembered.{Kept, remembered, kept_of}
+use Rattle.rule_merging.specs.Remembered.{Kept, Beside, account_of, kept_of}
 use Rattle.rule_merging.specs.Examined.{sets_in, schema_of, document_of, ExaminesSets}
 use Rattle.rule_merging.proofs.Examining.{known_sets, looked_then}
 use Rattle.rule_merging.proofs.Counting.{Premise, grows_same, grows_on}
@@ -11,7 +11,7 @@ use Rattle.rule_merging.proofs.examination.Examination.examine_once.Goals as goa
 pub returns-in_err-is_known-clause-counted : goal.returns-in_err-is_known-clause-counted
 returns-in_err-is_known-clause-counted c =
     let d = document_of c.args.self.now in
-    grows_same d (λ os. AreListed d os (meant_sets c.args.sets.now ∷ [])) c.args.self.now.pass (remembered c.args.examined.now) (remembered c.has_expanded.new.self) c.args.comparisons.now (ap (λ (k : Kept). k.lists) c.in_err-is_known.ensures.same)
+    grows_same d (λ os. AreListed d os (meant_sets c.args.sets.now ∷ [])) c.args.self.now.pass (account_of c.args.examined.now) (account_of c.has_expanded.new.self) (ap (λ (b : Beside). b.account) c.in_err-is_known.ensures.beside)
 
 pub returns-then-is_known-clause-examined : goal.returns-then-is_known-clause-examined
 returns-then-is_known-clause-examined c =
@@ -25,7 +25,7 @@ returns-then-is_known-clause-examined c =
         (
           sym (append-nil (brokens_of c.args.breaches.now)),
           (
-            sym (append-nil (sets_in c.args.next.now)),
+            ap (λ (b : Beside). b.next) c.in_ok-is_known.ensures.beside ∙ sym (append-nil (sets_in c.args.examined.now.next)),
             known_sets e.pass (schema_of e) (document_of e) sets old new (c.in_ok-is_known.ensures.known c.if-is_known.true) c.in_ok-is_known.ensures.same,
           ),
         ),
@@ -35,14 +35,14 @@ returns-then-is_known-clause-examined c =
 pub returns-then-is_known-clause-counted : goal.returns-then-is_known-clause-counted
 returns-then-is_known-clause-counted c =
     let d = document_of c.args.self.now in
-    grows_same d (λ os. AreListed d os (meant_sets c.args.sets.now ∷ [])) c.args.self.now.pass (remembered c.args.examined.now) (remembered c.has_expanded.new.self) c.args.comparisons.now (ap (λ (k : Kept). k.lists) c.in_ok-is_known.ensures.same)
+    grows_same d (λ os. AreListed d os (meant_sets c.args.sets.now ∷ [])) c.args.self.now.pass (account_of c.args.examined.now) (account_of c.has_expanded.new.self) (ap (λ (b : Beside). b.account) c.in_ok-is_known.ensures.beside)
 
 pub returns-in_err-examine_new-clause-counted : goal.returns-in_err-examine_new-clause-counted
 returns-in_err-examine_new-clause-counted c =
     let e = c.args.self.now in
     let d = document_of e in
-    grows_on d (λ os. AreListed d os (meant_sets c.args.sets.now ∷ [])) e.pass (remembered c.args.examined.now) (remembered c.has_expanded.new.self) (remembered c.examine_new.new.examined) c.args.comparisons.now c.args.comparisons.now c.examine_new.new.comparisons
-    (grows_same d (λ os. AreListed d os (meant_sets c.args.sets.now ∷ [])) e.pass (remembered c.args.examined.now) (remembered c.has_expanded.new.self) c.args.comparisons.now (ap (λ (k : Kept). k.lists) c.in_ok-is_known.ensures.same))
+    grows_on d (λ os. AreListed d os (meant_sets c.args.sets.now ∷ [])) e.pass (account_of c.args.examined.now) (account_of c.has_expanded.new.self) (account_of c.examine_new.new.examined)
+    (grows_same d (λ os. AreListed d os (meant_sets c.args.sets.now ∷ [])) e.pass (account_of c.args.examined.now) (account_of c.has_expanded.new.self) (ap (λ (b : Beside). b.account) c.in_ok-is_known.ensures.beside))
     c.in_err-examine_new.ensures.counted
 
 pub returns-in_err-expand-clause-counted : goal.returns-in_err-expand-clause-counted
@@ -50,28 +50,33 @@ returns-in_err-expand-clause-counted c =
     let e = c.args.self.now in
     let d = document_of e in
     let Given : Premise d = λ os. AreListed d os (meant_sets c.args.sets.now ∷ []) in
-    grows_on d Given e.pass (remembered c.args.examined.now) (remembered c.examine_new.new.examined) (remembered c.expand.new.self) c.args.comparisons.now c.examine_new.new.comparisons c.examine_new.new.comparisons
-    (grows_on d Given e.pass (remembered c.args.examined.now) (remembered c.has_expanded.new.self) (remembered c.examine_new.new.examined) c.args.comparisons.now c.args.comparisons.now c.examine_new.new.comparisons
-    (grows_same d Given e.pass (remembered c.args.examined.now) (remembered c.has_expanded.new.self) c.args.comparisons.now (ap (λ (k : Kept). k.lists) c.in_ok-is_known.ensures.same))
+    grows_on d Given e.pass (account_of c.args.examined.now) (account_of c.examine_new.new.examined) (account_of c.expand.new.self)
+    (grows_on d Given e.pass (account_of c.args.examined.now) (account_of c.has_expanded.new.self) (account_of c.examine_new.new.examined)
+    (grows_same d Given e.pass (account_of c.args.examined.now) (account_of c.has_expanded.new.self) (ap (λ (b : Beside). b.account) c.in_ok-is_known.ensures.beside))
     c.in_ok-examine_new.ensures.counted)
-    (grows_same d Given e.pass (remembered c.examine_new.new.examined) (remembered c.expand.new.self) c.examine_new.new.comparisons c.in_err-expand.ensures.lists)
+    (grows_same d Given e.pass (account_of c.examine_new.new.examined) (account_of c.expand.new.self) (ap (λ (b : Beside). b.account) c.in_err-expand.ensures.beside))
 
 pub returns-clause-examined : goal.returns-clause-examined
 returns-clause-examined c =
     let e = c.args.self.now in
     let sets = meant_sets c.args.sets.now in
-    looked_then e.pass (schema_of e) (document_of e) sets (kept_of c.args.examined.now) (kept_of c.examine_new.new.examined) (kept_of c.expand.new.self) c.in_ok-expand.field-0
-    (brokens_of c.args.breaches.now) (brokens_of c.examine_new.new.breaches) (sets_in c.args.next.now) (sets_in c.examine_new.new.next) c.in_ok-expand.ensures.expands
-    (subst (λ (k : Kept). ExaminesSets e (sets ∷ []) k (kept_of c.examine_new.new.examined) c.args.breaches.now c.examine_new.new.breaches (sets_in c.args.next.now) (sets_in c.examine_new.new.next))
-    c.in_ok-is_known.ensures.same c.in_ok-examine_new.ensures.examined)
+    let old = kept_of c.has_expanded.new.self in
+    let new = kept_of c.examine_new.new.examined in
+    let next = sets_in c.args.examined.now.next in
+    let last = sets_in c.expand.new.self.next in
+    looked_then e.pass (schema_of e) (document_of e) sets (kept_of c.args.examined.now) new (kept_of c.expand.new.self) c.in_ok-expand.field-0
+    (brokens_of c.args.breaches.now) (brokens_of c.examine_new.new.breaches) next last c.in_ok-expand.ensures.expands
+    (subst (λ (k : Kept). ExaminesSets e (sets ∷ []) k new c.args.breaches.now c.examine_new.new.breaches next last) c.in_ok-is_known.ensures.same
+    (subst (λ n. ExaminesSets e (sets ∷ []) old new c.args.breaches.now c.examine_new.new.breaches n last) (ap (λ (b : Beside). b.next) c.in_ok-is_known.ensures.beside)
+    (subst (λ n. ExaminesSets e (sets ∷ []) old new c.args.breaches.now c.examine_new.new.breaches (sets_in c.has_expanded.new.self.next) n) (sym (ap (λ (b : Beside). b.next) c.in_ok-expand.ensures.beside)) c.in_ok-examine_new.ensures.examined)))
 
 pub returns-clause-counted : goal.returns-clause-counted
 returns-clause-counted c =
     let e = c.args.self.now in
     let d = document_of e in
     let Given : Premise d = λ os. AreListed d os (meant_sets c.args.sets.now ∷ []) in
-    grows_on d Given e.pass (remembered c.args.examined.now) (remembered c.examine_new.new.examined) (remembered c.expand.new.self) c.args.comparisons.now c.examine_new.new.comparisons c.examine_new.new.comparisons
-    (grows_on d Given e.pass (remembered c.args.examined.now) (remembered c.has_expanded.new.self) (remembered c.examine_new.new.examined) c.args.comparisons.now c.args.comparisons.now c.examine_new.new.comparisons
-    (grows_same d Given e.pass (remembered c.args.examined.now) (remembered c.has_expanded.new.self) c.args.comparisons.now (ap (λ (k : Kept). k.lists) c.in_ok-is_known.ensures.same))
+    grows_on d Given e.pass (account_of c.args.examined.now) (account_of c.examine_new.new.examined) (account_of c.expand.new.self)
+    (grows_on d Given e.pass (account_of c.args.examined.now) (account_of c.has_expanded.new.self) (account_of c.examine_new.new.examined)
+    (grows_same d Given e.pass (account_of c.args.examined.now) (account_of c.has_expanded.new.self) (ap (λ (b : Beside). b.account) c.in_ok-is_known.ensures.beside))
     c.in_ok-examine_new.ensures.counted)
-    (grows_same d Given e.pass (remembered c.examine_new.new.examined) (remembered c.expand.new.self) c.examine_new.new.comparisons c.in_ok-expand.ensures.lists)
+    (grows_same d Given e.pass (account_of c.examine_new.new.examined) (account_of c.expand.new.self) (ap (λ (b : Beside). b.account) c.in_ok-expand.ensures.beside))

@@ -4,7 +4,7 @@ use Rattle.rule_field_groups.specs.in_ground.Fields.{fields_of}
 use Rattle.rule_field_groups.specs.Below.{meant_at}
 use Rattle.rule_field_groups.specs.Own.{spread_sets}
 use Rattle.rule_field_groups.specs.Laws.{meant_spread}
-use Rattle.rule_merging.specs.Remembered.{remembered, kept_of}
+use Rattle.rule_merging.specs.Remembered.{Beside, account_of, kept_of}
 use Rattle.rule_merging.specs.Examined.{with_each, schema_of, document_of}
 use Rattle.rule_merging.specs.Pairs.{Looks, each_with}
 use Rattle.rule_merging.proofs.Looking.{looks_both}
@@ -13,10 +13,10 @@ use Rattle.rule_merging.proofs.Counting.{grows_not, grows_same, grows_on, grows_
 use Rattle.rule_merging.proofs.examination.Examination.examine_pair.Goals as goal
 
 pub returns-in_err-ones-clause-counted : goal.returns-in_err-ones-clause-counted
-returns-in_err-ones-clause-counted c = grows_not (document_of c.args.self.now) _ c.args.self.now.pass (remembered c.args.examined.now) c.args.comparisons.now
+returns-in_err-ones-clause-counted c = grows_not (document_of c.args.self.now) _ c.args.self.now.pass (account_of c.args.examined.now)
 
 pub returns-in_err-others-clause-counted : goal.returns-in_err-others-clause-counted
-returns-in_err-others-clause-counted c = grows_not (document_of c.args.self.now) _ c.args.self.now.pass (remembered c.args.examined.now) c.args.comparisons.now
+returns-in_err-others-clause-counted c = grows_not (document_of c.args.self.now) _ c.args.self.now.pass (account_of c.args.examined.now)
 
 pub returns-in_err-examine_each-clause-counted : goal.returns-in_err-examine_each-clause-counted
 returns-in_err-examine_each-clause-counted c =
@@ -24,7 +24,7 @@ returns-in_err-examine_each-clause-counted c =
     let d = document_of e in
     grows_given d _ _ (λ os. pair_listed e.pass (schema_of e) d (meant_at c.args.pair.one) (meant_at c.args.pair.other) c.deref.result.now c.deref-2.result.now
     (ap fields_of c.deref.ensures.value ∙ c.in_ok-ones.ensures) (ap fields_of c.deref-2.ensures.value ∙ c.in_ok-others.ensures) os)
-    e.pass (remembered c.args.examined.now) (remembered c.examine_each.new.examined) c.args.comparisons.now c.examine_each.new.comparisons c.in_err-examine_each.ensures.counted
+    e.pass (account_of c.args.examined.now) (account_of c.examine_each.new.examined) c.in_err-examine_each.ensures.counted
 
 pub returns-in_err-spreads-clause-counted : goal.returns-in_err-spreads-clause-counted
 returns-in_err-spreads-clause-counted c =
@@ -32,27 +32,27 @@ returns-in_err-spreads-clause-counted c =
     let d = document_of e in
     grows_given d _ _ (λ os. pair_listed e.pass (schema_of e) d (meant_at c.args.pair.one) (meant_at c.args.pair.other) c.deref.result.now c.deref-2.result.now
     (ap fields_of c.deref.ensures.value ∙ c.in_ok-ones.ensures) (ap fields_of c.deref-2.ensures.value ∙ c.in_ok-others.ensures) os)
-    e.pass (remembered c.args.examined.now) (remembered c.examine_each.new.examined) c.args.comparisons.now c.examine_each.new.comparisons c.in_ok-examine_each.ensures.counted
+    e.pass (account_of c.args.examined.now) (account_of c.examine_each.new.examined) c.in_ok-examine_each.ensures.counted
 
 pub returns-in_err-look_at_each-clause-counted : goal.returns-in_err-look_at_each-clause-counted
 returns-in_err-look_at_each-clause-counted c =
     let e = c.args.self.now in
     let d = document_of e in
-    grows_on d _ e.pass (remembered c.args.examined.now) (remembered c.examine_each.new.examined) (remembered c.look_at_each.new.self) c.args.comparisons.now c.examine_each.new.comparisons c.examine_each.new.comparisons
+    grows_on d _ e.pass (account_of c.args.examined.now) (account_of c.examine_each.new.examined) (account_of c.look_at_each.new.self)
     (grows_given d _ _ (λ os. pair_listed e.pass (schema_of e) d (meant_at c.args.pair.one) (meant_at c.args.pair.other) c.deref.result.now c.deref-2.result.now
     (ap fields_of c.deref.ensures.value ∙ c.in_ok-ones.ensures) (ap fields_of c.deref-2.ensures.value ∙ c.in_ok-others.ensures) os)
-    e.pass (remembered c.args.examined.now) (remembered c.examine_each.new.examined) c.args.comparisons.now c.examine_each.new.comparisons c.in_ok-examine_each.ensures.counted)
-    (grows_same d _ e.pass (remembered c.examine_each.new.examined) (remembered c.look_at_each.new.self) c.examine_each.new.comparisons c.in_err-look_at_each.ensures.lists)
+    e.pass (account_of c.args.examined.now) (account_of c.examine_each.new.examined) c.in_ok-examine_each.ensures.counted)
+    (grows_same d _ e.pass (account_of c.examine_each.new.examined) (account_of c.look_at_each.new.self) (ap (λ (b : Beside). b.account) c.in_err-look_at_each.ensures.beside))
 
 pub returns-in_err-spreads-2-clause-counted : goal.returns-in_err-spreads-2-clause-counted
 returns-in_err-spreads-2-clause-counted c =
     let e = c.args.self.now in
     let d = document_of e in
-    grows_on d _ e.pass (remembered c.args.examined.now) (remembered c.examine_each.new.examined) (remembered c.look_at_each.new.self) c.args.comparisons.now c.examine_each.new.comparisons c.examine_each.new.comparisons
+    grows_on d _ e.pass (account_of c.args.examined.now) (account_of c.examine_each.new.examined) (account_of c.look_at_each.new.self)
     (grows_given d _ _ (λ os. pair_listed e.pass (schema_of e) d (meant_at c.args.pair.one) (meant_at c.args.pair.other) c.deref.result.now c.deref-2.result.now
     (ap fields_of c.deref.ensures.value ∙ c.in_ok-ones.ensures) (ap fields_of c.deref-2.ensures.value ∙ c.in_ok-others.ensures) os)
-    e.pass (remembered c.args.examined.now) (remembered c.examine_each.new.examined) c.args.comparisons.now c.examine_each.new.comparisons c.in_ok-examine_each.ensures.counted)
-    (grows_same d _ e.pass (remembered c.examine_each.new.examined) (remembered c.look_at_each.new.self) c.examine_each.new.comparisons c.in_ok-look_at_each.ensures.lists)
+    e.pass (account_of c.args.examined.now) (account_of c.examine_each.new.examined) c.in_ok-examine_each.ensures.counted)
+    (grows_same d _ e.pass (account_of c.examine_each.new.examined) (account_of c.look_at_each.new.self) (ap (λ (b : Beside). b.account) c.in_ok-look_at_each.ensures.beside))
 
 pub returns-clause-examined : goal.returns-clause-examined
 returns-clause-examined c =
@@ -79,7 +79,7 @@ returns-clause-examined c =
         (
           paired.1.1.0,
           (
-            paired.1.1.1.0,
+            ap (λ (b : Beside). b.next) (c.look_before_each.ensures.beside ∙ c.in_ok-look_at_each.ensures.beside) ∙ paired.1.1.1.0,
             pair_examined e.pass s d a b ones others (ap fields_of c.deref.ensures.value ∙ c.in_ok-ones.ensures) (ap fields_of c.deref-2.ensures.value ∙ c.in_ok-others.ensures) old mid new paired.0 paired.1.0 paired.1.1.1.1
                 (looks_both (each_with vs b) (with_each a ws) mid half new one other),
           ),
@@ -92,8 +92,8 @@ pub returns-clause-counted : goal.returns-clause-counted
 returns-clause-counted c =
     let e = c.args.self.now in
     let d = document_of e in
-    grows_on d _ e.pass (remembered c.args.examined.now) (remembered c.examine_each.new.examined) (remembered c.look_before_each.new.self) c.args.comparisons.now c.examine_each.new.comparisons c.examine_each.new.comparisons
+    grows_on d _ e.pass (account_of c.args.examined.now) (account_of c.examine_each.new.examined) (account_of c.look_before_each.new.self)
     (grows_given d _ _ (λ os. pair_listed e.pass (schema_of e) d (meant_at c.args.pair.one) (meant_at c.args.pair.other) c.deref.result.now c.deref-2.result.now
     (ap fields_of c.deref.ensures.value ∙ c.in_ok-ones.ensures) (ap fields_of c.deref-2.ensures.value ∙ c.in_ok-others.ensures) os)
-    e.pass (remembered c.args.examined.now) (remembered c.examine_each.new.examined) c.args.comparisons.now c.examine_each.new.comparisons c.in_ok-examine_each.ensures.counted)
-    (grows_same d _ e.pass (remembered c.examine_each.new.examined) (remembered c.look_before_each.new.self) c.examine_each.new.comparisons (c.look_before_each.ensures.lists ∙ c.in_ok-look_at_each.ensures.lists))
+    e.pass (account_of c.args.examined.now) (account_of c.examine_each.new.examined) c.in_ok-examine_each.ensures.counted)
+    (grows_same d _ e.pass (account_of c.examine_each.new.examined) (account_of c.look_before_each.new.self) (ap (λ (b : Beside). b.account) (c.look_before_each.ensures.beside ∙ c.in_ok-look_at_each.ensures.beside)))

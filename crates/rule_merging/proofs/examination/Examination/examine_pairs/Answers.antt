@@ -6,7 +6,7 @@ use Rattle.rule_definitions.proofs.Lists.{only}
 use Rattle.rule_field_groups.specs.in_ground.Broken.{brokens_of}
 use Rattle.rule_field_groups.specs.Under.{sets_in}
 use Rattle.rule_merging.specs.Counted.{AreListed}
-use Rattle.rule_merging.specs.Remembered.{remembered, kept_of, two_of}
+use Rattle.rule_merging.specs.Remembered.{account_of, kept_of, two_of}
 use Rattle.rule_merging.specs.Examined.{Sets, SelectsAsMuch, schema_of, document_of}
 use Rattle.rule_merging.proofs.Pairing.{brokens_long}
 use Rattle.rule_merging.proofs.PairStep.{no_pairs, pairs_step}
@@ -33,8 +33,8 @@ pub loop-done-init : goal.loop-done-init
 loop-done-init c =
     let e = c.args.self.now in
     record {
-      examined = ([], ([], (sym (append-nil (brokens_of c.args.breaches.now)), (sym (append-nil (sets_in c.args.next.now)), no_pairs e.pass (schema_of e) (document_of e) (kept_of c.args.examined.now)))));
-      counted = grows_not (document_of e) _ e.pass (remembered c.args.examined.now) c.args.comparisons.now;
+      examined = ([], ([], (sym (append-nil (brokens_of c.args.breaches.now)), (sym (append-nil (sets_in c.args.examined.now.next)), no_pairs e.pass (schema_of e) (document_of e) (kept_of c.args.examined.now)))));
+      counted = grows_not (document_of e) _ e.pass (account_of c.args.examined.now);
       within = omega arith;
     }
 
@@ -49,7 +49,7 @@ returns-in_err-examine_pair-clause-counted c =
     let pair = c.index-pair.result.now in
     let within : c.loop-done.done < length here = omega (arith, c.len.ensures, c.loop-done-test.true) in
     let two = two_at here c.loop-done.done pair within c.index-pair.ensures in
-    grows_with d _ _ e.pass (remembered c.args.examined.now) (remembered c.loop-done.examined) (remembered c.examine_pair.new.examined) c.args.comparisons.now c.loop-done.comparisons c.examine_pair.new.comparisons
+    grows_with d _ _ e.pass (account_of c.args.examined.now) (account_of c.loop-done.examined) (account_of c.examine_pair.new.examined)
     inv.counted (λ os given. pair_given d os old.pairs (map two_of here) (two_of pair) inv.examined.1.1.1.1.within (index_of (map two_of here) c.loop-done.done (two_of pair) two.0 two.1) given) c.in_err-examine_pair.ensures.counted
 
 pub loop-done-preserved : goal.loop-done-preserved
@@ -63,10 +63,10 @@ loop-done-preserved c =
     let within : c.loop-done.done < length here = omega (arith, c.len.ensures, c.loop-done-test.true) in
     let two = two_at here c.loop-done.done pair within c.index-pair.ensures in
     let step = pairs_step e.pass (schema_of e) d c.loop-done.done old (kept_of c.loop-done.examined) (kept_of c.examine_pair.new.examined)
-    (brokens_of c.args.breaches.now) (brokens_of c.loop-done.breaches) (brokens_of c.examine_pair.new.breaches) (sets_in c.args.next.now) (sets_in c.loop-done.next) (sets_in c.examine_pair.new.next) (two_of pair) two.0 two.1 inv.examined c.in_ok-examine_pair.ensures.examined in
+    (brokens_of c.args.breaches.now) (brokens_of c.loop-done.breaches) (brokens_of c.examine_pair.new.breaches) (sets_in c.args.examined.now.next) (sets_in c.loop-done.examined.next) (sets_in c.examine_pair.new.examined.next) (two_of pair) two.0 two.1 inv.examined c.in_ok-examine_pair.ensures.examined in
     record {
       examined = step;
-      counted = grows_with d _ _ e.pass (remembered c.args.examined.now) (remembered c.loop-done.examined) (remembered c.examine_pair.new.examined) c.args.comparisons.now c.loop-done.comparisons c.examine_pair.new.comparisons
+      counted = grows_with d _ _ e.pass (account_of c.args.examined.now) (account_of c.loop-done.examined) (account_of c.examine_pair.new.examined)
           inv.counted (λ os given. pair_given d os old.pairs (map two_of here) (two_of pair) inv.examined.1.1.1.1.within (index_of (map two_of here) c.loop-done.done (two_of pair) two.0 two.1) given) c.in_ok-examine_pair.ensures.counted;
       within = longer (map two_of here) (map two_of c.examine_pair.new.examined.pairs.items) c.in_ok-examine_pair.ensures.examined.1.1.1.1.pairs c.in_ok-examine_pair.ensures.examined.1.1.1.1.is_pairs here c.examine_pair.new.examined.pairs.items refl refl c.loop-done.done within;
     }

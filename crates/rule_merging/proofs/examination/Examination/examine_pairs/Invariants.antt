@@ -6,8 +6,8 @@ use Rattle.rule_merging.proofs.examination.Examination.examine_pairs.Given as go
 
 abbrev pub invariant-loop-done : goal.invariant-loop-done
 invariant-loop-done l = record {
-  examined : ExaminesFirst l.self l.done (kept_of l.fn.examined) (kept_of l.examined) l.fn.breaches l.breaches (sets_in l.fn.next) (sets_in l.next);
-  counted : GrowsHere l.self l.fn.examined l.examined l.fn.comparisons l.comparisons;
+  examined : ExaminesFirst l.self l.done (kept_of l.fn.examined) (kept_of l.examined) l.fn.breaches l.breaches (sets_in l.fn.examined.next) (sets_in l.examined.next);
+  counted : GrowsHere l.self l.fn.examined l.examined;
   within : l.done ≤ length l.examined.pairs.items;
 }
 

@@ -1,4 +1,4 @@
-use Rattle.std.proofs.Common.{◌∷◌, [], List, Contains, subst}
+use Rattle.std.proofs.Common.{◌∷◌, [], List, Contains, ap, subst}
 use Rattle.std.proofs.lemmas.Result.{on_ok_weaker}
 use Rattle.graphql_names.specs.Placed.{Place}
 use Rattle.document_meaning.specs.MeantTree.{MeantOperation, MeantDocument}
@@ -6,8 +6,8 @@ use Rattle.rule_field_groups.specs.in_ground.Broken.{brokens_of}
 use Rattle.rule_field_groups.specs.Under.{sets_in}
 use Rattle.rule_field_groups.specs.Below.{meant_sets}
 use Rattle.rule_merging.specs.Counted.{AreListed}
-use Rattle.rule_merging.specs.Remembered.{Kept, remembered, kept_of}
-use Rattle.rule_merging.specs.Examined.{Sets, schema_of, document_of}
+use Rattle.rule_merging.specs.Remembered.{Kept, Beside, account_of, kept_of}
+use Rattle.rule_merging.specs.Examined.{Sets, schema_of, document_of, ExaminesPairs}
 use Rattle.rule_merging.specs.Pairs.{LooksAtTwos}
 use Rattle.rule_merging.proofs.PairStep.{twos_told}
 use Rattle.rule_merging.proofs.Counting.{grows_same, grows_with, part_listed}
@@ -20,14 +20,16 @@ pairs_listed d os sets old mid (twos, (are, looks)) listed =
 
 pub returns-in_err-look_at_twos-clause-counted : goal.returns-in_err-look_at_twos-clause-counted
 returns-in_err-look_at_twos-clause-counted c =
-    grows_same (document_of c.args.self.now) _ c.args.self.now.pass (remembered c.args.examined.now) (remembered c.look_at_twos.new.self) c.args.comparisons.now c.in_err-look_at_twos.ensures.lists
+    grows_same (document_of c.args.self.now) _ c.args.self.now.pass (account_of c.args.examined.now) (account_of c.look_at_twos.new.self) (ap (λ (b : Beside). b.account) c.in_err-look_at_twos.ensures.beside)
 
 pub returns-clause-examined : goal.returns-clause-examined
 returns-clause-examined c =
     let e = c.args.self.now in
     on_ok_weaker c.examine_pairs.result
     (λ h. twos_told e.pass (schema_of e) (document_of e) (meant_sets c.args.sets.now) (kept_of c.args.examined.now) (kept_of c.look_at_twos.new.self) (kept_of c.examine_pairs.new.examined)
-    (brokens_of c.args.breaches.now) (brokens_of c.examine_pairs.new.breaches) (sets_in c.args.next.now) (sets_in c.examine_pairs.new.next) c.in_ok-look_at_twos.ensures.looks h)
+    (brokens_of c.args.breaches.now) (brokens_of c.examine_pairs.new.breaches) (sets_in c.args.examined.now.next) (sets_in c.examine_pairs.new.examined.next) c.in_ok-look_at_twos.ensures.looks
+    (subst (λ n. ExaminesPairs e (kept_of c.look_at_twos.new.self) (kept_of c.examine_pairs.new.examined) c.args.breaches.now c.examine_pairs.new.breaches n (sets_in c.examine_pairs.new.examined.next))
+    (ap (λ (b : Beside). b.next) c.in_ok-look_at_twos.ensures.beside) h))
     c.examine_pairs.ensures.examined
 
 pub returns-clause-counted : goal.returns-clause-counted
@@ -37,6 +39,6 @@ returns-clause-counted c =
     let sets = meant_sets c.args.sets.now in
     let mid = kept_of c.look_at_twos.new.self in
     grows_with d (λ os. AreListed d os (sets ∷ [])) (λ os. AreListed d os mid.pairs) e.pass
-    (remembered c.args.examined.now) (remembered c.look_at_twos.new.self) (remembered c.examine_pairs.new.examined) c.args.comparisons.now c.args.comparisons.now c.examine_pairs.new.comparisons
-    (grows_same d (λ os. AreListed d os (sets ∷ [])) e.pass (remembered c.args.examined.now) (remembered c.look_at_twos.new.self) c.args.comparisons.now c.in_ok-look_at_twos.ensures.lists)
+    (account_of c.args.examined.now) (account_of c.look_at_twos.new.self) (account_of c.examine_pairs.new.examined)
+    (grows_same d (λ os. AreListed d os (sets ∷ [])) e.pass (account_of c.args.examined.now) (account_of c.look_at_twos.new.self) (ap (λ (b : Beside). b.account) c.in_ok-look_at_twos.ensures.beside))
     (λ os. pairs_listed d os sets (kept_of c.args.examined.now) mid c.in_ok-look_at_twos.ensures.looks) c.examine_pairs.ensures.counted

@@ -6,6 +6,6 @@ use Rattle.rule_merging.proofs.examination.Examination.examine_with_each.Given a
 
 abbrev pub invariant-loop-other : goal.invariant-loop-other
 invariant-loop-other l = record {
-  examined : PairsFields l.self (are_of (l.one ∷ []) (take l.other-index l.others)) (kept_of l.fn.examined) (kept_of l.examined) l.fn.breaches l.breaches (sets_in l.fn.next) (sets_in l.next);
-  counted : GrowsByTwo l.self (are_of (l.one ∷ []) l.others) l.fn.examined l.examined l.fn.comparisons l.comparisons;
+  examined : PairsFields l.self (are_of (l.one ∷ []) (take l.other-index l.others)) (kept_of l.fn.examined) (kept_of l.examined) l.fn.breaches l.breaches (sets_in l.fn.examined.next) (sets_in l.examined.next);
+  counted : GrowsByTwo l.self (are_of (l.one ∷ []) l.others) l.fn.examined l.examined;
 }

@@ -13,10 +13,10 @@ use Rattle.rule_merging.proofs.Looking.{looks_none, looks_both}
 use Rattle.rule_merging.proofs.remembered.Remembered.look_at_each.Goals as goal
 
 pub loop-set-init : goal.loop-set-init
-loop-set-init c = record { looks = looks_none (kept_of c.args.self.now); lists = refl }
+loop-set-init c = record { looks = looks_none (kept_of c.args.self.now); beside = refl }
 
-pub returns-in_err-look_at_pair-clause-lists : goal.returns-in_err-look_at_pair-clause-lists
-returns-in_err-look_at_pair-clause-lists c = c.in_err-look_at_pair.ensures.lists ∙ c.loop-set.invariant.lists
+pub returns-in_err-look_at_pair-clause-beside : goal.returns-in_err-look_at_pair-clause-beside
+returns-in_err-look_at_pair-clause-beside c = c.in_err-look_at_pair.ensures.beside ∙ c.loop-set.invariant.beside
 
 pub loop-set-preserved : goal.loop-set-preserved
 loop-set-preserved c =
@@ -32,12 +32,12 @@ loop-set-preserved c =
       looks = subst (λ l. Looks l (kept_of c.args.self.now) (kept_of c.look_at_pair.new.self)) (sym front)
           (looks_both (each_with (meant_spread (take i xs)) v) ((meant x ∷ v ∷ []) ∷ []) (kept_of c.args.self.now) (kept_of c.loop-set.self) (kept_of c.look_at_pair.new.self)
           c.loop-set.invariant.looks c.in_ok-look_at_pair.ensures.looks);
-      lists = c.in_ok-look_at_pair.ensures.lists ∙ c.loop-set.invariant.lists;
+      beside = c.in_ok-look_at_pair.ensures.beside ∙ c.loop-set.invariant.beside;
     }
 
 pub returns-clause-looks : goal.returns-clause-looks
 returns-clause-looks c =
     subst (λ l. Looks (each_with (meant_spread l) (meant_at c.args.other)) (kept_of c.args.self.now) (kept_of c.loop-set.self)) (take_all c.loop-set.set-index c.args.sets.now c.loop-set-test.false) c.loop-set.invariant.looks
 
-pub returns-clause-lists : goal.returns-clause-lists
-returns-clause-lists c = c.loop-set.invariant.lists
+pub returns-clause-beside : goal.returns-clause-beside
+returns-clause-beside c = c.loop-set.invariant.beside

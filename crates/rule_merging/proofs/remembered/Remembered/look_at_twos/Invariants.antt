@@ -1,6 +1,6 @@
 use Rattle.std.proofs.Common.{◌≡◌, take}
 use Rattle.rule_field_groups.specs.Below.{meant_sets}
-use Rattle.rule_merging.specs.Remembered.{remembered, kept_of}
+use Rattle.rule_merging.specs.Remembered.{kept_of, beside_of}
 use Rattle.rule_merging.specs.Pairs.{LooksAtTwos}
 use Rattle.rule_merging.proofs.remembered.Remembered.look_at_twos.Given as goal
 
@@ -8,5 +8,5 @@ abbrev pub invariant-loop-set : goal.invariant-loop-set
 invariant-loop-set l = record {
   seen : l.seen.items ≡ take l.set-index l.sets;
   looks : LooksAtTwos (meant_sets (take l.set-index l.sets)) (kept_of l.fn.self) (kept_of l.self);
-  lists : remembered l.self ≡ remembered l.fn.self;
+  beside : beside_of l.self ≡ beside_of l.fn.self;
 }

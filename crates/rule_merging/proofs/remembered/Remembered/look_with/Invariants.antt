@@ -1,11 +1,11 @@
 use Rattle.std.proofs.Common.{◌≡◌, take}
 use Rattle.rule_field_groups.specs.Below.{meant_at, meant_sets}
-use Rattle.rule_merging.specs.Remembered.{remembered, kept_of}
+use Rattle.rule_merging.specs.Remembered.{kept_of, beside_of}
 use Rattle.rule_merging.specs.Pairs.{Looks, each_with}
 use Rattle.rule_merging.proofs.remembered.Remembered.look_with.Given as goal
 
 abbrev pub invariant-loop-set : goal.invariant-loop-set
 invariant-loop-set l = record {
   looks : Looks (each_with (meant_sets (take l.set-index l.sets)) (meant_at l.last)) (kept_of l.fn.self) (kept_of l.self);
-  lists : remembered l.self ≡ remembered l.fn.self;
+  beside : beside_of l.self ≡ beside_of l.fn.self;
 }
