@@ -37,18 +37,25 @@ fn faults_of(refusal: &Refusal) -> Result<&DiagnosticList, Stop> {
     }
 }
 
+/// The schema that documents are checked over, and how faults are told.
+#[derive(Clone, Copy)]
+struct Checking<'a> {
+    schema: &'a CheckedSchema,
+    telling: &'a Telling<'a>,
+}
+
 /// The report of a refused document.
 fn report_of(
     alloc: Global,
-    telling: &Telling<'_>,
-    schema: &CheckedSchema,
+    checking: &Checking<'_>,
     path: &str,
     text: &str,
     refusal: &Refusal,
 ) -> Result<Report, Stop> {
     let faults = faults_of(refusal)?;
-    let schemas = telling.schemas;
-    let report = Report::of_document(alloc, faults, schemas, schema.schema(), path, text)?;
+    let schemas = checking.telling.schemas;
+    let schema = checking.schema.schema();
+    let report = Report::of_document(alloc, faults, schemas, schema, path, text)?;
     Ok(report)
 }
 
@@ -67,21 +74,21 @@ fn tell_schema(
 /// Checks the document in a file, and tells its faults.
 fn check_document(
     rt: &HostRuntime,
-    telling: &Telling<'_>,
-    schema: &CheckedSchema,
+    checking: &Checking<'_>,
     path: &str,
     tally: &mut Tally,
 ) -> Result<(), Stop> {
     let Some(text) = read_document(rt, path, tally)? else {
         return Ok(());
     };
-    match schema.check(&text) {
+    let telling = checking.telling;
+    match checking.schema.check(&text) {
         Ok(_) => {
             tally.add_accepted();
             Ok(())
         }
         Err(refusal) => {
-            let report = report_of(rt.alloc(), telling, schema, path, &text, &refusal)?;
+            let report = report_of(rt.alloc(), checking, path, &text, &refusal)?;
             telling.tell_document(rt, report.entries(), tally)
         }
     }
@@ -90,15 +97,15 @@ fn check_document(
 /// Checks the documents that are asked for, each by itself.
 fn check_documents(
     rt: &HostRuntime,
-    telling: &Telling<'_>,
-    schema: &CheckedSchema,
+    checking: &Checking<'_>,
     tally: &mut Tally,
 ) -> Result<(), Stop> {
-    for path in &telling.settings.documents {
-        check_document(rt, telling, schema, path, tally)?;
+    let settings = checking.telling.settings;
+    for path in &settings.documents {
+        check_document(rt, checking, path, tally)?;
     }
-    if telling.settings.batch {
-        check_batch(rt, telling, schema, tally)?;
+    if settings.batch {
+        check_batch(rt, checking, tally)?;
     }
     Ok(())
 }
@@ -113,7 +120,13 @@ fn check(rt: &HostRuntime, settings: &Settings, tally: &mut Tally) -> Result<(),
         schemas: &sources,
     };
     match schema_of(rt.alloc(), &texts, settings.nesting) {
-        Ok(schema) => check_documents(rt, &telling, &schema, tally),
+        Ok(schema) => {
+            let checking = Checking {
+                schema: &schema,
+                telling: &telling,
+            };
+            check_documents(rt, &checking, tally)
+        }
         Err(refusal) => tell_schema(rt, &telling, &refusal, tally),
     }
 }

@@ -11,30 +11,31 @@ use tree_definitions::Document;
 /// The layouts, by their words.
 const LAYOUTS: [&str; 4] = ["line", "two", "four", "tab"];
 
-/// Judges the row: each of its inputs, under each layout. On one line it is to print the row's `flat`, or itself where
-/// there is none.
+/// Judges the row: each of its inputs, under each layout.
 pub(crate) fn by_layouts(alloc: Global, case: Case<'_>, tally: &mut Tally) -> Result<(), Problem> {
     for input in &case.given.inputs {
-        let flat = case.given.flat.first().unwrap_or(input);
         for layout in &LAYOUTS {
-            by_layout(alloc, case, layout, flat, input, tally)?;
+            by_layout(alloc, case, layout, input, tally)?;
         }
     }
     Ok(())
 }
 
-/// Judges the input under a layout. The row tells what is printed on one line and under two spaces.
+/// Judges the input under a layout. On one line it is to print the row's `flat`, or itself where there is none; under two
+/// spaces what the row wants.
 fn by_layout(
     alloc: Global,
     case: Case<'_>,
     layout: &str,
-    flat: &[u8],
     input: &[u8],
     tally: &mut Tally,
 ) -> Result<(), Problem> {
     push_answer(alloc, text_of(case, input)?, layout, &mut tally.answer);
     let out = match layout {
-        "line" => flat,
+        "line" => match case.given.flat.first() {
+            Some(flat) => flat.as_slice(),
+            None => input,
+        },
         "two" => case.out,
         _ => {
             tally.answer.text.clear();

@@ -15,10 +15,12 @@ pub(crate) fn push_new_field(
     input: &[u8],
     answer: &mut Answer,
 ) -> Result<(), Problem> {
-    let name = text_of(case, input)?;
+    let text = text_of(case, input)?;
     let parent = name_of(alloc, case, case.row.needed("type")?.value)?;
+    let name = name_of(alloc, case, text)?;
     let set = SelectionSet::new(alloc, parent);
-    push_by_set(alloc, case, schema, &set, name, answer)
+    push_made(schema, set.new_field(alloc, schema, name), answer);
+    Ok(())
 }
 
 /// The name that the text is.
@@ -27,20 +29,6 @@ fn name_of(alloc: Global, case: Case<'_>, text: &str) -> Result<Name, Problem> {
         Ok(name) => Ok(name),
         Err(_) => Err(case.row.head.problem("a type or an input is no name")),
     }
-}
-
-/// Adds the field that the set makes of the name.
-fn push_by_set(
-    alloc: Global,
-    case: Case<'_>,
-    schema: &Schema,
-    set: &SelectionSet,
-    name: &str,
-    answer: &mut Answer,
-) -> Result<(), Problem> {
-    let name = name_of(alloc, case, name)?;
-    push_made(schema, set.new_field(alloc, schema, name), answer);
-    Ok(())
 }
 
 /// Adds the field, or why it is not made.

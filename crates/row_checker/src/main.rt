@@ -11,19 +11,22 @@ use row_texts::{Asked, Checks, Texts, Told, judge_texts};
 use std::alloc::Global;
 use std::process::ExitCode;
 
-/// The calls of the checker.
-struct Checking;
+/// The calls of the checker, and where memory comes from.
+#[derive(Clone, Copy)]
+struct Checking {
+    alloc: Global,
+}
 
 impl Checks for Checking {
-    fn check_texts(&self, alloc: Global, texts: Texts<'_>) -> Result<Verdict, CheckError> {
+    fn check_texts(&self, texts: Texts<'_>) -> Result<Verdict, CheckError> {
         let limits = Limits {
             nesting: texts.asked.nesting,
         };
-        check_texts(alloc, texts.schemas, texts.document, limits)
+        check_texts(self.alloc, texts.schemas, texts.document, limits)
     }
 
-    fn judge(&self, alloc: Global, texts: Texts<'_>, told: &mut Told) {
-        match schema_of(alloc, texts.schemas, texts.asked) {
+    fn judge(&self, texts: Texts<'_>, told: &mut Told) {
+        match schema_of(self.alloc, texts.schemas, texts.asked) {
             Ok(schema) => push_around(&schema, texts, told),
             Err(refusal) => told.refuse(&refusal),
         }
@@ -31,7 +34,6 @@ impl Checks for Checking {
 
     fn run(
         &self,
-        alloc: Global,
         schemas: &mut [Device<Cut<&[u8]>>],
         document: &mut Device<Cut<&[u8]>>,
         asked: Asked,
@@ -40,10 +42,11 @@ impl Checks for Checking {
         let limits = Limits {
             nesting: asked.nesting,
         };
-        run(alloc, schemas, document, limits, asked.layout, out)
+        run(self.alloc, schemas, document, limits, asked.layout, out)
     }
 }
 
 fn main(rt: HostRuntime) -> ExitCode {
-    judge_texts(&rt, &Checking)
+    let checking = Checking { alloc: rt.alloc() };
+    judge_texts(&rt, &checking)
 }

@@ -5,6 +5,7 @@ use graphql_names::{FileId, SourceSpan};
 use graphql_schema::{BuildError, BuilderRefusal, Extensions, Schema, SchemaBuilder};
 use row_files::{Answer, Case, Lines, Problem, number, says};
 use std::alloc::Global;
+use tree_definitions::Document;
 
 /// A schema, and the faults of its texts.
 pub struct Built {
@@ -80,7 +81,8 @@ fn add_texts(
 ) -> Result<(), Problem> {
     let mut file = 1;
     for text in &case.given.schemas {
-        add_text(alloc, case, text, FileId(file), builder, &mut answer.status)?;
+        let given = document_of(alloc, case, text, FileId(file))?;
+        add_document(&given.document, builder, &mut answer.status);
         file = file.wrapping_add(1);
     }
     if case.call == "orphans" {
@@ -89,20 +91,11 @@ fn add_texts(
     Ok(())
 }
 
-/// Adds a schema text. Where the builder refuses it, the status tells why.
-fn add_text(
-    alloc: Global,
-    case: Case<'_>,
-    text: &[u8],
-    file: FileId,
-    builder: &mut SchemaBuilder,
-    status: &mut Lines,
-) -> Result<(), Problem> {
-    let given = document_of(alloc, case, text, file)?;
-    if let Err(refusal) = builder.add_ast(&given.document) {
+/// Adds a document of schema text. Where the builder refuses it, the status tells why.
+fn add_document(document: &Document, builder: &mut SchemaBuilder, status: &mut Lines) {
+    if let Err(refusal) = builder.add_ast(document) {
         push_refusal(refusal, status);
     }
-    Ok(())
 }
 
 /// Tells why a builder refuses, where it is the first time.

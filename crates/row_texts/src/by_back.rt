@@ -2,6 +2,7 @@
 
 use crate::asked::Asked;
 use crate::checks::{Checks, Texts};
+use crate::judged::Judged;
 use crate::pair::Pair;
 use crate::told::Told;
 use row_files::{Case, Lines, Problem, Tally, Way, compare};
@@ -9,27 +10,23 @@ use std::alloc::Global;
 
 /// Judges what the pair is written as under each layout. The pair must be accepted.
 pub(crate) fn by_back<C: Checks>(
-    alloc: Global,
-    checks: &C,
-    case: Case<'_>,
+    judged: &Judged<'_, C>,
     way: Way<'_>,
     texts: Texts<'_>,
     tally: &mut Tally,
 ) -> Result<(), Problem> {
-    let mut told = Told::new(alloc, texts.asked);
-    checks.judge(alloc, texts, &mut told);
+    let mut told = Told::new(judged.alloc, texts.asked);
+    judged.checks.judge(texts, &mut told);
     if told.is_written() {
-        from_each(alloc, checks, case, way, texts.asked, &told.pairs, tally)
+        from_each(judged, way, texts.asked, &told.pairs, tally)
     } else {
-        told.compare(case, way, tally)
+        told.compare(judged.case, way, tally)
     }
 }
 
 /// Judges each of the written pairs.
 fn from_each<C: Checks>(
-    alloc: Global,
-    checks: &C,
-    case: Case<'_>,
+    judged: &Judged<'_, C>,
     way: Way<'_>,
     asked: Asked,
     pairs: &[Pair],
@@ -48,58 +45,55 @@ fn from_each<C: Checks>(
             document: from.document.as_bytes(),
             ..way
         };
-        back_from(alloc, checks, case, way, texts, pairs, tally)?;
+        back_from(judged, way, texts, pairs, tally)?;
     }
     Ok(())
 }
 
 /// Judges a written pair: it is accepted, and is written again as all of them.
 fn back_from<C: Checks>(
-    alloc: Global,
-    checks: &C,
-    case: Case<'_>,
+    judged: &Judged<'_, C>,
     way: Way<'_>,
     texts: Texts<'_>,
     pairs: &[Pair],
     tally: &mut Tally,
 ) -> Result<(), Problem> {
-    let mut told = Told::new(alloc, texts.asked);
-    checks.judge(alloc, texts, &mut told);
+    let mut told = Told::new(judged.alloc, texts.asked);
+    judged.checks.judge(texts, &mut told);
     if told.is_written() {
-        compare_each(alloc, case, way, pairs, &told.pairs, tally)
+        compare_each(judged, way, pairs, &told.pairs, tally)
     } else {
-        told.compare(case, way, tally)
+        told.compare(judged.case, way, tally)
     }
 }
 
 /// Compares each of the pairs that were written again with the first of its layout.
-fn compare_each(
-    alloc: Global,
-    case: Case<'_>,
+fn compare_each<C: Checks>(
+    judged: &Judged<'_, C>,
     way: Way<'_>,
     firsts: &[Pair],
     again: &[Pair],
     tally: &mut Tally,
 ) -> Result<(), Problem> {
     for (first, pair) in firsts.iter().zip(again) {
-        compare_pair(alloc, case, way, first, pair, tally)?;
+        compare_pair(judged, way, first, pair, tally)?;
     }
     Ok(())
 }
 
 /// Compares a pair with the first of its layout: the answer that is wanted.
-fn compare_pair(
-    alloc: Global,
-    case: Case<'_>,
+fn compare_pair<C: Checks>(
+    judged: &Judged<'_, C>,
     way: Way<'_>,
     first: &Pair,
     pair: &Pair,
     tally: &mut Tally,
 ) -> Result<(), Problem> {
-    let mut out = Lines::new(alloc);
+    let mut out = Lines::new(judged.alloc);
     out.show_between(&first.schema, &"\n", &first.document);
     let out = out.as_str().as_bytes();
-    compare_written(alloc, Case { out, ..case }, way, pair, tally)
+    let wanted = Case { out, ..judged.case };
+    compare_written(judged.alloc, wanted, way, pair, tally)
 }
 
 /// Compares a pair that was written again with what is wanted.

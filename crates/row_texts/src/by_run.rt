@@ -3,29 +3,28 @@
 use crate::asked::{Asked, asked_of};
 use crate::checks::Checks;
 use crate::devices::{failed_reader, push_end, readers};
+use crate::judged::Judged;
 use row_files::{
     Answer, Case, Lines, Plan, Problem, Tally, Way, compare_cut, device, reader, says,
 };
-use std::alloc::{AllocError, Global};
+use std::alloc::AllocError;
 
 /// Judges the row by `run`, by each of its plans.
 pub(crate) fn by_run<C: Checks>(
-    alloc: Global,
-    checks: &C,
-    case: Case<'_>,
+    judged: &Judged<'_, C>,
     way: Way<'_>,
     tally: &mut Tally,
 ) -> Result<(), Problem> {
-    let is_each = says(case.row, "read", "each")?;
-    for plan in &case.given.plans {
+    let is_each = says(judged.case.row, "read", "each")?;
+    for plan in &judged.case.given.plans {
         let way = Way {
             call: "run",
             plan: *plan,
             ..way
         };
-        by_plan(alloc, checks, case, way, tally)?;
-        if is_each && plan.write == case.out.len() {
-            readers_end(alloc, checks, case, way, tally)?;
+        by_plan(judged, way, tally)?;
+        if is_each && plan.write == judged.case.out.len() {
+            readers_end(judged, way, tally)?;
         }
     }
     Ok(())
@@ -33,13 +32,11 @@ pub(crate) fn by_run<C: Checks>(
 
 /// The reader of each text ends after each number of bytes, and at its end: nothing is out.
 fn readers_end<C: Checks>(
-    alloc: Global,
-    checks: &C,
-    case: Case<'_>,
+    judged: &Judged<'_, C>,
     way: Way<'_>,
     tally: &mut Tally,
 ) -> Result<(), Problem> {
-    let schemas = case.given.schemas.as_slice();
+    let schemas = judged.case.given.schemas.as_slice();
     for text in 1..=schemas.len().saturating_add(1) {
         let bytes = match schemas.get(text.saturating_sub(1)) {
             Some(schema) => schema.len(),
@@ -52,7 +49,7 @@ fn readers_end<C: Checks>(
                 write: 0,
                 ..way.plan
             };
-            reader_ends(alloc, checks, case, Way { plan, ..way }, tally)?;
+            reader_ends(judged, Way { plan, ..way }, tally)?;
         }
     }
     Ok(())
@@ -60,51 +57,48 @@ fn readers_end<C: Checks>(
 
 /// The reader of the plan's text ends.
 fn reader_ends<C: Checks>(
-    alloc: Global,
-    checks: &C,
-    case: Case<'_>,
+    judged: &Judged<'_, C>,
     way: Way<'_>,
     tally: &mut Tally,
 ) -> Result<(), Problem> {
     let text = way.plan.text;
-    let mut status = Lines::new(alloc);
+    let mut status = Lines::new(judged.alloc);
     status.show_between("3 file ", &text, " cannot be read");
-    let wanted = Case {
+    let case = Case {
         status: status.as_str(),
         out: &[],
-        ..case
+        ..judged.case
     };
-    by_plan(alloc, checks, wanted, way, tally)
+    let wanted = Judged { case, ..*judged };
+    by_plan(&wanted, way, tally)
 }
 
 /// Judges the answer by the plan.
 fn by_plan<C: Checks>(
-    alloc: Global,
-    checks: &C,
-    case: Case<'_>,
+    judged: &Judged<'_, C>,
     way: Way<'_>,
     tally: &mut Tally,
 ) -> Result<(), Problem> {
-    let asked = asked_of(case, way)?;
-    let schemas = &case.given.schemas;
-    run_by(alloc, checks, schemas, way, asked, &mut tally.answer)?;
-    compare_cut(alloc, case, way, tally)
+    let asked = asked_of(judged.case, way)?;
+    run_by(judged, way, asked, &mut tally.answer)?;
+    compare_cut(judged.alloc, judged.case, way, tally)
 }
 
 /// Runs by the way's plan, and adds the output and the status of that.
 fn run_by<C: Checks>(
-    alloc: Global,
-    checks: &C,
-    schemas: &[Vec<u8>],
+    judged: &Judged<'_, C>,
     way: Way<'_>,
     asked: Asked,
     told: &mut Answer,
 ) -> Result<(), AllocError> {
     let plan = way.plan;
-    let mut document = reader(way.document, plan, schemas.len().saturating_add(1));
-    let mut schemas = readers(alloc, schemas, plan)?;
+    let texts = judged.case.given.schemas.as_slice();
+    let mut document = reader(way.document, plan, texts.len().saturating_add(1));
+    let mut schemas = readers(judged.alloc, texts, plan)?;
     let mut writer = device(&mut told.written, plan, plan.write);
-    let answer = checks.run(alloc, &mut schemas, &mut document, asked, &mut writer);
+    let answer = judged
+        .checks
+        .run(&mut schemas, &mut document, asked, &mut writer);
     let failed = (failed_reader(&schemas, document.failed()), writer.failed());
     push_end(answer, failed, &mut told.status);
     Ok(())

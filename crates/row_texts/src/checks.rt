@@ -8,7 +8,6 @@ use crate::asked::Asked;
 use crate::told::Told;
 use checker_answers::{CheckError, Outcome, RunFault, Verdict};
 use graphql_names::{Cut, Device};
-use std::alloc::Global;
 
 /// The texts that a call is given, and on which terms they are judged.
 #[derive(Clone, Copy)]
@@ -20,19 +19,18 @@ pub struct Texts<'a> {
     pub asked: Asked,
 }
 
-/// How a checker answers to texts.
+/// How a checker answers to texts. It has where memory comes from.
 pub trait Checks {
     /// The answer of `check_texts`.
-    fn check_texts(&self, alloc: Global, texts: Texts<'_>) -> Result<Verdict, CheckError>;
+    fn check_texts(&self, texts: Texts<'_>) -> Result<Verdict, CheckError>;
 
     /// Adds the answers of `Checker::new`, `add_schema`, `finish`, then of `check` to each further document, while what it gives
     /// of the first document is kept, and last what that tells: both `written`, or what it lends.
-    fn judge(&self, alloc: Global, texts: Texts<'_>, told: &mut Told);
+    fn judge(&self, texts: Texts<'_>, told: &mut Told);
 
     /// The answer of `run`.
     fn run(
         &self,
-        alloc: Global,
         schemas: &mut [Device<Cut<&[u8]>>],
         document: &mut Device<Cut<&[u8]>>,
         asked: Asked,

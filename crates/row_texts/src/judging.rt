@@ -4,6 +4,7 @@ use crate::asked::{asked_of, names_of, push_texts};
 use crate::by_back::by_back;
 use crate::by_run::by_run;
 use crate::checks::{Checks, Texts};
+use crate::judged::Judged;
 use crate::told::Told;
 use crate::words::push_verdict;
 use row_files::{Calls, Case, Problem, Tally, Way, compare, judge_files, text_of};
@@ -27,22 +28,22 @@ impl<C: Checks> Calls for Checking<'_, C> {
     }
 
     fn judge(&self, alloc: Global, case: Case<'_>, tally: &mut Tally) -> Result<(), Problem> {
-        by_texts(alloc, self.checks, case, tally)
+        let judged = Judged {
+            alloc,
+            checks: self.checks,
+            case,
+        };
+        by_texts(&judged, tally)
     }
 }
 
 /// Judges the row under each of its limits.
-fn by_texts<C: Checks>(
-    alloc: Global,
-    checks: &C,
-    case: Case<'_>,
-    tally: &mut Tally,
-) -> Result<(), Problem> {
-    for nesting in &case.given.limits {
-        if case.call == "series" {
-            by_series(alloc, checks, case, *nesting, tally)?;
+fn by_texts<C: Checks>(judged: &Judged<'_, C>, tally: &mut Tally) -> Result<(), Problem> {
+    for nesting in &judged.case.given.limits {
+        if judged.case.call == "series" {
+            by_series(judged, *nesting, tally)?;
         } else {
-            by_documents(alloc, checks, case, *nesting, tally)?;
+            by_documents(judged, *nesting, tally)?;
         }
     }
     Ok(())
@@ -50,158 +51,140 @@ fn by_texts<C: Checks>(
 
 /// Judges the answers of one schema to the row's documents.
 fn by_series<C: Checks>(
-    alloc: Global,
-    checks: &C,
-    case: Case<'_>,
+    judged: &Judged<'_, C>,
     nesting: usize,
     tally: &mut Tally,
 ) -> Result<(), Problem> {
-    let mut schemas = Vec::new(alloc);
-    push_texts(case, &case.given.schemas, &mut schemas)?;
-    let mut documents = Vec::new(alloc);
-    push_texts(case, &case.given.documents, &mut documents)?;
-    by_listed(alloc, checks, case, nesting, &schemas, &documents, tally)
+    let mut schemas = Vec::new(judged.alloc);
+    push_texts(judged.case, &judged.case.given.schemas, &mut schemas)?;
+    let mut documents = Vec::new(judged.alloc);
+    push_texts(judged.case, &judged.case.given.documents, &mut documents)?;
+    by_listed(judged, nesting, &schemas, &documents, tally)
 }
 
 /// Judges the answers of the schema of these texts to these documents.
 fn by_listed<C: Checks>(
-    alloc: Global,
-    checks: &C,
-    case: Case<'_>,
+    judged: &Judged<'_, C>,
     nesting: usize,
     schemas: &[&str],
     documents: &[&str],
     tally: &mut Tally,
 ) -> Result<(), Problem> {
     let Some(document) = documents.first() else {
-        return Err(case.row.head.problem("a series has documents"));
+        return Err(judged.case.row.head.problem("a series has documents"));
     };
-    let way = Way::whole(case.call, &[], nesting);
+    let way = Way::whole(judged.case.call, &[], nesting);
     let texts = Texts {
         schemas,
         document,
         behind: documents,
-        asked: asked_of(case, way)?,
+        asked: asked_of(judged.case, way)?,
     };
-    by_judge(alloc, checks, case, way, texts, tally)
+    by_judge(judged, way, texts, tally)
 }
 
 /// Judges the row: each of its documents over its schema texts.
 fn by_documents<C: Checks>(
-    alloc: Global,
-    checks: &C,
-    case: Case<'_>,
+    judged: &Judged<'_, C>,
     nesting: usize,
     tally: &mut Tally,
 ) -> Result<(), Problem> {
-    for document in &case.given.documents {
-        let way = Way::whole(case.call, document, nesting);
-        by_call(alloc, checks, case, way, tally)?;
+    for document in &judged.case.given.documents {
+        let way = Way::whole(judged.case.call, document, nesting);
+        by_call(judged, way, tally)?;
     }
     Ok(())
 }
 
 /// Judges the answer of each call that the row is for.
 fn by_call<C: Checks>(
-    alloc: Global,
-    checks: &C,
-    case: Case<'_>,
+    judged: &Judged<'_, C>,
     way: Way<'_>,
     tally: &mut Tally,
 ) -> Result<(), Problem> {
-    match case.call {
-        "run" => by_run(alloc, checks, case, way, tally),
-        "all" => by_all(alloc, checks, case, way, tally),
+    match judged.case.call {
+        "run" => by_run(judged, way, tally),
+        "all" => by_all(judged, way, tally),
         "back" => {
-            judge_call(alloc, checks, case, call_before_back(case.out), way, tally)?;
-            judge_back(alloc, checks, case, way, tally)
+            judge_call(judged, call_before_back(judged.case.out), way, tally)?;
+            judge_back(judged, way, tally)
         }
-        _ => judge_call(alloc, checks, case, case.call, way, tally),
+        _ => judge_call(judged, judged.case.call, way, tally),
     }
 }
 
 /// Judges the answer of each call, and the road back.
 fn by_all<C: Checks>(
-    alloc: Global,
-    checks: &C,
-    case: Case<'_>,
+    judged: &Judged<'_, C>,
     way: Way<'_>,
     tally: &mut Tally,
 ) -> Result<(), Problem> {
-    by_run(alloc, checks, case, way, tally)?;
-    judge_call(alloc, checks, case, "calls", way, tally)?;
-    judge_call(alloc, checks, case, "check_texts", way, tally)?;
-    judge_back(alloc, checks, case, way, tally)
+    by_run(judged, way, tally)?;
+    judge_call(judged, "calls", way, tally)?;
+    judge_call(judged, "check_texts", way, tally)?;
+    judge_back(judged, way, tally)
 }
 
 /// Judges the texts by a call that takes them whole.
 fn judge_call<C: Checks>(
-    alloc: Global,
-    checks: &C,
-    case: Case<'_>,
+    judged: &Judged<'_, C>,
     call: &str,
     way: Way<'_>,
     tally: &mut Tally,
 ) -> Result<(), Problem> {
     let way = Way { call, ..way };
-    let document = text_of(case, way.document)?;
-    let asked = asked_of(case, way)?;
-    let mut schemas = Vec::new(alloc);
-    push_texts(case, &case.given.schemas, &mut schemas)?;
+    let document = text_of(judged.case, way.document)?;
+    let asked = asked_of(judged.case, way)?;
+    let mut schemas = Vec::new(judged.alloc);
+    push_texts(judged.case, &judged.case.given.schemas, &mut schemas)?;
     let texts = Texts {
         schemas: schemas.as_slice(),
         document,
         behind: &[],
         asked,
     };
-    by_whole(alloc, checks, case, way, texts, tally)
+    by_whole(judged, way, texts, tally)
 }
 
 /// Judges the answer of `check_texts`, the one call by call, or the road back. `check_texts` writes no texts: of those
 /// accepted the row's first line is wanted.
 fn by_whole<C: Checks>(
-    alloc: Global,
-    checks: &C,
-    case: Case<'_>,
+    judged: &Judged<'_, C>,
     way: Way<'_>,
     texts: Texts<'_>,
     tally: &mut Tally,
 ) -> Result<(), Problem> {
     match way.call {
-        "calls" | "lent" => by_judge(alloc, checks, case, way, texts, tally),
-        "back" => by_back(alloc, checks, case, way, texts, tally),
+        "calls" | "lent" => by_judge(judged, way, texts, tally),
+        "back" => by_back(judged, way, texts, tally),
         _ => {
-            push_verdict(&checks.check_texts(alloc, texts), &mut tally.answer);
-            let out = first_line(case.out);
-            compare(Case { out, ..case }, way, tally)
+            push_verdict(&judged.checks.check_texts(texts), &mut tally.answer);
+            let out = first_line(judged.case.out);
+            compare(Case { out, ..judged.case }, way, tally)
         }
     }
 }
 
 /// Judges the answer call by call.
 fn by_judge<C: Checks>(
-    alloc: Global,
-    checks: &C,
-    case: Case<'_>,
+    judged: &Judged<'_, C>,
     way: Way<'_>,
     texts: Texts<'_>,
     tally: &mut Tally,
 ) -> Result<(), Problem> {
-    let mut told = Told::new(alloc, texts.asked);
-    checks.judge(alloc, texts, &mut told);
-    told.compare(case, way, tally)
+    let mut told = Told::new(judged.alloc, texts.asked);
+    judged.checks.judge(texts, &mut told);
+    told.compare(judged.case, way, tally)
 }
 
 /// Judges the road back, where the row wants the pair accepted.
 fn judge_back<C: Checks>(
-    alloc: Global,
-    checks: &C,
-    case: Case<'_>,
+    judged: &Judged<'_, C>,
     way: Way<'_>,
     tally: &mut Tally,
 ) -> Result<(), Problem> {
-    if case.status == "0" {
-        judge_call(alloc, checks, case, "back", way, tally)
+    if judged.case.status == "0" {
+        judge_call(judged, "back", way, tally)
     } else {
         Ok(())
     }

@@ -12,6 +12,7 @@ mod by_back;
 mod by_run;
 mod checks;
 mod devices;
+mod judged;
 mod judging;
 mod lent;
 mod pair;
