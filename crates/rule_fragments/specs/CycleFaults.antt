@@ -1,12 +1,14 @@
 -- Private: leads to `Told`. The faults of one fragment that is used: its head is not one place alone, so they are said by a relation (section 5.5.2.2).
-use Rattle.std.specs.Prelude.{◌≡◌, ℕ, List, [], ◌∷◌, reverse, codes, slice_get, bytes_eq, Option, None, Some, option_and_then, if◌then◌else◌}
+use Rattle.std.specs.Prelude.{◌≡◌, ℕ, List, [], ◌∷◌, reverse, codes, slice_get, bytes_eq, Option, None, Some, option_and_then, if◌then◌else◌, Vec}
 use Rattle.std.specs.List.{list_any}
+use Rattle.std.specs.declared.alloc.Global.{Global}
 use Rattle.graphql_names.specs.Placed.{Place}
 use Rattle.graphql_names.specs.Places.{Recomposes}
 use Rattle.graphql_names.specs.declared.node.Node.{Node}
 use Rattle.schema_components.specs.Names.{Entries}
 use Rattle.document_typed_selections.specs.declared.selection.FragmentSpread.{FragmentSpread}
 use Rattle.document_meaning.specs.MeantTree.{MeantFragment}
+use Rattle.fault_data.specs.declared.fault.Fault.{Fault}
 use Rattle.rule_definitions.specs.Diagnostics.{RecursiveFragmentDefinition, DeeplyNestedType}
 use Rattle.rule_definitions.specs.Faults.{wrong}
 use Rattle.rule_definitions.specs.Told.{PlacedFault}
@@ -15,6 +17,7 @@ use Rattle.rule_cycles.specs.Labels.{along}
 use Rattle.rule_cycles.specs.Telling.{TellsFound, TellsRoots}
 use Rattle.rule_fragments.specs.SpreadNumbers.{Spread}
 use Rattle.rule_fragments.specs.SpreadViews.{spread_between}
+use Rattle.rule_fragments.specs.Telling.{AddsThese}
 use Rattle.rule_cycles.specs.declared.references.References.{References}
 
 -- the spreads along a path from the root, from the last to the first
@@ -28,6 +31,10 @@ IsRecursiveFault trace f x = (head : Place) × (Recomposes f.place f.name.place 
 -- x tells that the ways from the fragment are too long
 abbrev pub IsDeepFault : MeantFragment Place → PlacedFault → Type 0
 IsDeepFault f x = (head : Place) × (Recomposes f.place f.name.place head × (x ≡ wrong head (DeeplyNestedType f.name.it (codes "fragment"))))
+
+-- one fault is added, which says so of the fragment
+abbrev pub AddsOne : (MeantFragment Place → PlacedFault → Type 0) → MeantFragment Place → Vec Fault Global → Vec Fault Global → Type 0
+AddsOne Says f old new = (x : PlacedFault) × (Says f x × AddsThese old new (x ∷ []))
 
 -- l has one fault that says so of the fragment, nothing where there is none
 abbrev pub Tells : (MeantFragment Place → PlacedFault → Type 0) → Option (MeantFragment Place) → List PlacedFault → Type 0
@@ -50,6 +57,10 @@ module _ (r : References (Node FragmentSpread)) (o : ℕ → Option (MeantFragme
   -- the same of what was found of the root
   abbrev pub TellsFoundSpread : ℕ → Found → List PlacedFault → Type 0
   TellsFoundSpread root found l = TellsFound TellsRecursive TellsDeep root found l
+
+  -- what is added tells what was found of the root
+  abbrev pub AddsFound : ℕ → Found → Vec Fault Global → Vec Fault Global → Type 0
+  AddsFound root found old new = (l : List PlacedFault) × (TellsFoundSpread root found l × AddsThese old new l)
 
 -- what is told of all fragments that are used, in order
 abbrev pub TellsSpreads : References (Node FragmentSpread) → Entries (MeantFragment Place) → List (List ℕ) → List PlacedFault → List PlacedFault → Type 0

@@ -1,4 +1,5 @@
 use Rattle.std.proofs.Common.{ap, ◌∙◌}
+use Rattle.std.proofs.lemmas.Result.{on_ok_weaker}
 use Rattle.graphql_names.specs.NameValue.{NameValue}
 use Rattle.document_typed_operations.specs.declared.operation.Fragment.{Fragment}
 use Rattle.rule_definitions.specs.Diagnostics.{RecursiveFragmentDefinition}
@@ -8,4 +9,6 @@ use Rattle.rule_fragments.proofs.cycle_faults.recursive_fragment_definition.Goal
 pub returns : goal.returns
 returns c =
     let text = ap (λ (n : NameValue). n.text) c.in_ok-name.ensures.same ∙ ap (λ (f : Fragment). f.name.text) c.content.ensures in
-    (c.head.result, (c.head.ensures, λ i. wrong (c.location.ensures i) (RecursiveFragmentDefinition c.head.result (text i) (c.in_ok-trace.ensures i))))
+    on_ok_weaker c.tell.result
+    (λ told. (_, ((c.head.result, (c.head.ensures, λ i. wrong (c.location.ensures i) (RecursiveFragmentDefinition c.head.result (text i) (c.in_ok-trace.ensures i)))), told)))
+    c.tell.ensures.told
