@@ -83,13 +83,13 @@ fn in_operation(
     ensures { IfOk result (λ related. string_bytes related.words ≡ operation_words name.now.text) }
 {
     let place = name.location();
-    let path = String::from_str(alloc, path_at(sources, path, place))?;
+    let path = path_at(sources, path, place);
+    let path = String::from_str(alloc, path)?;
     let start = match place_at(sources, place) {
         None => None,
         Some(place) => Some(place.start),
     };
-    let mut words = String::from_str(alloc, "in operation `")?;
-    words.push_str(name.as_str())?;
-    words.push_str("`")?;
+    let name = name.as_str();
+    let words = format!(in alloc; "in operation `{name}`")?;
     Ok(Related { path, start, words })
 }

@@ -1,11 +1,11 @@
 //! The places that the data of a fault have.
 
-ghost use Rattle.std.specs.Prelude.{◌≡◌, ◌++◌, map, IfOk, OnOk};
+ghost use Rattle.std.specs.Prelude.{◌≡◌, ◌++◌, ◌∷◌, [], map, IfOk, OnOk};
 ghost use Rattle.graphql_names.specs.Node.{place};
 ghost use Rattle.fault_data.specs.DiagnosticView.{diagnostic_of};
 ghost use Rattle.fault_document_data.specs.DocumentBreachView.{document_breach_of};
 ghost use Rattle.graphql_faults.specs.DetailsView.{details_of};
-ghost use Rattle.graphql_report.specs.ToldPlaces.{plain, first_of_data, more_of_data, first_of_document, first_of, more_of, places_of, extended, in_cycle};
+ghost use Rattle.graphql_report.specs.ToldPlaces.{plain, first_of_data, more_of_data, first_of_document, places_of, extended, in_cycle};
 
 use fault_data::DiagnosticData;
 use fault_document_data::BuildError;
@@ -19,54 +19,62 @@ use std::alloc::{AllocError, Global};
 pub(crate) fn places_of(alloc: Global, details: &Details) -> Result<Vec<Noted>, AllocError>
     ensures { IfOk result (λ noted. map plain noted.items ≡ places_of (details_of details.now)) }
 {
-    let mut noted = vec![in alloc; first_of(details)]?;
-    push_more(&mut noted, details)?;
+    let mut noted = Vec::new(alloc);
+    push_places(&mut noted, details)?;
     Ok(noted)
 }
 
-/// A place, with words.
-fn noted(place: Option<SourceSpan>, words: &'static str) -> Noted
-    ensures { plain result ≡ (place, words.now) }
-{
-    Noted { place, words }
-}
-
-/// The first place.
-fn first_of(details: &Details) -> Noted
-    ensures { plain result ≡ first_of (details_of details.now) }
+/// Adds the places.
+fn push_places(all: &mut Vec<Noted>, details: &Details) -> Result<(), AllocError>
+    ensures { OnOk result (map plain all.new.items ≡ map plain all.old.items ++ places_of (details_of details.now)) }
 {
     match details {
-        Details::Data(diagnostic) => first_of_data(diagnostic),
-        Details::DocumentBuild(error) => first_of_document(error),
+        Details::Data(diagnostic) => push_of_data(all, diagnostic),
+        Details::DocumentBuild(error) => push_of_document(all, error),
         Details::Syntax(_)
         | Details::Nesting
         | Details::Spent
         | Details::SchemaBuild(_)
-        | Details::RecursionLimitError => noted(None, ""),
+        | Details::RecursionLimitError => push(all, None, ""),
     }
 }
 
-/// The first place of a fault of typing, merging, subscriptions or `@defer`.
-fn first_of_document(error: &BuildError) -> Noted
-    ensures { plain result ≡ first_of_document (document_breach_of error.now) }
+/// Adds a place, with words.
+fn push(
+    all: &mut Vec<Noted>,
+    place: Option<SourceSpan>,
+    words: &'static str,
+) -> Result<(), AllocError>
+    ensures { OnOk result (map plain all.new.items ≡ map plain all.old.items ++ (place, words.now) ∷ []) }
+{
+    all.push(Noted { place, words })?;
+    Ok(())
+}
+
+/// Adds the place of a fault of typing, merging, subscriptions or `@defer`.
+fn push_of_document(all: &mut Vec<Noted>, error: &BuildError) -> Result<(), AllocError>
+    ensures { OnOk result (map plain all.new.items ≡ map plain all.old.items ++ first_of_document (document_breach_of error.now) ∷ []) }
 {
     match error {
-        BuildError::ConflictingFieldName(conflict) => noted(
+        BuildError::ConflictingFieldName(conflict) => push(
+            all,
             conflict.original_location,
             "the other field",
         ),
-        BuildError::ConflictingFieldArgument(conflict) => noted(
+        BuildError::ConflictingFieldArgument(conflict) => push(
+            all,
             conflict.original_location,
             "the other field",
         ),
-        BuildError::ConflictingFieldType(conflict) => noted(
+        BuildError::ConflictingFieldType(conflict) => push(
+            all,
             conflict.original_location,
             "the other field",
         ),
         BuildError::DuplicateDeferLabel {
             original_location,
             ..
-        } => noted(*original_location, "first used here"),
+        } => push(all, *original_location, "first used here"),
         BuildError::TypeSystemDefinition
         | BuildError::AmbiguousAnonymousOperation
         | BuildError::OperationNameCollision { .. }
@@ -82,21 +90,22 @@ fn first_of_document(error: &BuildError) -> Noted
         | BuildError::SubscriptionUsesConditionalSelection { .. }
         | BuildError::DeferLabelMustNotBeVariable
         | BuildError::DeferOnRootMutationOrSubscriptionField { .. }
-        | BuildError::DeferInSubscriptionMustBeConditional => noted(None, ""),
+        | BuildError::DeferInSubscriptionMustBeConditional => push(all, None, ""),
     }
 }
 
-/// The first place of a fault of schemas, uses, values or documents.
-fn first_of_data(diagnostic: &DiagnosticData) -> Noted
-    ensures { plain result ≡ first_of_data (diagnostic_of diagnostic.now) }
+/// Adds the places of a fault of schemas, uses, values or documents.
+#[tactic(auto, using(crate::proofs::Cycles::inputs_in_cycle, crate::proofs::Cycles::directives_in_cycle, crate::proofs::Cycles::spreads_in_cycle))]
+fn push_of_data(all: &mut Vec<Noted>, diagnostic: &DiagnosticData) -> Result<(), AllocError>
+    ensures { OnOk result (map plain all.new.items ≡ map plain all.old.items ++ first_of_data (diagnostic_of diagnostic.now) ∷ more_of_data (diagnostic_of diagnostic.now)) }
 {
     match diagnostic {
         DiagnosticData::DuplicateRootOperationType {
             original_definition,
             ..
-        } => noted(*original_definition, "first named as a root here"),
+        } => push(all, *original_definition, "first named as a root here"),
         DiagnosticData::OutputType { type_location, .. }
-        | DiagnosticData::InputType { type_location, .. } => noted(*type_location, "the type"),
+        | DiagnosticData::InputType { type_location, .. } => push(all, *type_location, "the type"),
         DiagnosticData::UniqueInputValue {
             original_definition,
             ..
@@ -104,20 +113,21 @@ fn first_of_data(diagnostic: &DiagnosticData) -> Noted
         | DiagnosticData::UniqueVariable {
             original_definition,
             ..
-        } => noted(*original_definition, "first defined here"),
+        } => push(all, *original_definition, "first defined here"),
         DiagnosticData::UniqueArgument {
             original_definition,
             ..
-        } => noted(*original_definition, "first given here"),
+        } => push(all, *original_definition, "first given here"),
         DiagnosticData::UniqueDirective {
             original_application,
             ..
-        } => noted(*original_application, "first used here"),
+        } => push(all, *original_application, "first used here"),
         DiagnosticData::TransitiveImplementedInterfaces {
             transitive_interface_location,
             ..
-        } => noted(*transitive_interface_location, "implemented here"),
-        DiagnosticData::MissingInterfaceField { field_location, .. } => noted(
+        } => push(all, *transitive_interface_location, "implemented here"),
+        DiagnosticData::MissingInterfaceField { field_location, .. } => push(
+            all,
             *field_location,
             "the interface's field",
         ),
@@ -128,7 +138,7 @@ fn first_of_data(diagnostic: &DiagnosticData) -> Noted
         | DiagnosticData::ExtraRequiredImplementationFieldArgument {
             interface_field_location,
             ..
-        } => noted(*interface_field_location, "the interface's field"),
+        } => push(all, *interface_field_location, "the interface's field"),
         DiagnosticData::MissingInterfaceFieldArgument {
             interface_argument_location,
             ..
@@ -136,11 +146,15 @@ fn first_of_data(diagnostic: &DiagnosticData) -> Noted
         | DiagnosticData::InvalidImplementationFieldArgumentType {
             interface_argument_location,
             ..
-        } => noted(*interface_argument_location, "the interface's argument"),
+        } => push(
+            all,
+            *interface_argument_location,
+            "the interface's argument",
+        ),
         DiagnosticData::UnsupportedLocation {
             definition_location,
             ..
-        } => noted(*definition_location, "the directive's definition"),
+        } => push(all, *definition_location, "the directive's definition"),
         DiagnosticData::UndefinedArgument {
             definition_location,
             ..
@@ -164,64 +178,19 @@ fn first_of_data(diagnostic: &DiagnosticData) -> Noted
         | DiagnosticData::RequiredField {
             definition_location,
             ..
-        } => noted(*definition_location, "the definition"),
+        } => push(all, *definition_location, "the definition"),
         DiagnosticData::DisallowedVariableUsage {
             variable_location,
             ..
-        } => noted(*variable_location, "the variable's definition"),
+        } => push(all, *variable_location, "the variable's definition"),
         DiagnosticData::InvalidFragmentSpread {
             fragment_location,
+            type_location,
             ..
-        } => noted(*fragment_location, "the fragment's definition"),
-        DiagnosticData::QueryRootOperationType
-        | DiagnosticData::UndefinedDefinition { .. }
-        | DiagnosticData::RootOperationObjectType { .. }
-        | DiagnosticData::ReservedName { .. }
-        | DiagnosticData::EmptyFieldSet { .. }
-        | DiagnosticData::EmptyValueSet { .. }
-        | DiagnosticData::EmptyMemberSet { .. }
-        | DiagnosticData::EmptyInputValueSet { .. }
-        | DiagnosticData::UnionMemberObjectType { .. }
-        | DiagnosticData::RecursiveInterfaceDefinition { .. }
-        | DiagnosticData::RecursiveInputObjectDefinition { .. }
-        | DiagnosticData::RecursiveDirectiveDefinition { .. }
-        | DiagnosticData::DeeplyNestedType { .. }
-        | DiagnosticData::UndefinedDirective { .. }
-        | DiagnosticData::IntCoercionError { .. }
-        | DiagnosticData::FloatCoercionError { .. }
-        | DiagnosticData::UndefinedVariable { .. }
-        | DiagnosticData::VariableInputType { .. }
-        | DiagnosticData::UnusedVariable { .. }
-        | DiagnosticData::MissingSubselection { .. }
-        | DiagnosticData::UndefinedFragment { .. }
-        | DiagnosticData::InvalidFragmentTarget { .. }
-        | DiagnosticData::UnusedFragment { .. }
-        | DiagnosticData::RecursiveFragmentDefinition { .. }
-        | DiagnosticData::RecursionError => noted(None, ""),
-    }
-}
-
-/// Adds the further places.
-fn push_more(all: &mut Vec<Noted>, details: &Details) -> Result<(), AllocError>
-    ensures { OnOk result (map plain all.new.items ≡ map plain all.old.items ++ more_of (details_of details.now)) }
-{
-    match details {
-        Details::Data(diagnostic) => push_more_of_data(all, diagnostic),
-        Details::Syntax(_)
-        | Details::Nesting
-        | Details::Spent
-        | Details::SchemaBuild(_)
-        | Details::DocumentBuild(_)
-        | Details::RecursionLimitError => Ok(()),
-    }
-}
-
-/// Adds the further places of a fault of schemas, uses, values or documents.
-#[tactic(auto, using(crate::proofs::Cycles::inputs_in_cycle, crate::proofs::Cycles::directives_in_cycle, crate::proofs::Cycles::spreads_in_cycle))]
-fn push_more_of_data(all: &mut Vec<Noted>, diagnostic: &DiagnosticData) -> Result<(), AllocError>
-    ensures { OnOk result (map plain all.new.items ≡ map plain all.old.items ++ more_of_data (diagnostic_of diagnostic.now)) }
-{
-    match diagnostic {
+        } => {
+            push(all, *fragment_location, "the fragment's definition")?;
+            push(all, *type_location, "the type's definition")
+        }
         DiagnosticData::EmptyFieldSet {
             extensions_locations,
             ..
@@ -237,53 +206,40 @@ fn push_more_of_data(all: &mut Vec<Noted>, diagnostic: &DiagnosticData) -> Resul
         | DiagnosticData::EmptyInputValueSet {
             extensions_locations,
             ..
-        } => push_extended(all, extensions_locations),
-        DiagnosticData::InvalidFragmentSpread { type_location, .. } => {
-            all.push(noted(*type_location, "the type's definition"))?;
-            Ok(())
+        } => {
+            push(all, None, "")?;
+            push_extended(all, extensions_locations)
         }
-        DiagnosticData::RecursiveInputObjectDefinition { trace, .. } => push_cycle(all, trace),
-        DiagnosticData::RecursiveDirectiveDefinition { trace, .. } => push_cycle(all, trace),
-        DiagnosticData::RecursiveFragmentDefinition { trace, .. } => push_cycle(all, trace),
+        DiagnosticData::RecursiveInputObjectDefinition { trace, .. } => {
+            push(all, None, "")?;
+            push_cycle(all, trace)
+        }
+        DiagnosticData::RecursiveDirectiveDefinition { trace, .. } => {
+            push(all, None, "")?;
+            push_cycle(all, trace)
+        }
+        DiagnosticData::RecursiveFragmentDefinition { trace, .. } => {
+            push(all, None, "")?;
+            push_cycle(all, trace)
+        }
         DiagnosticData::QueryRootOperationType
         | DiagnosticData::UndefinedDefinition { .. }
         | DiagnosticData::RootOperationObjectType { .. }
-        | DiagnosticData::DuplicateRootOperationType { .. }
         | DiagnosticData::ReservedName { .. }
-        | DiagnosticData::OutputType { .. }
-        | DiagnosticData::InputType { .. }
         | DiagnosticData::UnionMemberObjectType { .. }
         | DiagnosticData::RecursiveInterfaceDefinition { .. }
-        | DiagnosticData::TransitiveImplementedInterfaces { .. }
-        | DiagnosticData::MissingInterfaceField { .. }
-        | DiagnosticData::InvalidImplementationFieldType { .. }
-        | DiagnosticData::MissingInterfaceFieldArgument { .. }
-        | DiagnosticData::InvalidImplementationFieldArgumentType { .. }
-        | DiagnosticData::ExtraRequiredImplementationFieldArgument { .. }
-        | DiagnosticData::UniqueInputValue { .. }
         | DiagnosticData::DeeplyNestedType { .. }
         | DiagnosticData::UndefinedDirective { .. }
-        | DiagnosticData::UniqueDirective { .. }
-        | DiagnosticData::UnsupportedLocation { .. }
-        | DiagnosticData::UniqueArgument { .. }
-        | DiagnosticData::UndefinedArgument { .. }
-        | DiagnosticData::RequiredArgument { .. }
-        | DiagnosticData::DisallowedVariableUsage { .. }
-        | DiagnosticData::UnsupportedValueType { .. }
         | DiagnosticData::IntCoercionError { .. }
         | DiagnosticData::FloatCoercionError { .. }
         | DiagnosticData::UndefinedVariable { .. }
-        | DiagnosticData::UndefinedEnumValue { .. }
-        | DiagnosticData::UndefinedInputValue { .. }
-        | DiagnosticData::RequiredField { .. }
-        | DiagnosticData::UniqueVariable { .. }
         | DiagnosticData::VariableInputType { .. }
         | DiagnosticData::UnusedVariable { .. }
         | DiagnosticData::MissingSubselection { .. }
         | DiagnosticData::UndefinedFragment { .. }
         | DiagnosticData::InvalidFragmentTarget { .. }
         | DiagnosticData::UnusedFragment { .. }
-        | DiagnosticData::RecursionError => Ok(()),
+        | DiagnosticData::RecursionError => push(all, None, ""),
     }
 }
 
@@ -292,7 +248,7 @@ fn push_extended(all: &mut Vec<Noted>, places: &[Option<SourceSpan>]) -> Result<
     ensures { OnOk result (map plain all.new.items ≡ map plain all.old.items ++ map extended places.now) }
 {
     for place in places {
-        all.push(noted(*place, "extended here"))?;
+        push(all, *place, "extended here")?;
     }
     Ok(())
 }
@@ -302,7 +258,7 @@ fn push_cycle<T>(all: &mut Vec<Noted>, cycle: &[Node<T>]) -> Result<(), AllocErr
     ensures { OnOk result (map plain all.new.items ≡ map plain all.old.items ++ map (λ node. in_cycle (place node)) cycle.now) }
 {
     for node in cycle {
-        all.push(noted(node.location(), "the cycle goes through here"))?;
+        push(all, node.location(), "the cycle goes through here")?;
     }
     Ok(())
 }

@@ -8,13 +8,13 @@ static FORMS: [&str; 4] = ["text", "short", "json", "github"];
 
 /// The program's command.
 pub(crate) fn program_command<'a>(alloc: Global) -> Result<Command<'a>, AllocError> {
-    command_of_options(alloc)?
-        .arg(schema_option(alloc))?
-        .arg(batch_option(alloc)?)?
-        .arg(documents_argument(alloc))
+    // made first, so that no command is dropped here
+    let batch = batch_option(alloc)?;
+    let command = command_of_options(alloc)?;
+    command.arg(batch)?.arg(documents_argument(alloc))
 }
 
-/// The command with the options that have a value and may be left out.
+/// The command with the options that have a value.
 fn command_of_options<'a>(alloc: Global) -> Result<Command<'a>, AllocError> {
     Command::new(alloc, "graphql-report")
         .version("unreleased")
@@ -23,7 +23,8 @@ fn command_of_options<'a>(alloc: Global) -> Result<Command<'a>, AllocError> {
         )
         .arg(format_option(alloc))?
         .arg(nesting_option(alloc))?
-        .arg(max_faults_option(alloc))
+        .arg(max_faults_option(alloc))?
+        .arg(schema_option(alloc))
 }
 
 /// The option for the form of faults.

@@ -69,7 +69,7 @@ fn read_file(rt: &HostRuntime, path: &str) -> Result<String, Stop> {
 }
 
 /// The texts of the files, in order.
-pub fn read_files(rt: &HostRuntime, paths: &[String]) -> Result<Vec<String>, Stop> {
+pub fn read_files(rt: &HostRuntime, paths: &[&str]) -> Result<Vec<String>, Stop> {
     let mut texts = Vec::new(rt.alloc());
     for path in paths {
         texts.push(read_file(rt, path)?)?;

@@ -17,7 +17,7 @@ pub enum Format {
 }
 
 /// What the program's words ask for.
-pub struct Settings {
+pub struct Settings<'a> {
     /// How faults are told.
     pub format: Format,
     /// How many brackets may be open at once.
@@ -25,14 +25,14 @@ pub struct Settings {
     /// How many faults are told of the schema, and of each document.
     pub max_faults: usize,
     /// The paths of the schema's texts, in order.
-    pub schemas: Vec<String>,
+    pub schemas: Vec<&'a str>,
     /// The paths of the documents, in order.
-    pub documents: Vec<String>,
+    pub documents: Vec<&'a str>,
     /// Whether documents come as lines of standard input.
     pub batch: bool,
 }
 
-impl Drop for Settings {
+impl Drop for Settings<'_> {
     fn drop(self) {
         let Settings {
             format: _,
@@ -45,36 +45,27 @@ impl Drop for Settings {
     }
 }
 
-impl Settings {
+impl<'a> Settings<'a> {
     /// Reads the words, the program's name first: `[--format text|short|json|github] [--nesting N] [--max-faults N]
     /// --schema FILE [--schema FILE].. [--batch] [DOCUMENT..]`.
     ///
     /// An error has the text for the user: a fault of the words, what `--help` or `--version` shows, or out of memory.
-    pub fn from_words(alloc: Global, words: &[String]) -> Result<Settings, Error> {
+    pub fn from_words(alloc: Global, words: &'a [String]) -> Result<Settings<'a>, Error> {
         let matches = program_command(alloc)?.try_get_matches_from(words)?;
         Ok(settings_in(alloc, &matches)?)
     }
 }
 
 /// The settings that the matches have.
-fn settings_in(alloc: Global, matches: &ArgMatches<'_>) -> Result<Settings, AllocError> {
+fn settings_in<'a>(alloc: Global, matches: &ArgMatches<'a>) -> Result<Settings<'a>, AllocError> {
     Ok(Settings {
         format: format_named(matches.get_str("format")),
         nesting: matches.get_one::<usize>("nesting").unwrap_or(NESTING),
         max_faults: matches.get_one::<usize>("max-faults").unwrap_or(usize::MAX),
-        schemas: paths(alloc, matches, "schema")?,
-        documents: paths(alloc, matches, "DOCUMENT")?,
+        schemas: Vec::from_slice(alloc, matches.get_strs("schema").unwrap_or(&[]))?,
+        documents: Vec::from_slice(alloc, matches.get_strs("DOCUMENT").unwrap_or(&[]))?,
         batch: matches.get_flag("batch"),
     })
-}
-
-/// The paths under this name.
-fn paths(alloc: Global, matches: &ArgMatches<'_>, name: &str) -> Result<Vec<String>, AllocError> {
-    let mut paths = Vec::new(alloc);
-    for path in matches.get_strs(name).unwrap_or(&[]) {
-        paths.push(String::from_str(alloc, path)?)?;
-    }
-    Ok(paths)
 }
 
 /// The form of this name: with lines, where there is none.
