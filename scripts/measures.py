@@ -98,9 +98,12 @@ def all_functions():
 
 # ---- forms of rules
 
+# A list of the area's own faults: each area has one type of them, under the name that its crate gives it.
+LIST = r"\w+: &mut Vec<(?:Fault|Breach|\(Option<SourceSpan>, BuildError\))>"
+
+# What a function is given, or None for anything; what it gives.
 FORMS = [
-    ("looks, and tells into a list of faults", r"faults: &mut Vec<(?:Fault)>", None),
-    ("looks, and tells into a list of breaches", r"\w+: &mut Vec<\(Option<SourceSpan>, BuildError\)>|\w+: &mut Vec<Breach>", None),
+    ("looks, and tells into the list that it is given", LIST, r"Result<\(\), AllocError>"),
     ("gives the fault or none, or no memory", None, r"Result<Option<Fault>, AllocError>"),
     ("gives the breach or none, or no memory", None, r"Result<Option<(?:Breach|\(Option<SourceSpan>, BuildError\))>, AllocError>"),
     ("gives the breach or none", None, r"Option<(?:Breach|\(Option<SourceSpan>, BuildError\))>"),
@@ -111,9 +114,7 @@ FORMS = [
 def form(found):
     """The form in which a function tells what is wrong."""
     for name, parameter, result in FORMS:
-        if parameter and any(re.fullmatch(parameter, it) for it in found.parameters):
-            return name
-        if result and re.fullmatch(result, found.result):
+        if re.fullmatch(result, found.result) and (parameter is None or any(re.fullmatch(parameter, it) for it in found.parameters)):
             return name
     return f"another: ({', '.join(found.parameters)}) -> {found.result}"
 

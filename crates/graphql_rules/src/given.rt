@@ -11,7 +11,7 @@ ghost use Rattle.graphql_rules.specs.Given.{Each, LeadsToDirective, UsesTold, Us
 use graphql_faults::DiagnosticList;
 use graphql_names::Node;
 use graphql_schema::Schema;
-use rule_uses::{check_arguments_alone, check_directives, disallowed_variable_usage};
+use rule_uses::{check_arguments_alone, check_directives, usage_fault};
 use rule_values::DefinedVariables;
 use std::alloc::{AllocError, Global};
 use std::ops::Deref;
@@ -86,7 +86,7 @@ pub fn validate_variable_usage(
     ensures kept { OnErr result (diagnostics_of list.new ≡ diagnostics_of list.old) }
 {
     let variables = DefinedVariables::listed(variables);
-    let fault = disallowed_variable_usage(argument, definition.content(), &variables)?;
+    let fault = usage_fault(argument, definition.content(), &variables)?;
     match fault {
         None => Ok(true),
         Some(fault) => {

@@ -1,16 +1,16 @@
 -- What is told of the fragments that are used is what the rules say of them.
-use Rattle.std.proofs.Common.{◌≡◌, ℕ, ◌<◌, Bool, true, false, List, [], ◌∷◌, map, reverse, length, slice_get, codes, Option, None, Some, refl, sym, ap, subst, ◌∙◌, inl, inr, arith, Contains}
+use Rattle.std.proofs.Common.{◌≡◌, ℕ, ◌<◌, Bool, true, false, List, [], ◌∷◌, map, reverse, length, slice_get, Option, None, Some, refl, sym, ap, subst, ◌∙◌, inl, inr, arith, Contains}
 use Rattle.std.specs.Prelude.{bytes_eq, nat_lt, option_and_then, if◌then◌else◌}
 use Rattle.std.specs.List.{list_any}
 use Rattle.std.specs.Option.{option_map}
 use Rattle.std.proofs.lemmas.Bool.{le-ltb}
 use Rattle.std.proofs.lemmas.List.Sums.{count_by-le-length}
 use Rattle.std.proofs.lemmas.Option.{same_Some, slice_get_within}
-use Rattle.graphql_names.specs.Placed.{Placed, Place}
+use Rattle.graphql_names.specs.Placed.{Place}
 use Rattle.graphql_names.specs.declared.node.Node.{Node}
 use Rattle.document_typed_selections.specs.declared.selection.FragmentSpread.{FragmentSpread}
 use Rattle.document_meaning.specs.MeantTree.{MeantFragment, MeantDocument}
-use Rattle.rule_definitions.specs.Diagnostics.{SpreadTree, RecursiveFragmentDefinition, DeeplyNestedType}
+use Rattle.rule_definitions.specs.Diagnostics.{RecursiveFragmentDefinition}
 use Rattle.rule_definitions.specs.Faults.{wrong}
 use Rattle.rule_definitions.specs.Told.{PlacedFault}
 use Rattle.rule_definitions.proofs.Lists.{index_given}
@@ -19,23 +19,21 @@ use Rattle.rule_cycle_search.specs.declared.found.Found.{Found}
 use Rattle.rule_cycle_search.specs.declared.found.Found.TheVariants.{Nothing, WayBack, Deep}
 use Rattle.rule_cycle_search.specs.Graph.{RefersTo, is_first, is_other, IsWayBack, IsDeep}
 use Rattle.rule_cycle_search.proofs.Lists.{only, Contains-first, not_in_nil}
-use Rattle.rule_document_definitions.specs.Selected.{fragments, fragment_named}
+use Rattle.rule_document_definitions.specs.Selected.{fragments}
 use Rattle.rule_document_definitions.specs.Fragments.{RefersBySpread, ReachesItself}
 use Rattle.rule_document_definitions.specs.DocumentFaults.{OfData}
 use Rattle.rule_document_definitions.specs.Limits.{spread_bound}
-use Rattle.rule_cycles.specs.Labels.{label, labels, along}
+use Rattle.rule_cycles.specs.Labels.{labels, along}
 use Rattle.rule_cycles.specs.Telling.{TellsFound, IsOfRoot, TellsRoots}
 use Rattle.rule_cycles.proofs.Entries.{number_given, under_at, one_number}
 use Rattle.rule_cycles.proofs.Transport.{Goes, AreNamed, Leads-named-on, IsWay-named, HasNoRepeat-named, Leads-numbered, Leads-same, IsWay-same, count_by-none}
 use Rattle.rule_fragments.specs.Used.{AreUnderOwnNames, IsUsed, AreUsed}
-use Rattle.rule_cycles.specs.References.{between}
 use Rattle.rule_fragments.specs.SpreadNumbers.{Spread, references_at}
-use Rattle.rule_fragments.specs.SpreadViews.{spread_between}
 use Rattle.rule_fragments.specs.SpreadGraph.{AreSpreadReferences}
 use Rattle.rule_fragments.specs.CycleFaults.{spread_trace, IsRecursiveFault, IsDeepFault, Tells, used_at, TellsRecursive, TellsDeep}
 use Rattle.rule_fragments.specs.Told.{FragmentCyclesFail, Answers, TellsFragmentCycles}
 use Rattle.rule_cycles.specs.declared.references.References.{References}
-use Rattle.rule_fragments.proofs.Named.{any_among, fragment_there, used_there, own_number, one_fragment, used_by_name}
+use Rattle.rule_fragments.proofs.Named.{any_among, fragment_there, used_there, own_number, used_by_name}
 use Rattle.rule_fragments.proofs.SpreadBridge.{name_at, number_at, said, spread_sound, spread_full, spread_defined, spread_one}
 
 map_itself : {X : Type 0} (xs : List X) → map (λ x. x) xs ≡ xs
@@ -48,12 +46,6 @@ pub found_same : (r : References (Node FragmentSpread)) (o q : ℕ → Option (M
 found_same r o q root Nothing l e t = t
 found_same r o q root (WayBack path) l e t = subst (λ w. Tells (IsRecursiveFault (spread_trace r root path.items)) w l) e t
 found_same r o q root Deep l e t = subst (λ w. Tells IsDeepFault w l) e t
-
--- nothing is told of no fragment
-pub found_nothing : (r : References (Node FragmentSpread)) (o : ℕ → Option (MeantFragment Place)) (root : ℕ) (found : Found) → o root ≡ None → TellsFound (TellsRecursive r o) (TellsDeep r o) root found []
-found_nothing r o root Nothing e = refl
-found_nothing r o root (WayBack path) e = subst (λ w. Tells (IsRecursiveFault (spread_trace r root path.items)) w []) (sym e) refl
-found_nothing r o root Deep e = subst (λ w. Tells IsDeepFault w []) (sym e) refl
 
 module _ (d : MeantDocument Place) (own : AreUnderOwnNames d) (names : List (List ℕ)) (used : AreUsed d names) (r : References (Node FragmentSpread)) (are : AreSpreadReferences d.fragments r) where
   abbrev Walks : ℕ → ℕ → ℕ → Type 0

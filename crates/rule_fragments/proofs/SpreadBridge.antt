@@ -10,9 +10,9 @@ use Rattle.graphql_names.specs.Placed.{Place}
 use Rattle.schema_components.specs.Names.{Entries}
 use Rattle.document_meaning.specs.MeantTree.{MeantSelection, MeantField, MeantSpread, MeantInline, MeantSet, meant_set, MeantSelections, no_meant, meant_then, MeantFragment, MeantDocument}
 use Rattle.rule_cycle_search.proofs.Lists.{not_in_nil, only, Contains-cons, Contains-first, index_given, mapped_some}
-use Rattle.rule_document_definitions.specs.Selected.{Position, SelectionAt, InFragment, Standing, all_in, all_from, all_below, fragment_named}
+use Rattle.rule_document_definitions.specs.Selected.{Position, SelectionAt, InFragment, Standing, all_in, all_from, all_below}
 use Rattle.rule_document_definitions.specs.Fragments.{as_spread, RefersBySpread}
-use Rattle.rule_cycles.specs.Labels.{Labelled, targets}
+use Rattle.rule_cycles.specs.Labels.{targets}
 use Rattle.rule_cycles.specs.Numbers.{number_of}
 use Rattle.rule_cycles.proofs.Transport.{IsSoundView, target_there}
 use Rattle.rule_cycles.proofs.Entries.{number_given, number_there, under_at, under_given, one_number}

@@ -12,10 +12,10 @@ module _ {A X B : Type 0} (f : A → X) (tells : X → List B) where
   all_more xs i x h e =
       ap (flat_map tells) (mapped_more f xs i x h e) ∙ flat_map-append tells (map f (take i xs)) (f x ∷ []) ∙ ap (λ l. flat_map tells (map f (take i xs)) ++ l) (append-nil (tells (f x)))
 
-  pub told_more : (old now new l : List B) (xs : List A) (i : ℕ) (x : A) → i < length xs → x ≡ get_or xs i x → now ≡ old ++ flat_map tells (map f (take i xs)) → new ≡ now ++ l → l ≡ tells (f x)
+  pub told_more : (old now new : List B) (xs : List A) (i : ℕ) (x : A) → i < length xs → x ≡ get_or xs i x → now ≡ old ++ flat_map tells (map f (take i xs)) → new ≡ now ++ tells (f x)
       → new ≡ old ++ flat_map tells (map f (take (i + 1) xs))
-  told_more old now new l xs i x h e so_far step this =
-      step ∙ (λ k. so_far k ++ this k) ∙ append_assoc old (flat_map tells (map f (take i xs))) (tells (f x)) ∙ ap (λ l. old ++ l) (sym (all_more xs i x h e))
+  told_more old now new xs i x h e so_far step =
+      step ∙ ap (λ l. l ++ tells (f x)) so_far ∙ append_assoc old (flat_map tells (map f (take i xs))) (tells (f x)) ∙ ap (λ l. old ++ l) (sym (all_more xs i x h e))
 
   -- of all
   pub told_all : (old now : List B) (xs : List A) (i : ℕ) → length xs ≤ i → now ≡ old ++ flat_map tells (map f (take i xs)) → now ≡ old ++ flat_map tells (map f xs)

@@ -1,16 +1,19 @@
 -- Private: leads to `Told`. The faults of one fragment that is used: its head is not one place alone, so they are said by a relation (section 5.5.2.2).
-use Rattle.std.specs.Prelude.{◌≡◌, ℕ, List, [], ◌∷◌, reverse, codes, slice_get, bytes_eq, Option, None, Some, option_and_then, if◌then◌else◌}
+use Rattle.std.specs.Prelude.{◌≡◌, ℕ, List, [], ◌∷◌, reverse, codes, slice_get, bytes_eq, Option, None, Some, option_and_then, if◌then◌else◌, Vec}
 use Rattle.std.specs.List.{list_any}
+use Rattle.std.specs.declared.alloc.Global.{Global}
 use Rattle.graphql_names.specs.Placed.{Place}
 use Rattle.graphql_names.specs.Places.{Recomposes}
 use Rattle.graphql_names.specs.declared.node.Node.{Node}
 use Rattle.schema_components.specs.Names.{Entries}
 use Rattle.document_typed_selections.specs.declared.selection.FragmentSpread.{FragmentSpread}
 use Rattle.document_meaning.specs.MeantTree.{MeantFragment}
+use Rattle.fault_data.specs.declared.fault.Fault.{Fault}
 use Rattle.rule_definitions.specs.Diagnostics.{RecursiveFragmentDefinition, DeeplyNestedType}
 use Rattle.rule_definitions.specs.Faults.{wrong}
 use Rattle.rule_definitions.specs.Told.{PlacedFault}
 use Rattle.rule_cycle_search.specs.declared.found.Found.{Found}
+use Rattle.rule_cycles.specs.Adds.{AddsSuch}
 use Rattle.rule_cycles.specs.Labels.{along}
 use Rattle.rule_cycles.specs.Telling.{TellsFound, TellsRoots}
 use Rattle.rule_fragments.specs.SpreadNumbers.{Spread}
@@ -34,6 +37,10 @@ abbrev pub Tells : (MeantFragment Place → PlacedFault → Type 0) → Option (
 Tells Says None l = l ≡ []
 Tells Says (Some f) l = (x : PlacedFault) × (Says f x × (l ≡ x ∷ []))
 
+-- one fault is added, which says so of the fragment
+abbrev pub AddsOne : (MeantFragment Place → PlacedFault → Type 0) → MeantFragment Place → Vec Fault Global → Vec Fault Global → Type 0
+AddsOne Says f old new = AddsSuch old new (Tells Says (Some f))
+
 -- the fragment of a number, if its name is among those that are used
 abbrev pub used_at : Entries (MeantFragment Place) → List (List ℕ) → ℕ → Option (MeantFragment Place)
 used_at es names i = option_and_then (λ e. if list_any (bytes_eq e.0) names then Some e.1 else None) (slice_get es i)
@@ -50,6 +57,10 @@ module _ (r : References (Node FragmentSpread)) (o : ℕ → Option (MeantFragme
   -- the same of what was found of the root
   abbrev pub TellsFoundSpread : ℕ → Found → List PlacedFault → Type 0
   TellsFoundSpread root found l = TellsFound TellsRecursive TellsDeep root found l
+
+  -- what is added tells what was found of the root
+  abbrev pub AddsFound : ℕ → Found → Vec Fault Global → Vec Fault Global → Type 0
+  AddsFound root found old new = AddsSuch old new (TellsFoundSpread root found)
 
 -- what is told of all fragments that are used, in order
 abbrev pub TellsSpreads : References (Node FragmentSpread) → Entries (MeantFragment Place) → List (List ℕ) → List PlacedFault → List PlacedFault → Type 0

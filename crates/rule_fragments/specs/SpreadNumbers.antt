@@ -1,5 +1,5 @@
 -- Private: leads to `Told`. Fragments by number, which is their place in the document's order, and what they refer to by number (section 5.5.2.2).
-use Rattle.std.specs.Prelude.{ℕ, List, [], ◌∷◌, ◌++◌, Option, None, Some}
+use Rattle.std.specs.Prelude.{ℕ, [], ◌∷◌, ◌++◌, Option, None, Some}
 use Rattle.graphql_names.specs.Placed.{Placed, Place, Text}
 use Rattle.tree_directives.specs.DirectiveTree.{Directives, unplaced_directives}
 use Rattle.schema_components.specs.Names.{Entries}

@@ -1,5 +1,5 @@
 -- Private: leads to `Fragments.antt` of the rules' definitions. What is told of selections and fragments as the program has them.
-use Rattle.std.specs.Prelude.{ℕ, List, map, flat_map, Vec, Option}
+use Rattle.std.specs.Prelude.{◌≡◌, ℕ, List, ◌++◌, map, flat_map, Vec, Option}
 use Rattle.std.specs.Borrow.{Bor}
 use Rattle.std.specs.Option.{option_map}
 use Rattle.std.specs.declared.alloc.Global.{Global}
@@ -15,6 +15,7 @@ use Rattle.document_typed_selections.specs.declared.selection.Selection.{Selecti
 use Rattle.document_typed_operations.specs.declared.operation.Fragment.{Fragment}
 use Rattle.document_meaning.specs.MeantTree.{MeantSelection, MeantOperation, MeantDocument, meant}
 use Rattle.fault_data.specs.Adds.{Adds}
+use Rattle.fault_data.specs.FaultView.{faults_of}
 use Rattle.fault_data.specs.declared.fault.Fault.{Fault}
 use Rattle.rule_definitions.specs.Judged.{judged}
 use Rattle.rule_definitions.specs.Told.{PlacedFault}
@@ -22,11 +23,16 @@ use Rattle.rule_document_definitions.specs.Fragments.{InvalidFragmentTargetAt}
 use Rattle.rule_document_ground.specs.Reach.{IsReachOf, meant_fragments, reached_members}
 use Rattle.rule_document_ground.specs.declared.lists.Reach.{Reach}
 use Rattle.rule_cycles.specs.Numbers.{each_value}
-use Rattle.rule_fragments.specs.Applied.{invalid_fragment_spread}
+use Rattle.rule_fragments.specs.Applied.{application_tree, application_fault, invalid_fragment_spread}
 use Rattle.rule_fragments.specs.Listed.{undefined_fragment, invalid_fragment_target, inline_target}
 use Rattle.rule_fragments.specs.SpreadViews.{fragment_meant}
 use Rattle.rule_fragments.specs.Unused.{unused_fragment}
+use Rattle.rule_fragments.specs.declared.applications.Application.{Application}
 use Rattle.rule_fragments.specs.declared.possible_types.PossibleTypes.{PossibleTypes}
+
+-- the faults that were there, as they stood, and after them exactly these
+abbrev pub AddsThese : Vec Fault Global → Vec Fault Global → List PlacedFault → Type 0
+AddsThese old new these = faults_of new ≡ faults_of old ++ these
 
 -- what a selection means
 abbrev pub meant_selection : Selection → MeantSelection Place
@@ -44,9 +50,9 @@ undefined_spread fragments selection = undefined_fragment (meant_fragments fragm
 abbrev pub unused_fragments : {S : Type 0} → List (List ℕ) → IndexMap NameValue (Node Fragment) S → List PlacedFault
 unused_fragments names fragments = each_value (λ n. unused_fragment names (fragment_meant n)) fragments.entries
 
--- a selection in a set of the type `parent`, if it is a fragment that cannot apply there; each that is reached
-abbrev pub invalid_spread : {S : Type 0} → SchemaTree Place → PossibleTypes → IndexMap NameValue (Node Fragment) S → NameValue → Selection → List PlacedFault
-invalid_spread s possible fragments parent selection = invalid_fragment_spread s possible (meant_fragments fragments) (parent.text, meant_selection selection)
+-- a fragment that cannot apply in a set of the type `parent`; each that is reached
+abbrev pub invalid_spread : SchemaTree Place → PossibleTypes → NameValue → Application → List PlacedFault
+invalid_spread s possible parent application = application_fault s possible parent.text (application_tree application)
 
 abbrev pub invalid_spreads : {S : Type 0} → SchemaTree Place → PossibleTypes → IndexMap NameValue (Node Fragment) S → Reach → List PlacedFault
 invalid_spreads s possible fragments reach = flat_map (invalid_fragment_spread s possible (meant_fragments fragments)) (reached_members reach)

@@ -1,5 +1,5 @@
 //! Fragments where they stand, and the rules on the types that they are on.
-ghost use Rattle.std.specs.Prelude.{◌≡◌, [], ◌++◌, ◌⊎◌, true, Some, map, IfOk, OnOk, IfSome, option_to_list};
+ghost use Rattle.std.specs.Prelude.{◌≡◌, [], ◌⊎◌, true, Some, IfOk, OnOk, IfSome};
 ghost use Rattle.std.specs.Option.{option_map};
 ghost use Rattle.graphql_names.specs.Placed.{Place};
 ghost use Rattle.schema_types.specs.Addresses.{TypeAt, place_at};
@@ -7,15 +7,14 @@ ghost use Rattle.graphql_schema.specs.SchemaOf.{schema_tree};
 ghost use Rattle.document_typed_selections.specs.TypedTree.{typed_selection_tree};
 ghost use Rattle.document_typed_selections.specs.TypedParts.{typed_spread_node, typed_inline_node};
 ghost use Rattle.document_meaning.specs.MeantTree.{MeantOperation, MeantDocument, meant};
-ghost use Rattle.fault_data.specs.FaultView.{fault_of, faults_of};
 ghost use Rattle.fault_data.specs.Adds.{Adds};
 ghost use Rattle.rule_definitions.specs.Judged.{judged};
 ghost use Rattle.rule_document_definitions.specs.Fragments.{InvalidFragmentTargetAt, InvalidFragmentSpreadAt};
 ghost use Rattle.rule_document_definitions.specs.Told.{places_in};
 ghost use Rattle.rule_document_ground.specs.Reach.{IsReachOf, meant_fragments, reached_members};
 ghost use Rattle.rule_fragments.specs.Possible.{ArePossible, ArePossibleIfFound};
-ghost use Rattle.rule_fragments.specs.Applied.{application_tree, application_in, stands_on_its_type, all_stand_on_their_types, spread_told};
-ghost use Rattle.rule_fragments.specs.Telling.{invalid_spread, invalid_spreads};
+ghost use Rattle.rule_fragments.specs.Applied.{application_tree, application_in, stands_on_its_type, all_stand_on_their_types};
+ghost use Rattle.rule_fragments.specs.Telling.{AddsThese, invalid_spread, invalid_spreads};
 
 use crate::names::copied_name;
 use crate::possible_types::PossibleTypes;
@@ -121,14 +120,20 @@ fn type_location(schema: &Schema, name: &Name) -> Option<SourceSpan>
     }
 }
 
-/// What is told of a fragment that cannot apply where the type is `parent`.
-fn told_spread(
+/// InvalidFragmentSpread: a fragment is valid only if it can apply where it stands (section 5.5.2.3). There the type is
+/// `parent`.
+fn invalid_fragment_spread(
     schema: &Schema,
+    possible: &PossibleTypes,
     parent: &Name,
     application: &Application<'_>,
-) -> Result<Fault, AllocError>
-    ensures { IfOk result (λ r. fault_of r ≡ spread_told (schema_tree schema.now) parent.now.text (application_tree application.now)) }
+    faults: &mut Vec<Fault>,
+) -> Result<(), AllocError>
+    ensures { OnOk result (AddsThese faults.old faults.new (invalid_spread (schema_tree schema.now) possible.now parent.now application.now)) }
 {
+    if possible.may_apply(parent, application.condition) {
+        return Ok(());
+    }
     let data = DiagnosticData::InvalidFragmentSpread {
         name: copied_name(application.name)?,
         type_name: parent.clone()?,
@@ -137,41 +142,23 @@ fn told_spread(
         type_location: type_location(schema, parent),
     };
     let location = application.location;
-    Ok(Fault { location, data })
+    tell(faults, Some(Fault { location, data }))
 }
 
-/// InvalidFragmentSpread: a fragment is valid only if it can apply where it stands (section 5.5.2.3).
-fn invalid_fragment_spread(
+/// Adds InvalidFragmentSpread for each selection that applies a fragment.
+fn check_fragment_spreads<'doc>(
     schema: &Schema,
     possible: &PossibleTypes,
-    fragments: &FragmentMap,
-    parent: &Name,
-    selection: &Selection,
-) -> Result<Option<Fault>, AllocError>
-    ensures { IfOk result (λ r. map fault_of (option_to_list r) ≡ invalid_spread (schema_tree schema.now) possible.now fragments.now parent.now selection.now) }
-{
-    let Some(application) = application_of(selection, fragments) else {
-        return Ok(None);
-    };
-    if possible.may_apply(parent, application.condition) {
-        return Ok(None);
-    }
-    Ok(Some(told_spread(schema, parent, &application)?))
-}
-
-/// Adds InvalidFragmentSpread for each selection.
-fn check_fragment_spreads(
-    schema: &Schema,
-    possible: &PossibleTypes,
-    fragments: &FragmentMap,
-    reach: &Reach<'_>,
+    fragments: &'doc FragmentMap,
+    reach: &Reach<'doc>,
     faults: &mut Vec<Fault>,
 ) -> Result<(), AllocError>
-    ensures { OnOk result (faults_of faults.new ≡ faults_of faults.old ++ invalid_spreads (schema_tree schema.now) possible.now fragments.now reach.now) }
+    ensures { OnOk result (AddsThese faults.old faults.new (invalid_spreads (schema_tree schema.now) possible.now fragments.now reach.now)) }
 {
     for (parent, selection) in &reach.selections {
-        let fault = invalid_fragment_spread(schema, possible, fragments, parent, selection)?;
-        tell(faults, fault)?;
+        if let Some(application) = application_of(selection, fragments) {
+            invalid_fragment_spread(schema, possible, parent, &application, faults)?;
+        }
     }
     Ok(())
 }

@@ -1,14 +1,13 @@
 //! The faults of fragments that spread themselves (section 5.5.2.2).
 ghost use Rattle.std.specs.Prelude.{◌≡◌, ◌++◌, map, reverse, IfOk, OnOk, option_to_list};
 ghost use Rattle.graphql_names.specs.Places.{Recomposes};
-ghost use Rattle.fault_data.specs.FaultView.{fault_of};
 ghost use Rattle.rule_fragments.specs.SpreadViews.{fragment_meant, spread_tree, spread_between};
-ghost use Rattle.rule_fragments.specs.CycleFaults.{spread_trace, IsRecursiveFault, IsDeepFault};
+ghost use Rattle.rule_fragments.specs.CycleFaults.{spread_trace, IsRecursiveFault, IsDeepFault, AddsOne};
 
 use crate::spread_graph::SpreadReferences;
 use document_typed_operations::Fragment;
 use document_typed_selections::FragmentSpread;
-use fault_data::{DiagnosticData, Fault};
+use fault_data::{DiagnosticData, Fault, tell};
 use graphql_names::{Node, SourceSpan};
 use std::alloc::{AllocError, Global};
 
@@ -59,37 +58,38 @@ fn spread_trace(
 /// RecursiveFragmentDefinition: a fragment definition is valid only if no spreads lead from it back to it
 /// (section 5.5.2.2). These do, from the fragment of the number `root` along the path.
 pub(crate) fn recursive_fragment_definition(
-    alloc: Global,
     fragment: &Node<Fragment>,
     references: &SpreadReferences,
     root: usize,
     path: &[usize],
-) -> Result<Fault, AllocError>
-    ensures { IfOk result (λ r. IsRecursiveFault (spread_trace references.now root path.now) (fragment_meant fragment.now) (fault_of r)) }
+    faults: &mut Vec<Fault>,
+) -> Result<(), AllocError>
+    ensures { OnOk result (AddsOne (IsRecursiveFault (spread_trace references.now root path.now)) (fragment_meant fragment.now) faults.old faults.new) }
 {
-    let trace = spread_trace(alloc, references, root, path)?;
+    let trace = spread_trace(*faults.allocator(), references, root, path)?;
     let name = fragment.content().name.clone()?;
-    Ok(Fault {
-        location: fragment.location(),
-        data: DiagnosticData::RecursiveFragmentDefinition {
-            head_location: head(fragment),
-            name,
-            trace,
-        },
-    })
+    let data = DiagnosticData::RecursiveFragmentDefinition {
+        head_location: head(fragment),
+        name,
+        trace,
+    };
+    let location = fragment.location();
+    tell(faults, Some(Fault { location, data }))
 }
 
 /// DeeplyNestedType: a fragment definition is valid only if no path of spreads from it holds more than 100 fragments. A
 /// path from this one does.
-pub(crate) fn deeply_nested_fragment(fragment: &Node<Fragment>) -> Result<Fault, AllocError>
-    ensures { IfOk result (λ r. IsDeepFault (fragment_meant fragment.now) (fault_of r)) }
+pub(crate) fn deeply_nested_fragment(
+    fragment: &Node<Fragment>,
+    faults: &mut Vec<Fault>,
+) -> Result<(), AllocError>
+    ensures { OnOk result (AddsOne IsDeepFault (fragment_meant fragment.now) faults.old faults.new) }
 {
     let name = fragment.content().name.clone()?;
-    Ok(Fault {
-        location: head(fragment),
-        data: DiagnosticData::DeeplyNestedType {
-            name,
-            describe_type: "fragment",
-        },
-    })
+    let data = DiagnosticData::DeeplyNestedType {
+        name,
+        describe_type: "fragment",
+    };
+    let location = head(fragment);
+    tell(faults, Some(Fault { location, data }))
 }

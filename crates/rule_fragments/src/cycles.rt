@@ -1,20 +1,20 @@
 //! Tells which fragments spread themselves.
-ghost use Rattle.std.specs.Prelude.{◌≡◌, map, IfOk, OnOk, option_to_list};
+ghost use Rattle.std.specs.Prelude.{◌≡◌, OnOk};
 ghost use Rattle.graphql_names.specs.Placed.{Place};
 ghost use Rattle.document_meaning.specs.MeantTree.{MeantDocument};
-ghost use Rattle.fault_data.specs.FaultView.{fault_of, faults_of};
+ghost use Rattle.fault_data.specs.FaultView.{faults_of};
 ghost use Rattle.rule_cycle_search.specs.Found.{AreFound};
 ghost use Rattle.rule_document_ground.specs.Reach.{meant_fragments};
 ghost use Rattle.rule_document_ground.specs.NotedNames.{noted_names};
 ghost use Rattle.rule_fragments.specs.Used.{AreUnderOwnNames, AreUsed};
 ghost use Rattle.rule_fragments.specs.SpreadViews.{fragment_entries, lent_at};
-ghost use Rattle.rule_fragments.specs.CycleFaults.{used_at, TellsSpreads, TellsFoundSpread};
+ghost use Rattle.rule_fragments.specs.CycleFaults.{used_at, TellsSpreads, AddsFound};
 ghost use Rattle.rule_fragments.specs.Told.{TellsFragmentCycles};
 
 use crate::cycle_faults::{deeply_nested_fragment, recursive_fragment_definition};
 use crate::spread_graph::{SpreadReferences, references_of_fragments};
 use document_typed_operations::{Fragment, FragmentMap};
-use fault_data::{Fault, tell};
+use fault_data::Fault;
 use graphql_names::{Name, Node};
 use indexmap::IndexSet;
 use rule_cycle_search::{Found, ways_back};
@@ -37,26 +37,25 @@ fn used_fragment<'doc>(
     }
 }
 
-/// The fault of a fragment, the one of the number `root`, of which this was found. None is told of no fragment.
-fn fragment_fault(
-    alloc: Global,
+/// Adds the fault of a fragment, the one of the number `root`, of which this was found. None is told of no fragment.
+fn tell_found(
     fragment: Option<&Node<Fragment>>,
     references: &SpreadReferences,
     root: usize,
     found: &Found,
-) -> Result<Option<Fault>, AllocError>
-    ensures { IfOk result (λ r. TellsFoundSpread references.now (lent_at fragment.entry) root found.now (map fault_of (option_to_list r))) }
+    faults: &mut Vec<Fault>,
+) -> Result<(), AllocError>
+    ensures { OnOk result (AddsFound references.now (lent_at fragment.entry) root found.now faults.old faults.new) }
 {
     let Some(fragment) = fragment else {
-        return Ok(None);
+        return Ok(());
     };
     match found {
-        Found::Nothing => Ok(None),
+        Found::Nothing => Ok(()),
         Found::WayBack(path) => {
-            let fault = recursive_fragment_definition(alloc, fragment, references, root, path)?;
-            Ok(Some(fault))
+            recursive_fragment_definition(fragment, references, root, path, faults)
         }
-        Found::Deep => Ok(Some(deeply_nested_fragment(fragment)?)),
+        Found::Deep => deeply_nested_fragment(fragment, faults),
     }
 }
 
@@ -71,11 +70,9 @@ fn tell_cycles(
     requires { AreFound references.now.graph all.now }
     ensures { OnOk result (TellsSpreads references.now (fragment_entries fragments.now) (noted_names used.now) (faults_of faults.old) (faults_of faults.new)) }
 {
-    let alloc = *faults.allocator();
     for (root, found) in all.iter().enumerate() {
         let fragment = used_fragment(fragments, used, root);
-        let fault = fragment_fault(alloc, fragment, references, root, found)?;
-        tell(faults, fault)?;
+        tell_found(fragment, references, root, found, faults)?;
     }
     Ok(())
 }

@@ -1,12 +1,11 @@
 //! Spreads of fragments that are not there.
-ghost use Rattle.std.specs.Prelude.{◌≡◌, map, IfOk, OnOk, option_to_list};
+ghost use Rattle.std.specs.Prelude.{◌≡◌, OnOk};
 ghost use Rattle.graphql_names.specs.Placed.{Place};
 ghost use Rattle.document_meaning.specs.MeantTree.{MeantOperation, MeantDocument};
-ghost use Rattle.fault_data.specs.FaultView.{fault_of};
 ghost use Rattle.fault_data.specs.Adds.{Adds};
 ghost use Rattle.rule_document_definitions.specs.Fragments.{UndefinedFragmentAt};
 ghost use Rattle.rule_document_ground.specs.Reach.{IsReachOf, meant_fragments};
-ghost use Rattle.rule_fragments.specs.Telling.{undefined_spread};
+ghost use Rattle.rule_fragments.specs.Telling.{AddsThese, undefined_spread};
 
 use document_typed_operations::FragmentMap;
 use document_typed_selections::Selection;
@@ -18,21 +17,21 @@ use std::alloc::AllocError;
 fn undefined_fragment(
     fragments: &FragmentMap,
     selection: &Selection,
-) -> Result<Option<Fault>, AllocError>
-    ensures { IfOk result (λ r. map fault_of (option_to_list r) ≡ undefined_spread fragments.now selection.now) }
+    faults: &mut Vec<Fault>,
+) -> Result<(), AllocError>
+    ensures { OnOk result (AddsThese faults.old faults.new (undefined_spread fragments.now selection.now)) }
 {
     let Some(spread) = selection.as_fragment_spread() else {
-        return Ok(None);
+        return Ok(());
     };
     let name = &spread.content().fragment_name;
     if fragments.contains_key(name) {
-        return Ok(None);
+        return Ok(());
     }
     let name = name.clone()?;
-    Ok(Some(Fault {
-        location: spread.location(),
-        data: DiagnosticData::UndefinedFragment { name },
-    }))
+    let location = spread.location();
+    let data = DiagnosticData::UndefinedFragment { name };
+    tell(faults, Some(Fault { location, data }))
 }
 
 /// Adds UndefinedFragment for each spread that is reached of a fragment that is not there. Fails where memory is refused.
@@ -44,7 +43,7 @@ pub fn check_spreads(
     ensures { OnOk result ((d : MeantDocument Place) (o : MeantOperation Place) → IsReachOf d o reach.now → d.fragments ≡ meant_fragments fragments.now → Adds faults.old faults.new (λ f. UndefinedFragmentAt d f o)) }
 {
     for (_, selection) in &reach.selections {
-        tell(faults, undefined_fragment(fragments, selection)?)?;
+        undefined_fragment(fragments, selection, faults)?;
     }
     Ok(())
 }

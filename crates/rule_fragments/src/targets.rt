@@ -1,10 +1,9 @@
 //! Types that fragments are on.
-ghost use Rattle.std.specs.Prelude.{◌≡◌, ◌++◌, map, flat_map, None, IfOk, OnOk, option_to_list};
+ghost use Rattle.std.specs.Prelude.{◌≡◌, flat_map, None, OnOk};
 ghost use Rattle.graphql_schema.specs.SchemaOf.{schema_tree};
-ghost use Rattle.fault_data.specs.FaultView.{fault_of, faults_of};
 ghost use Rattle.rule_document_ground.specs.Reach.{reached_fragments_of};
 ghost use Rattle.rule_fragments.specs.Listed.{is_no_composite, fragment_target, inline_target};
-ghost use Rattle.rule_fragments.specs.Telling.{meant_selection, invalid_target, inline_targets, AddsTargets};
+ghost use Rattle.rule_fragments.specs.Telling.{AddsThese, meant_selection, invalid_target, inline_targets, AddsTargets};
 ghost use Rattle.rule_fragments.specs.SpreadViews.{fragment_meant};
 
 use crate::names::copied_name;
@@ -33,23 +32,26 @@ fn invalid_fragment_target(
     location: Option<SourceSpan>,
     name: Option<&Name>,
     condition: &Name,
-) -> Result<Option<Fault>, AllocError>
-    ensures { IfOk result (λ r. map fault_of (option_to_list r) ≡ invalid_target (schema_tree schema.now) location name.entry condition.now) }
+    faults: &mut Vec<Fault>,
+) -> Result<(), AllocError>
+    ensures { OnOk result (AddsThese faults.old faults.new (invalid_target (schema_tree schema.now) location name.entry condition.now)) }
 {
     if !is_no_composite(schema, condition) {
-        return Ok(None);
+        return Ok(());
     }
     let name = copied_name(name)?;
     let ty = condition.clone()?;
-    Ok(Some(Fault {
-        location,
-        data: DiagnosticData::InvalidFragmentTarget { name, ty },
-    }))
+    let data = DiagnosticData::InvalidFragmentTarget { name, ty };
+    tell(faults, Some(Fault { location, data }))
 }
 
 /// That rule for a fragment.
-fn fragment_target(schema: &Schema, fragment: &Node<Fragment>) -> Result<Option<Fault>, AllocError>
-    ensures { IfOk result (λ r. map fault_of (option_to_list r) ≡ fragment_target (schema_tree schema.now) (fragment_meant fragment.now)) }
+fn fragment_target(
+    schema: &Schema,
+    fragment: &Node<Fragment>,
+    faults: &mut Vec<Fault>,
+) -> Result<(), AllocError>
+    ensures { OnOk result (AddsThese faults.old faults.new (fragment_target (schema_tree schema.now) (fragment_meant fragment.now))) }
 {
     let defined = fragment.content();
     invalid_fragment_target(
@@ -57,19 +59,25 @@ fn fragment_target(schema: &Schema, fragment: &Node<Fragment>) -> Result<Option<
         fragment.location(),
         Some(&defined.name),
         defined.type_condition(),
+        faults,
     )
 }
 
 /// That rule for a selection, if it is an inline fragment with a condition.
-fn inline_target(schema: &Schema, selection: &Selection) -> Result<Option<Fault>, AllocError>
-    ensures { IfOk result (λ r. map fault_of (option_to_list r) ≡ inline_target (schema_tree schema.now) (meant_selection selection.now)) }
+fn inline_target(
+    schema: &Schema,
+    selection: &Selection,
+    faults: &mut Vec<Fault>,
+) -> Result<(), AllocError>
+    ensures { OnOk result (AddsThese faults.old faults.new (inline_target (schema_tree schema.now) (meant_selection selection.now))) }
 {
     let Some(inline) = selection.as_inline_fragment() else {
-        return Ok(None);
+        return Ok(());
     };
+    let location = inline.location();
     match &inline.content().type_condition {
-        None => Ok(None),
-        Some(condition) => invalid_fragment_target(schema, inline.location(), None, condition),
+        None => Ok(()),
+        Some(condition) => invalid_fragment_target(schema, location, None, condition, faults),
     }
 }
 
@@ -79,10 +87,10 @@ fn check_fragment_targets(
     reach: &Reach<'_>,
     faults: &mut Vec<Fault>,
 ) -> Result<(), AllocError>
-    ensures { OnOk result (faults_of faults.new ≡ faults_of faults.old ++ flat_map (fragment_target (schema_tree schema.now)) (reached_fragments_of reach.now)) }
+    ensures { OnOk result (AddsThese faults.old faults.new (flat_map (fragment_target (schema_tree schema.now)) (reached_fragments_of reach.now))) }
 {
     for index in 0..reach.fragments.len() {
-        tell(faults, fragment_target(schema, reach.fragments[index])?)?;
+        fragment_target(schema, reach.fragments[index], faults)?;
     }
     Ok(())
 }
@@ -93,10 +101,10 @@ fn check_inline_targets(
     reach: &Reach<'_>,
     faults: &mut Vec<Fault>,
 ) -> Result<(), AllocError>
-    ensures { OnOk result (faults_of faults.new ≡ faults_of faults.old ++ inline_targets (schema_tree schema.now) reach.now) }
+    ensures { OnOk result (AddsThese faults.old faults.new (inline_targets (schema_tree schema.now) reach.now)) }
 {
     for (_, selection) in &reach.selections {
-        tell(faults, inline_target(schema, selection)?)?;
+        inline_target(schema, selection, faults)?;
     }
     Ok(())
 }

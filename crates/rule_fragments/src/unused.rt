@@ -1,8 +1,7 @@
 //! Fragments that no operation reaches.
-ghost use Rattle.std.specs.Prelude.{◌≡◌, ◌++◌, map, IfOk, OnOk, option_to_list};
+ghost use Rattle.std.specs.Prelude.{◌≡◌, OnOk};
 ghost use Rattle.graphql_names.specs.Placed.{Place};
 ghost use Rattle.document_meaning.specs.MeantTree.{MeantDocument};
-ghost use Rattle.fault_data.specs.FaultView.{fault_of, faults_of};
 ghost use Rattle.fault_data.specs.Adds.{Adds};
 ghost use Rattle.rule_document_definitions.specs.Fragments.{UnusedFragmentAt};
 ghost use Rattle.rule_document_ground.specs.Reach.{meant_fragments};
@@ -10,7 +9,7 @@ ghost use Rattle.rule_document_ground.specs.NotedNames.{noted_names};
 ghost use Rattle.rule_fragments.specs.Used.{AreUnderOwnNames, AreUsed};
 ghost use Rattle.rule_fragments.specs.Unused.{unused_fragment};
 ghost use Rattle.rule_fragments.specs.SpreadViews.{fragment_meant};
-ghost use Rattle.rule_fragments.specs.Telling.{unused_fragments};
+ghost use Rattle.rule_fragments.specs.Telling.{AddsThese, unused_fragments};
 
 use document_typed_operations::{Fragment, FragmentMap};
 use fault_data::{DiagnosticData, Fault, tell};
@@ -24,18 +23,18 @@ use std::alloc::AllocError;
 fn unused_fragment(
     used: &IndexSet<Name>,
     fragment: &Node<Fragment>,
-) -> Result<Option<Fault>, AllocError>
-    ensures { IfOk result (λ r. map fault_of (option_to_list r) ≡ unused_fragment (noted_names used.now) (fragment_meant fragment.now)) }
+    faults: &mut Vec<Fault>,
+) -> Result<(), AllocError>
+    ensures { OnOk result (AddsThese faults.old faults.new (unused_fragment (noted_names used.now) (fragment_meant fragment.now))) }
 {
     let name = &fragment.content().name;
     if has_name(used, name) {
-        return Ok(None);
+        return Ok(());
     }
     let name = name.clone()?;
-    Ok(Some(Fault {
-        location: fragment.location(),
-        data: DiagnosticData::UnusedFragment { name },
-    }))
+    let location = fragment.location();
+    let data = DiagnosticData::UnusedFragment { name };
+    tell(faults, Some(Fault { location, data }))
 }
 
 /// Adds a fault for each fragment, in order, whose name is not among those that are used.
@@ -44,10 +43,10 @@ fn tell_unused(
     used: &IndexSet<Name>,
     faults: &mut Vec<Fault>,
 ) -> Result<(), AllocError>
-    ensures { OnOk result (faults_of faults.new ≡ faults_of faults.old ++ unused_fragments (noted_names used.now) fragments.now) }
+    ensures { OnOk result (AddsThese faults.old faults.new (unused_fragments (noted_names used.now) fragments.now)) }
 {
     for (_, fragment) in fragments {
-        tell(faults, unused_fragment(used, fragment)?)?;
+        unused_fragment(used, fragment, faults)?;
     }
     Ok(())
 }

@@ -22,4 +22,4 @@ pub use given::{check_arguments_alone, check_given};
 pub use schema_uses::check_schema_directives;
 pub use taken::check_taken;
 pub use taker::{Taker, TakerName};
-pub use usage::disallowed_variable_usage;
+pub use usage::usage_fault;

@@ -161,8 +161,7 @@ fn check_argument(
     ensures { OnOk result (Adds faults.old faults.new (BreaksDefinition judging.now definition.now argument.now)) }
 {
     let defined = definition.content();
-    let fault = disallowed_variable_usage(argument, defined, judging.variables)?;
-    tell(faults, fault)?;
+    disallowed_variable_usage(judging, argument, defined, faults)?;
     let value = &argument.content().value;
     type_breaks(
         judging.schema,

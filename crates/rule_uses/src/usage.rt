@@ -1,5 +1,5 @@
 //! Variables that are given for arguments.
-ghost use Rattle.std.specs.Prelude.{◌≡◌, ◌↔◌, map, IfOk, IsTrue, option_to_list};
+ghost use Rattle.std.specs.Prelude.{◌≡◌, ◌↔◌, map, IfOk, OnOk, IsTrue, option_to_list};
 ghost use Rattle.graphql_names.specs.Placed.{node_tree};
 ghost use Rattle.tree_literals.specs.TypeTree.{type_tree};
 ghost use Rattle.tree_literals.specs.TypeQueries.{nullable_type, AreTypesCompatible};
@@ -7,13 +7,15 @@ ghost use Rattle.tree_directives.specs.DirectiveTree.{argument_tree, input_value
 ghost use Rattle.tree_operations.specs.OperationTree.{variable_definition_tree};
 ghost use Rattle.rule_values.specs.in_fault_data.FaultView.{fault_of};
 ghost use Rattle.rule_values.specs.in_fault_data.DiagnosticView.{plain_reference};
+ghost use Rattle.rule_values.specs.in_fault_data.Adds.{Adds};
 ghost use Rattle.rule_values.specs.in_rule_definitions.VariableUsage.{IsVariableUsageAllowed};
 ghost use Rattle.rule_values.specs.Wanting.{variables_of};
 ghost use Rattle.rule_uses.specs.Steps.{Lists, FitsWithDefault, DisallowedUsage};
-ghost use Rattle.rule_uses.specs.Telling.{told_usage};
+ghost use Rattle.rule_uses.specs.Telling.{told_usage, variables_in};
 
+use crate::judging::Judging;
 use graphql_names::{Name, Node};
-use rule_values::{DefinedVariables, DiagnosticData, Fault};
+use rule_values::{DefinedVariables, DiagnosticData, Fault, tell};
 use std::alloc::AllocError;
 use tree_directives::{Argument, InputValueDefinition};
 use tree_literals::Type;
@@ -100,9 +102,9 @@ fn told_usage(
     Ok(Fault { location, data })
 }
 
-/// DisallowedVariableUsage: a use of a variable is valid only if a value of the variable's type may stand there
-/// (section 5.8.5). The fault is given back: a caller that has no list of faults asks whether there is one.
-pub fn disallowed_variable_usage(
+/// The fault of a variable that is given for an argument where a value of its type may not stand, if it is one (section 5.8.5):
+/// for a caller that has no list of faults.
+pub fn usage_fault(
     argument: &Node<Argument>,
     definition: &InputValueDefinition,
     variables: &DefinedVariables<'_>,
@@ -119,4 +121,18 @@ pub fn disallowed_variable_usage(
         return Ok(None);
     }
     Ok(Some(told_usage(argument, name, variable, definition)?))
+}
+
+/// DisallowedVariableUsage: a use of a variable is valid only if a value of the variable's type may stand there
+/// (section 5.8.5).
+pub(crate) fn disallowed_variable_usage(
+    judging: &Judging<'_>,
+    argument: &Node<Argument>,
+    definition: &InputValueDefinition,
+    faults: &mut Vec<Fault>,
+) -> Result<(), AllocError>
+    ensures { OnOk result (Adds faults.old faults.new (DisallowedUsage (variables_in judging.now) (input_value_tree definition.now) (node_tree argument_tree argument.now))) }
+{
+    let fault = usage_fault(argument, definition, judging.variables)?;
+    tell(faults, fault)
 }

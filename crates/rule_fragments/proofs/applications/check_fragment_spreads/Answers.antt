@@ -1,10 +1,12 @@
-use Rattle.std.proofs.Common.{◌<◌, ◌++◌, map, length, ap, ◌∙◌, arith}
+use Rattle.std.proofs.Common.{◌≡◌, ◌<◌, ◌++◌, [], Option, map, length, sym, ap, ◌∙◌, append-nil, arith}
 use Rattle.std.specs.List.{flat_map}
+use Rattle.std.specs.Option.{option_map, option_map_or}
 use Rattle.graphql_schema.specs.SchemaOf.{schema_tree}
 use Rattle.fault_data.specs.FaultView.{faults_of}
 use Rattle.rule_document_ground.specs.Reach.{member_of, meant_fragments}
-use Rattle.rule_fragments.specs.Applied.{invalid_fragment_spread}
+use Rattle.rule_fragments.specs.Applied.{ApplicationTree, application_tree, application_fault, invalid_fragment_spread}
 use Rattle.rule_fragments.proofs.Telling.{told_more, told_all}
+use Rattle.rule_fragments.proofs.applications.check_fragment_spreads.Goals.{in-Some+in_ok-invalid_fragment_spread, in_default}
 use Rattle.rule_fragments.proofs.applications.check_fragment_spreads.Goals as goal
 
 pub loop-parent-preserved : goal.loop-parent-preserved
@@ -13,8 +15,15 @@ loop-parent-preserved c =
     let xs = c.deref-parent-items.result.now in
     let i = c.loop-parent.parent-index in
     let h : i < length xs = omega arith in
-    told_more member_of tells (faults_of c.args.faults.now) (faults_of c.loop-parent.faults) (faults_of c.tell.new.faults) _ xs i c.loop-parent-item.result h c.loop-parent-item.is c.loop-parent.invariant
-    c.in_ok-tell.ensures.told c.in_ok-fault.ensures
+    let parent = (member_of c.loop-parent-item.result).0 in
+    let so_far = faults_of c.loop-parent.faults in
+    let told = λ (o : Option ApplicationTree). so_far ++ option_map_or (application_fault (schema_tree c.args.schema.now) c.args.possible.now parent) o [] in
+    let step : faults_of c.match-application_of.faults ≡ so_far ++ tells (member_of c.loop-parent-item.result) =
+    elim c.match-application_of.branch [
+      | in-Some+in_ok-invalid_fragment_spread w ↦ ap faults_of w.faults-is ∙ w.in_ok-invalid_fragment_spread.ensures ∙ ap told (ap (option_map application_tree) (sym w.in-Some.is) ∙ c.application_of.ensures)
+      | in_default w ↦ ap faults_of w.faults-is ∙ sym (append-nil so_far) ∙ ap told (ap (option_map application_tree) (sym w.in_default.is) ∙ c.application_of.ensures)
+    ] in
+    told_more member_of tells (faults_of c.args.faults.now) so_far (faults_of c.match-application_of.faults) xs i c.loop-parent-item.result h c.loop-parent-item.is c.loop-parent.invariant step
 
 pub returns : goal.returns
 returns c =

@@ -1,7 +1,6 @@
-use Rattle.std.proofs.Common.{◌≡◌, ◌∙◌, Some, map, sym, ap, subst, arith}
-use Rattle.std.specs.Prelude.{option_to_list}
+use Rattle.std.proofs.Common.{◌≡◌, ◌∙◌, Some, sym, ap, subst, arith}
 use Rattle.std.proofs.lemmas.Option.{slice_get-get_or}
-use Rattle.fault_data.specs.FaultView.{fault_of, faults_of}
+use Rattle.fault_data.specs.FaultView.{faults_of}
 use Rattle.rule_cycles.specs.Telling.{TellsRoots}
 use Rattle.rule_cycles.proofs.Telling.{TellsRoots-none, TellsRoots-more, TellsRoot-found}
 use Rattle.rule_document_ground.specs.NotedNames.{noted_names}
@@ -24,9 +23,10 @@ loop-root-preserved c =
     let found = c.index-all-root.result in
     let there = slice_get-get_or c.args.all.now root found (omega arith) ∙ ap (λ x. Some x) (sym c.index-all-root.is) in
     let finds = c.requires.each root found there in
-    let told = found_same r (lent_at c.used_fragment-fragment.result) o root found (map fault_of (option_to_list c.in_ok-fault.fault)) c.used_fragment-fragment.ensures c.in_ok-fault.ensures in
-    TellsRoots-more (TellsRecursive r o) (TellsDeep r o) r.graph root (faults_of c.args.faults.now) (faults_of c.loop-root.faults) (faults_of c.tell.new.faults) c.loop-root.invariant
-    (TellsRoot-found (TellsRecursive r o) (TellsDeep r o) r.graph root found (map fault_of (option_to_list c.in_ok-fault.fault)) (faults_of c.loop-root.faults) (faults_of c.tell.new.faults) finds told c.in_ok-tell.ensures.told)
+    let added = c.in_ok-tell_found.ensures in
+    let told = found_same r (lent_at c.used_fragment-fragment.result) o root found added.0 c.used_fragment-fragment.ensures added.1.0 in
+    TellsRoots-more (TellsRecursive r o) (TellsDeep r o) r.graph root (faults_of c.args.faults.now) (faults_of c.loop-root.faults) (faults_of c.tell_found.new.faults) c.loop-root.invariant
+    (TellsRoot-found (TellsRecursive r o) (TellsDeep r o) r.graph root found added.0 (faults_of c.loop-root.faults) (faults_of c.tell_found.new.faults) finds told added.1.1)
 
 pub returns : goal.returns
 returns c =

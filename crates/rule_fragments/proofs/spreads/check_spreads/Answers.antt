@@ -14,8 +14,8 @@ loop-selection-preserved c =
     let xs = c.deref-selection-items.result.now in
     let i = c.loop-selection.selection-index in
     let h : i < length xs = omega arith in
-    told_more member_of (λ (e : Member Place). undefined_fragment fs e.1) (faults_of c.args.faults.now) (faults_of c.loop-selection.faults) (faults_of c.tell.new.faults) _ xs i c.loop-selection-item.result h c.loop-selection-item.is c.loop-selection.invariant
-    c.in_ok-tell.ensures.told c.in_ok-undefined_fragment.ensures
+    told_more member_of (λ (e : Member Place). undefined_fragment fs e.1) (faults_of c.args.faults.now) (faults_of c.loop-selection.faults) (faults_of c.undefined_fragment.new.faults) xs i c.loop-selection-item.result h c.loop-selection-item.is c.loop-selection.invariant
+    c.in_ok-undefined_fragment.ensures
 
 pub returns : goal.returns
 returns c = λ d o reach same.

@@ -11,8 +11,8 @@ loop-index-preserved c =
     let xs = c.args.reach.now.fragments.items in
     let i = c.loop-index.index in
     let h : i < length xs = omega arith in
-    told_more fragment_of (fragment_target (schema_tree c.args.schema.now)) (faults_of c.args.faults.now) (faults_of c.loop-index.faults) (faults_of c.tell.new.faults) _ xs i c.index.result.now h c.index.ensures c.loop-index.invariant
-    c.in_ok-tell.ensures.told c.in_ok-fragment_target.ensures
+    told_more fragment_of (fragment_target (schema_tree c.args.schema.now)) (faults_of c.args.faults.now) (faults_of c.loop-index.faults) (faults_of c.fragment_target.new.faults) xs i c.index.result.now h c.index.ensures c.loop-index.invariant
+    c.in_ok-fragment_target.ensures
 
 pub returns : goal.returns
 returns c =
