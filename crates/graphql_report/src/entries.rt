@@ -14,22 +14,22 @@ use graphql_schema::Schema;
 use report_forms::{Entry, Related, Source, related};
 use std::alloc::{AllocError, Global};
 
-/// The entry of the fault that is told at that place. `path` is the name of the text where it has no place.
+/// The entry of a fault and its place. `path` is the name of the text where it has no place.
 pub(crate) fn entry_of(
     alloc: Global,
     sources: &[Source<'_>],
     schema: Option<&Schema>,
     path: &str,
-    place: Option<SourceSpan>,
-    details: &Details,
+    fault: &(Option<SourceSpan>, Details),
 ) -> Result<Entry, AllocError>
-    ensures { IfOk result (Tells sources.now path.now (details_at (place, details.now))) }
+    ensures { IfOk result (Tells sources.now path.now (details_at fault.now)) }
 {
-    let message = details.to_string(alloc)?;
-    let rule = details.name();
-    let mut entry = Entry::at(alloc, sources, path, place, rule, message)?;
-    entry.related = related_of(alloc, sources, path, place, details)?;
-    entry.hint = hint_of(alloc, sources, schema, place, details)?;
+    let (place, details) = fault;
+    let mut entry = Entry::at(alloc, sources, path, *place)?;
+    entry.rule = details.name();
+    entry.message = details.to_string(alloc)?;
+    entry.related = related_of(alloc, sources, path, *place, details)?;
+    entry.hint = hint_of(alloc, sources, schema, *place, details)?;
     entry.fields = fields_of(alloc, details)?;
     Ok(entry)
 }

@@ -53,7 +53,7 @@ impl Report {
         let mut entries = Vec::new(alloc);
         for rank in &ranks {
             let fault = &told[rank.told];
-            let entry = entry_of(alloc, sources, schema, path, fault.0, &fault.1)?;
+            let entry = entry_of(alloc, sources, schema, path, fault)?;
             entries.push(entry)?;
         }
         Ok(Report { entries })

@@ -16,8 +16,9 @@ pub(crate) fn by_form(alloc: Global, case: Case<'_>, tally: &mut Tally) -> Resul
 /// The fault that the row has.
 fn entry_of(alloc: Global, case: Case<'_>) -> Result<Entry, Problem> {
     let path = input(case, 0)?;
-    let message = String::from_str(alloc, input(case, 1)?)?;
-    let mut entry = Entry::at(alloc, &[], path, None, "Rule", message)?;
+    let mut entry = Entry::at(alloc, &[], path, None)?;
+    entry.rule = "Rule";
+    entry.message = String::from_str(alloc, input(case, 1)?)?;
     add_place(alloc, case, &mut entry)?;
     add_others(alloc, case, &mut entry)?;
     Ok(entry)

@@ -26,8 +26,7 @@ pub(crate) fn push_field_set(
         case,
         parse_selections(alloc, input.text, file, input.nesting),
     )?;
-    let name = type_name(alloc, case)?;
-    push_selections(alloc, case, schema, &name, &selections, answer)
+    push_selections(alloc, case, schema, &selections, answer)
 }
 
 /// The name of the row's type.
@@ -39,16 +38,16 @@ fn type_name(alloc: Global, case: Case<'_>) -> Result<Name, Problem> {
     }
 }
 
-/// Adds what is wrong with the selections under the type of this name.
+/// Adds what is wrong with the selections under the row's type.
 fn push_selections(
     alloc: Global,
     case: Case<'_>,
     schema: &Schema,
-    name: &Name,
     selections: &[Selection],
     answer: &mut Answer,
 ) -> Result<(), Problem> {
-    let (set, faults) = FieldSet::from_ast(alloc, schema, name, selections)?;
+    let name = type_name(alloc, case)?;
+    let (set, faults) = FieldSet::from_ast(alloc, schema, &name, selections)?;
     push_typing(alloc, &faults, answer)?;
     let mut list = DiagnosticList::new(alloc);
     validate_field_set(alloc, &mut list, schema, &set)?;
