@@ -57,6 +57,11 @@ def objects(n):
     return "type Query { i: I } interface I { i: I a: Int } " + many(n, "type T# implements I { i: I a: Int }")
 
 
+def parents(n):
+    """Fragments on that interface, of n sets below it and of one below each object."""
+    return "fragment A on I { " + many(n, "i { a#: a }") + " } fragment B on I { " + many(n, "... on T# { i { b#: a } }") + " }"
+
+
 def words(n):
     """n chains of fields that go by nearly all words of two keys, and n that go by one word each."""
     pick = random.Random(2)
@@ -108,12 +113,15 @@ CASES = [
     ("merging: groups that select one fragment", 100, lambda n: (M, "{ " + many(n, "x#: q { ...F }") + " }" + shared(n))),
     ("merging: groups that select one fragment and a field", 30, lambda n: (M, "{ " + many(n, "x#: q { y#: a ...F }") + " }" + shared(n))),
     ("merging: one group that selects one fragment", 100, lambda n: (M, "{ " + many(n, "q { ...F b#: a }") + " }" + shared(n))),
+    ("merging: groups that select such a group", 10, lambda n: (M, "{ " + many(n, "x#: q { ...H q { ...F c#: a } }") + " } fragment H on Query { " + many(n, "q { ...F b#: a }") + " }" + shared(n))),
     ("merging: operations that select one fragment", 100, lambda n: (M, many(n, "query Z# { ...F }") + shared(n))),
     ("merging: operations that select it and a field", 30, lambda n: (M, many(n, "query Z# { y#: a ...F }") + shared(n))),
     ("merging: fragments that select other fields of one", 100, lambda n: (M, "{ " + many(n, "...F#") + " } " + many(n, "fragment F# on Query { q { x#: a } }"))),
     ("merging: objects of an interface", 100, lambda n: (objects(n), "{ i { " + many(n, "... on T# { a }") + " } }")),
     ("merging: objects, and as many fields of the interface", 30, lambda n: (objects(n), "{ i { i { " + many(n, "a#: a") + " } " + many(n, "... on T# { i { b#: a } }") + " } }")),
     ("merging: objects, and as many sets of the interface", 15, lambda n: (objects(n), "{ i { " + many(n, "i { a#: a }") + " " + many(n, "... on T# { i { b#: a } }") + " } }")),
+    ("merging: keys, over objects and sets of the interface", 3, lambda n: (objects(n), "{ i { " + many(n, "x#: i { ...A ...B i { c#: a } }") + " } } " + parents(n))),
+    ("merging: objects and sets of the interface, at two levels", 3, lambda n: (objects(n), "{ i { " + many(n, "i { ...A ...B i { c#: a } }") + " " + many(n, "... on T# { i { ...A d#: a } }") + " } } " + parents(n))),
     ("merging: words", 6, lambda n: (M, words(n))),
     ("faults", 1000, lambda n: (Q, "{ " + many(n, "k#: f(x: $v#)") + " }")),
 ]

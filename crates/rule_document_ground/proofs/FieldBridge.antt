@@ -17,7 +17,6 @@ use Rattle.rule_document_definitions.specs.Selected.{Position, InOperation, InFr
 use Rattle.rule_document_definitions.specs.Reached.{Closed, first, next, InFragmentOf}
 use Rattle.rule_document_definitions.specs.Contents.{content}
 use Rattle.rule_document_ground.proofs.MeantStandings.{StandsFor, standing_at, from_standing, to_standing}
-use Rattle.rule_document_ground.specs.Fields.{AreFieldsOf}
 use Rattle.rule_document_ground.specs.Lent.{field_lent, fields_lent}
 
 none_is : {A B : Type 0} (a : A) → None ≡ Some a → B

@@ -1,24 +1,25 @@
 -- The fields as the functions push them.
-use Rattle.std.proofs.Common.{◌≡◌, ◌↔◌, ◌++◌, ◌∙◌, ℕ, List, [], ◌∷◌, map, true, false, true≢false, refl, ap, sym, subst, append_assoc, append-nil, Contains}
-use Rattle.std.specs.Prelude.{Option, Some, None, is_some, flat_map}
+use Rattle.std.proofs.Common.{◌≡◌, ◌↔◌, ◌++◌, List, [], ◌∷◌, map, false, true≢false, refl, ap, sym, subst, Contains}
+use Rattle.std.specs.Prelude.{Some, None, is_some}
 use Rattle.std.proofs.lemmas.List.{map-append}
 use Rattle.indexmap.specs.IndexMap.{IndexMap}
 use Rattle.graphql_names.specs.NameValue.{NameValue}
-use Rattle.graphql_names.specs.Placed.{Place, Text, Placed, name_tree, node_tree}
+use Rattle.graphql_names.specs.Placed.{Place, Text, name_tree, node_tree}
 use Rattle.graphql_names.specs.declared.node.Node.{Node}
 use Rattle.schema_components.specs.Names.{Entries, entries_of}
 use Rattle.schema_types.specs.TypeView.{name_text}
 use Rattle.document_typed_selections.specs.TypedTree.{TypedSelection, TypedField, TypedSpread, TypedInline, TypedSet}
 use Rattle.document_typed_selections.specs.TypedParts.{as_typed_field, typed_field_node}
-use Rattle.document_typed_selections.specs.declared.selection.Field.{Field}
-use Rattle.document_typed_operations.specs.TypedDocument.{TypedFragment, typed_fragment_tree}
+use Rattle.document_typed_operations.specs.TypedDocument.{typed_fragment_tree}
 use Rattle.document_typed_operations.specs.declared.operation.Fragment.{Fragment}
 use Rattle.document_walks.specs.Reached.{Fragments, Member as TypedMember, IsReached}
 use Rattle.document_walks.specs.WalkView.{fragments_tree}
-use Rattle.document_meaning.specs.MeantTree.{MeantSet, MeantFragment, MeantDocument, meant, meant_of_set}
+use Rattle.document_meaning.specs.MeantTree.{MeantSet, MeantFragment, MeantDocument, meant_of_set}
 use Rattle.rule_document_definitions.specs.Selected.{Position, StandingField}
+use Rattle.rule_document_definitions.specs.Contents.{content}
+use Rattle.rule_document_definitions.specs.Reached.{IsFieldOf}
 use Rattle.rule_document_ground.specs.declared.field_selection.FieldSelection.{FieldSelection}
-use Rattle.rule_document_ground.specs.Fields.{field_of, fields_of, meant_fragments, AreFieldsOf, AddsFieldsOf}
+use Rattle.rule_document_ground.specs.Fields.{field_of, fields_of, meant_fragments}
 use Rattle.rule_document_ground.specs.Lent.{field_lent, fields_lent}
 use Rattle.rule_document_ground.proofs.FieldBridge.{fields_are}
 
@@ -44,16 +45,10 @@ fields_push xs x = map-append field_of xs (x ∷ [])
 
 -- ---- all that is lent
 
--- one more
-pub lent_more : {X Y : Type 0} (of : X → List Y) (old new all : List Y) (e : X) (left rest : List X) → left ≡ e ∷ rest → new ≡ old ++ of e → old ++ flat_map of left ≡ all → new ++ flat_map of rest ≡ all
-lent_more of old new all e left rest first more h =
-    ap (λ l. l ++ flat_map of rest) more
-    ∙ append_assoc old (of e) (flat_map of rest)
-    ∙ ap (λ l. old ++ flat_map of l) (sym first) ∙ h
-
--- no more
-pub lent_all : {X Y : Type 0} (of : X → List Y) (new all : List Y) (left : List X) → left ≡ [] → new ++ flat_map of left ≡ all → new ≡ all
-lent_all of new all left none h = sym (append-nil new) ∙ ap (λ l. new ++ flat_map of l) (sym none) ∙ h
+-- these are the fields of a set, in every document with these fragments and wherever the set stands in it
+abbrev pub AreFieldsOf : {P : Type 0} → Entries (MeantFragment P) → MeantSet P → List (StandingField P) → Type 0
+AreFieldsOf {P} fragments set fields = (d : MeantDocument P) (at : Position) → d.fragments ≡ fragments
+    → (x : StandingField P) → Contains fields x ↔ ((f : StandingField P) × (IsFieldOf d at set f × (content f ≡ x)))
 
 map_twice : {A B C : Type 0} (g : B → C) (f : A → B) (xs : List A) → map g (map f xs) ≡ map (λ x. g (f x)) xs
 map_twice g f [] = refl
@@ -69,7 +64,3 @@ module _ {S : Type 0} (fragments : IndexMap NameValue (Node Fragment) S) where
   are_fields set lent reached d at same =
       fields_are d (entries_of name_text (node_tree typed_fragment_tree) fragments) same at set lent
       (subst (λ (fs : Fragments Place). (e : TypedMember Place) → Contains lent e ↔ IsReached false fs set e) (sym sets_tree) reached)
-
-  pub pushed : (set : TypedSet Place) (lent : List (TypedMember Place)) → ((e : TypedMember Place) → Contains lent e ↔ IsReached false (fragments_tree fragments) set e)
-      → (old new : List FieldSelection) → fields_of new ≡ fields_of old ++ fields_lent lent → AddsFieldsOf (meant_fragments fragments) (meant_of_set set) old new
-  pushed set lent reached old new is = (fields_lent lent, (is, are_fields set lent reached))

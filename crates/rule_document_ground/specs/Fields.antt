@@ -1,5 +1,5 @@
--- What contracts see of a field where it is selected, and the fields of a selection set (GraphQL, October 2021, section 5.3.2).
-use Rattle.std.specs.Prelude.{◌≡◌, ◌↔◌, ◌++◌, List, map, Contains, None}
+-- What contracts see of a field where it is selected (GraphQL, October 2021, section 5.3.2).
+use Rattle.std.specs.Prelude.{List, map, None}
 use Rattle.graphql_names.specs.Node.{content as content_of_node, place}
 use Rattle.graphql_names.specs.Placed.{Place, node_tree}
 use Rattle.tree_type_members.specs.TypeSystemTree.{field_definition_tree, unplaced_field_definition}
@@ -11,11 +11,10 @@ use Rattle.document_typed_selections.specs.TypedTree.{typed_set_tree}
 use Rattle.document_typed_selections.specs.TypedParts.{typed_head}
 use Rattle.document_typed_operations.specs.TypedDocument.{typed_fragment_tree}
 use Rattle.document_typed_operations.specs.declared.operation.Fragment.{Fragment}
-use Rattle.document_meaning.specs.MeantTree.{MeantSet, MeantFragment, MeantDocument, meant_of_set}
+use Rattle.document_meaning.specs.MeantTree.{MeantFragment, meant_of_set}
 use Rattle.document_typing.specs.DocumentView.{meant_by_fragment}
-use Rattle.rule_document_definitions.specs.Selected.{Position, InOperation, StandingField}
-use Rattle.rule_document_definitions.specs.Reached.{IsFieldOf}
-use Rattle.rule_document_definitions.specs.Contents.{content, unplaced_content}
+use Rattle.rule_document_definitions.specs.Selected.{InOperation, StandingField}
+use Rattle.rule_document_definitions.specs.Contents.{unplaced_content}
 use Rattle.indexmap.specs.IndexMap.{IndexMap}
 use Rattle.rule_document_ground.specs.declared.field_selection.FieldSelection.{FieldSelection}
 
@@ -40,12 +39,3 @@ content_of x = unplaced_content (field_of x)
 -- the fragments of a document, each under its name
 abbrev pub meant_fragments : {S : Type 0} → IndexMap NameValue (Node Fragment) S → Entries (MeantFragment Place)
 meant_fragments m = map (λ e. (e.0, meant_by_fragment e.1)) (entries_of name_text (node_tree typed_fragment_tree) m)
-
--- these are the fields of a set, in every document with these fragments and wherever the set stands in it
-abbrev pub AreFieldsOf : {P : Type 0} → Entries (MeantFragment P) → MeantSet P → List (StandingField P) → Type 0
-AreFieldsOf {P} fragments set fields = (d : MeantDocument P) (at : Position) → d.fragments ≡ fragments
-    → (x : StandingField P) → Contains fields x ↔ ((f : StandingField P) × (IsFieldOf d at set f × (content f ≡ x)))
-
--- the fields that were there, as they stood, and behind them those of the set
-abbrev pub AddsFieldsOf : Entries (MeantFragment Place) → MeantSet Place → List FieldSelection → List FieldSelection → Type 0
-AddsFieldsOf fragments set old new = (added : List (StandingField Place)) × ((fields_of new ≡ fields_of old ++ added) × AreFieldsOf fragments set added)

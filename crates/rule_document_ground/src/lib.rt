@@ -9,17 +9,16 @@
 //!   document or field set is typed (`proofs/TypedReached.antt`).
 //! - Contracts see a field that is selected as `field_of`, and its contents as `content_of` (`specs/Fields.antt`): equality
 //!   and hash are those of the contents, so that fields in different places of a document count as one where they say the
-//!   same. `push_fields` gives the fields that a selection set has through fragments (`AreFieldsOf`).
+//!   same.
 //! - What a check adds to a list of breaches of documents is `AddsBroken` of `specs/Broken.antt`, with its lemmas in
 //!   `proofs/AddingBroken.antt`; those on lists of any faults are `rule_definitions`' `Listing`, handed on.
 //! - The names in a set are `noted_names` of `specs/NotedNames.antt`; `has_name` asks for one, `note_name` adds one.
 //!
-//! Begin with `specs/Reach.antt` and `reaching.rt`; and with `field_selection.rt` and `fields.rt`.
+//! Begin with `specs/Reach.antt` and `reaching.rt`; and with `field_selection.rt`.
 #![tactic(auto)]
 
 mod breaches;
 mod field_selection;
-mod fields;
 pub mod laws;
 mod lists;
 mod noted_names;
@@ -27,7 +26,6 @@ mod reaching;
 
 pub use breaches::tell_breach;
 pub use field_selection::FieldSelection;
-pub use fields::push_fields;
 pub use lists::Reach;
 pub use noted_names::{has_name, note_name};
 pub use reaching::reach;

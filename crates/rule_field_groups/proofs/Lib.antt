@@ -6,6 +6,7 @@ pub mod Telling
 pub mod Shaped
 pub mod ShapesTold
 pub mod Lists
+pub mod Walking
 pub mod Sets
 pub mod Under
 pub mod Reaching

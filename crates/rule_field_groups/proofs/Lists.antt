@@ -1,9 +1,9 @@
 -- Lists of one of each content: what sets select.
-use Rattle.std.proofs.Common.{◌≡◌, ◌⊎◌, ◌∙◌, ℕ, ◌+◌, ◌<◌, Bool, true, false, None, Some, ◌||◌, List, [], ◌∷◌, ◌++◌, length, get_or, take, Contains, refl, sym, ap, subst, inl, inr, if◌then◌else◌, true≢false, arith}
+use Rattle.std.proofs.Common.{◌≡◌, ◌⊎◌, ◌∙◌, ℕ, ◌+◌, ◌<◌, Bool, true, false, Some, ◌||◌, List, [], ◌∷◌, ◌++◌, length, get_or, take, Contains, refl, sym, ap, subst, inl, inr, if◌then◌else◌, true≢false, arith}
 use Rattle.std.specs.Prelude.{slice_get}
 use Rattle.std.specs.List.{list_any}
 use Rattle.std.proofs.lemmas.Bool.{cases_lt}
-use Rattle.std.proofs.lemmas.List.{map-append, take_more, length_push, get_or_append_left}
+use Rattle.std.proofs.lemmas.List.{take_more, length_push, get_or_append_left}
 use Rattle.std.proofs.lemmas.List.Elements.{Contains-append_left, Contains-append_right, Contains-append_cases}
 use Rattle.std.proofs.lemmas.Option.{slice_get_within, slice_get-get_or, get_or_from_slice_get}
 use Rattle.std.proofs.Math.Seq.{get_or-append_seam}
@@ -13,17 +13,14 @@ use Rattle.schema_components.specs.Names.{Entries}
 use Rattle.schema_components.proofs.Places.{Contains-rest}
 use Rattle.rule_definitions.proofs.Lists.{not_in_nil, only, Contains-cons, Contains-first}
 use Rattle.rule_cycle_search.specs.Paths.{HasNoRepeat}
-use Rattle.rule_field_groups.specs.declared.below.SelectedSet.{SelectedSet}
-use Rattle.document_meaning.specs.MeantTree.{MeantSet, MeantFragment, MeantDocument}
-use Rattle.rule_document_definitions.specs.Selected.{StandingField, InOperation}
-use Rattle.rule_document_definitions.specs.Contents.{content, unplaced_content}
-use Rattle.rule_document_definitions.specs.Reached.{IsFieldOf}
+use Rattle.document_meaning.specs.MeantTree.{MeantSet, MeantFragment}
+use Rattle.rule_document_definitions.specs.Contents.{unplaced_content}
 use Rattle.rule_document_definitions.proofs.Unplaced.{contains_map, contains_unmap}
-use Rattle.rule_document_ground.specs.Fields.{field_of, fields_of, content_of, AddsFieldsOf}
+use Rattle.rule_document_ground.specs.Fields.{field_of, fields_of, content_of}
 use Rattle.rule_document_ground.specs.declared.field_selection.FieldSelection.{FieldSelection}
 use Rattle.rule_document_ground.proofs.ContentEquality.{selection_eq, selection_eq-Decides}
 use Rattle.rule_document_definitions.specs.PlainFields.{PlainField}
-use Rattle.rule_field_groups.specs.Below.{contents_of, meant_at, meant_sets, AreSelected, IsDistinctOf, IsMerged}
+use Rattle.rule_field_groups.specs.Below.{contents_of, AreSelected, IsDistinctOf, IsMerged}
 
 pub any_among : {X : Type 0} (test : X → Bool) (xs : List X) → list_any test xs ≡ true → (y : X) × (Contains xs y × (test y ≡ true))
 any_among test [] e = absurd (true≢false (sym e))
@@ -142,35 +139,6 @@ distinct_step list old new i x h e is so_far =
     subst (λ l. IsDistinctOf l new) (sym (taken_more list i x h e)) (subst (IsDistinctOf (take i list ++ x ∷ [])) (sym is) (distinct_more (take i list) old x so_far))
 
 -- ---- what sets select
-
-none_selected : (fragments : Entries (MeantFragment Place)) → AreSelected fragments [] []
-none_selected fragments d same x = (λ c. not_in_nil x c, λ h. not_in_nil h.0 h.1.0)
-
-pub selected_begun : (fragments : Entries (MeantFragment Place)) (found : List FieldSelection) → found ≡ [] → AreSelected fragments [] (fields_of found)
-selected_begun fragments found e = subst (λ l. AreSelected fragments [] (fields_of l)) (sym e) (none_selected fragments)
-
--- a content that one set selects
-abbrev IsIn : MeantDocument Place → MeantSet Place → StandingField Place → Type 0
-IsIn d set x = (f : StandingField Place) × (IsFieldOf d (InOperation None) set f × (content f ≡ x))
-
-selected_more : (fragments : Entries (MeantFragment Place)) (taken : List (MeantSet Place)) (set : MeantSet Place) (old new : List FieldSelection)
-    → AreSelected fragments taken (fields_of old) → AddsFieldsOf fragments set old new → AreSelected fragments (taken ++ set ∷ []) (fields_of new)
-selected_more fragments taken set old new so_far (added, (is, are)) d same x = (
-  λ c. elim (Contains-append_cases (fields_of old) added x (subst (λ l. Contains l x) is c)) [
-    | inl a ↦ let s = (so_far d same x).0 a in (s.0, (Contains-append_left taken (set ∷ []) s.0 s.1.0, s.1.1))
-    | inr b ↦ (set, (in_last taken set, (are d (InOperation None) same x).0 b))
-  ],
-  λ h. subst (λ l. Contains l x) (sym is) (elim (Contains-append_cases taken (set ∷ []) h.0 h.1.0) [
-    | inl a ↦ Contains-append_left (fields_of old) added x ((so_far d same x).1 (h.0, (a, h.1.1)))
-    | inr b ↦ Contains-append_right (fields_of old) added x ((are d (InOperation None) same x).1 (subst (λ s. IsIn d s x) (only set h.0 b) h.1.1))
-  ]),
-)
-
-pub selected_step : (fragments : Entries (MeantFragment Place)) (sets : List SelectedSet) (old new : List FieldSelection) (i : ℕ) (x : SelectedSet) → i < length sets → x ≡ get_or sets i x
-    → AddsFieldsOf fragments (meant_at x) old new → AreSelected fragments (meant_sets (take i sets)) (fields_of old) → AreSelected fragments (meant_sets (take (i + 1) sets)) (fields_of new)
-selected_step fragments sets old new i x h e adds so_far =
-    subst (λ l. AreSelected fragments l (fields_of new)) (sym (ap meant_sets (taken_more sets i x h e) ∙ map-append meant_at (take i sets) (x ∷ [])))
-    (selected_more fragments (meant_sets (take i sets)) (meant_at x) old new so_far adds)
 
 pub merged : (fragments : Entries (MeantFragment Place)) (sets : List (MeantSet Place)) (found kept : List FieldSelection) → AreSelected fragments sets (fields_of found) → IsDistinctOf found kept → IsMerged fragments sets kept
 merged fragments sets found kept are distinct d same = record {

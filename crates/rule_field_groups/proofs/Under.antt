@@ -1,12 +1,12 @@
 -- The lists of sets below the fields of one key.
-use Rattle.std.proofs.Common.{◌≡◌, ◌⊎◌, ◌∙◌, ℕ, ◌+◌, ◌<◌, ◌==◌, Bool, true, false, List, [], ◌∷◌, ◌++◌, length, get_or, take, map, Vec, Contains, refl, sym, ap, subst, inl, inr, append-nil, true≢false, arith}
+use Rattle.std.proofs.Common.{◌≡◌, ◌⊎◌, ◌∙◌, ℕ, ◌+◌, ◌<◌, ◌==◌, true, false, List, [], ◌∷◌, ◌++◌, length, get_or, take, map, Vec, Contains, refl, sym, ap, subst, inl, inr, append-nil, append_assoc, true≢false, arith}
 use Rattle.std.specs.declared.alloc.Global.{Global}
-use Rattle.std.specs.List.{list_any}
 use Rattle.std.proofs.lemmas.Bool.Decides.{Decides-eqb}
 use Rattle.std.proofs.lemmas.List.{map-append}
 use Rattle.std.proofs.lemmas.List.Elements.{Contains-append_left, Contains-append_right, Contains-append_cases}
 use Rattle.graphql_names.specs.Placed.{Place}
-use Rattle.rule_definitions.proofs.Lists.{not_in_nil, only, Contains-first}
+use Rattle.schema_components.proofs.Places.{Contains-rest}
+use Rattle.rule_definitions.proofs.Lists.{not_in_nil, only, Contains-cons, Contains-first}
 use Rattle.document_meaning.specs.MeantTree.{MeantSet}
 use Rattle.document_meaning.specs.Unplaced.{unplaced_set}
 use Rattle.rule_document_definitions.specs.Selected.{StandingField}
@@ -17,8 +17,8 @@ use Rattle.rule_field_groups.specs.declared.below.SelectedSet.{SelectedSet}
 use Rattle.rule_field_groups.specs.declared.groups.OwnFields.{OwnFields}
 use Rattle.rule_field_groups.specs.KeyGroups.{with_own}
 use Rattle.rule_field_groups.specs.Below.{meant_at, meant_sets, plain_sets, IsBare, AreSetsOf, NotesSet}
-use Rattle.rule_field_groups.specs.Under.{Sets, all_sets, joined, AreOf, IsAmong, AreFurther, AddsFurther, HaveBoth, BelowSoFar, JoinsEach, AreListsBelow}
-use Rattle.rule_field_groups.proofs.Counts.{front_with}
+use Rattle.rule_field_groups.specs.Under.{Sets, all_sets, joined, each_with, twos_of, JoinsTwos, HaveAnyTwo, PutsTogether, AreOf, IsAmong, AreFurther, AddsFurther, HaveBoth, BelowSoFar, JoinsEach, AreListsBelow}
+use Rattle.rule_field_groups.proofs.Counts.{front_with, flat_push}
 use Rattle.rule_field_groups.proofs.Lists.{taken_more}
 use Rattle.rule_field_groups.proofs.Sets.{among_more}
 use Rattle.rule_field_groups.proofs.Parts.{part_of_shared, part_of_own, of_parts, own_fields_parts}
@@ -80,12 +80,82 @@ joins_none first (x ∷ xs) lists e = absurd (omega (arith, (Decides-eqb (length
 abbrev items : Vec SelectedSet Global → List SelectedSet
 items v = v.items
 
+pub pushed : (old new : List (Vec SelectedSet Global)) (list : Vec SelectedSet Global) (sets : List SelectedSet) → list.items ≡ sets → new ≡ old ++ list ∷ [] → all_sets (map items new) ≡ all_sets (map items old) ++ meant_sets sets ∷ []
+pushed old new list sets has is =
+    ap (λ l. all_sets (map items l)) is ∙ ap all_sets (map-append items old (list ∷ [])) ∙ map-append meant_sets (map items old) (list.items ∷ [])
+    ∙ ap (λ (l : List SelectedSet). all_sets (map items old) ++ meant_sets l ∷ []) has
+
 pub joins_some : (first further : List SelectedSet) → (length further == 0) ≡ false → (old new : List (Vec SelectedSet Global)) (list : Vec SelectedSet Global) → list.items ≡ first ++ further → new ≡ old ++ list ∷ []
     → all_sets (map items new) ≡ all_sets (map items old) ++ joined (meant_sets first) (meant_sets further)
 joins_some first [] e old new list has is = absurd (true≢false (sym ((Decides-eqb 0 0).1 refl) ∙ e))
 joins_some first (x ∷ xs) e old new list has is =
-    ap (λ l. all_sets (map items l)) is ∙ ap all_sets (map-append items old (list ∷ [])) ∙ map-append meant_sets (map items old) (list.items ∷ [])
-    ∙ ap (λ (l : List SelectedSet). all_sets (map items old) ++ meant_sets l ∷ []) has ∙ ap (λ l. all_sets (map items old) ++ l ∷ []) (map-append meant_at first (x ∷ xs))
+    pushed old new list (first ++ x ∷ xs) has is ∙ ap (λ l. all_sets (map items old) ++ l ∷ []) (map-append meant_at first (x ∷ xs))
+
+-- each of the first ones with each of the others
+two_there : (first then' : Sets) (v w : MeantSet Place) → Contains first v → Contains then' w → Contains (twos_of first then') (v ∷ w ∷ [])
+two_there first [] v w a b = not_in_nil w b
+two_there first (x ∷ xs) v w a b = elim (Contains-cons x xs w b) [
+  | inl e ↦ Contains-append_left (each_with first x) (twos_of first xs) (v ∷ w ∷ []) (subst (λ y. Contains (each_with first y) (v ∷ w ∷ [])) (sym e) (contains_map (λ u. u ∷ w ∷ []) first v a))
+  | inr r ↦ Contains-append_right (each_with first x) (twos_of first xs) (v ∷ w ∷ []) (two_there first xs v w a r)
+]
+
+of_two : (first : Sets) (x : MeantSet Place) (sets : Sets) → Contains (each_with first x) sets → (v : MeantSet Place) → Contains sets v → Contains first v ⊎ (v ≡ x)
+of_two first x sets c v k =
+    let u = contains_unmap (λ (w : MeantSet Place). w ∷ x ∷ []) first sets c in
+    elim (Contains-cons u.0 (x ∷ []) v (subst (λ (l : Sets). Contains l v) (sym u.1.1) k)) [
+      | inl e ↦ inl (subst (Contains first) e u.1.0)
+      | inr r ↦ inr (only x v r)
+    ]
+
+of_twos : (first then' : Sets) (sets : Sets) → Contains (twos_of first then') sets → (v : MeantSet Place) → Contains sets v → Contains (first ++ then') v
+of_twos first [] sets c v k = not_in_nil sets c
+of_twos first (x ∷ xs) sets c v k = elim (Contains-append_cases (each_with first x) (twos_of first xs) sets c) [
+  | inl a ↦ elim (of_two first x sets a v k) [
+    | inl i ↦ Contains-append_left first (x ∷ xs) v i
+    | inr e ↦ Contains-append_right first (x ∷ xs) v (Contains-first x xs v (sym e))
+  ]
+  | inr b ↦ elim (Contains-append_cases first xs v (of_twos first xs sets b v k)) [
+    | inl i ↦ Contains-append_left first (x ∷ xs) v i
+    | inr r ↦ Contains-append_right first (x ∷ xs) v (Contains-rest x xs v r)
+  ]
+]
+
+-- set by set
+pub with_more : (last : SelectedSet) (sets : List SelectedSet) (i : ℕ) (x : SelectedSet) → i < length sets → x ≡ get_or sets i x → (old mid new : List Sets) → mid ≡ old ++ each_with (meant_sets (take i sets)) (meant_at last)
+    → new ≡ mid ++ (meant_at x ∷ meant_at last ∷ []) ∷ [] → new ≡ old ++ each_with (meant_sets (take (i + 1) sets)) (meant_at last)
+with_more last sets i x h e old mid new begun is =
+    let two = λ (w : MeantSet Place). w ∷ meant_at last ∷ [] in
+    is ∙ ap (λ l. l ++ two (meant_at x) ∷ []) begun ∙ append_assoc old (map two (meant_sets (take i sets))) (two (meant_at x) ∷ [])
+    ∙ ap (λ l. old ++ l) (sym (ap (map two) (front_with meant_at sets i x h e) ∙ map-append two (meant_sets (take i sets)) (meant_at x ∷ [])))
+
+pub twos_more : (first : Sets) (sets : List SelectedSet) (i : ℕ) (x : SelectedSet) → i < length sets → x ≡ get_or sets i x → (old mid new : List Sets) → mid ≡ old ++ twos_of first (meant_sets (take i sets))
+    → new ≡ mid ++ each_with first (meant_at x) → new ≡ old ++ twos_of first (meant_sets (take (i + 1) sets))
+twos_more first sets i x h e old mid new begun is =
+    is ∙ ap (λ l. l ++ each_with first (meant_at x)) begun ∙ append_assoc old (twos_of first (meant_sets (take i sets))) (each_with first (meant_at x))
+    ∙ ap (λ l. old ++ l) (sym (ap (twos_of first) (front_with meant_at sets i x h e) ∙ flat_push (each_with first) (meant_sets (take i sets)) (meant_at x)))
+
+-- in one list, or apart
+pub joined_together : (first then' : Sets) (old new : List Sets) → new ≡ old ++ joined first then' → PutsTogether first then' old new
+joined_together first then' old new is = record {
+  added = joined first then';
+  is = is;
+  within = λ sets c v k. subst (λ (l : Sets). Contains l v) (of_joined first then' sets c) k;
+  both = λ v w i j. (first ++ then', (some_joined first then' w (contains_map unplaced_set then' w j), (i, Contains-append_right first then' w j)));
+}
+
+pub twos_together : (first then' : Sets) (old new : List Sets) → JoinsTwos first then' old new → PutsTogether first then' old new
+twos_together first then' old new is = record {
+  added = joined [] then' ++ twos_of first then';
+  is = is ∙ append_assoc old (joined [] then') (twos_of first then');
+  within = λ sets c v k. elim (Contains-append_cases (joined [] then') (twos_of first then') sets c) [
+    | inl a ↦ Contains-append_right first then' v (subst (λ (l : Sets). Contains l v) (of_joined [] then' sets a) k)
+    | inr b ↦ of_twos first then' sets b v k
+  ];
+  both = λ v w i j. elim (Contains-append_cases first then' v i) [
+    | inl a ↦ (v ∷ w ∷ [], (Contains-append_right (joined [] then') (twos_of first then') (v ∷ w ∷ []) (two_there first then' v w a j), (Contains-first v (w ∷ []) v refl, Contains-rest v (w ∷ []) w (Contains-first w [] w refl))))
+    | inr b ↦ (then', (Contains-append_left (joined [] then') (twos_of first then') then' (some_joined [] then' w (contains_map unplaced_set then' w j)), (b, j)))
+  ];
+}
 
 -- the list of what is shared
 pub shared_below : (shared : List (StandingField Place)) (first : Sets) (lists : List Sets) → AreSetsOf shared first → lists ≡ [] ++ joined [] first → BelowSoFar shared first [] lists
@@ -97,21 +167,21 @@ shared_below shared first lists are is = record {
 
 -- and of one type more
 pub own_below : (shared own : List (StandingField Place)) (first then' : Sets) (owns : List (List (StandingField Place))) (old new : List Sets) → AreSetsOf shared first → AreFurther own first then'
-    → new ≡ old ++ joined first then' → BelowSoFar shared first owns old → BelowSoFar shared first (owns ++ own ∷ []) new
-own_below shared own first then' owns old new are further is so_far = record {
-  under = λ sets c. elim (Contains-append_cases old (joined first then') sets (subst (λ l. Contains l sets) is c)) [
+    → PutsTogether first then' old new → BelowSoFar shared first owns old → BelowSoFar shared first (owns ++ own ∷ []) new
+own_below shared own first then' owns old new are further puts so_far = record {
+  under = λ sets c. elim (Contains-append_cases old puts.added sets (subst (λ l. Contains l sets) puts.is c)) [
     | inl a ↦ elim (so_far.under sets a) [ inl of ↦ inl of | inr h ↦ inr (h.0, (Contains-append_left owns (own ∷ []) h.0 h.1.0, h.1.1)) ]
-    | inr b ↦ inr (own, (Contains-append_right owns (own ∷ []) own (Contains-first own [] own refl), λ v k. of_both v (subst (λ (l : Sets). Contains l v) (of_joined first then' sets b) k)))
+    | inr b ↦ inr (own, (Contains-append_right owns (own ∷ []) own (Contains-first own [] own refl), λ v k. of_both v (puts.within sets b v k)))
   ];
   shared_there = λ v c. more first (so_far.shared_there v c);
   own_there = λ o c. elim (Contains-append_cases owns (own ∷ []) o c) [
-    | inl a ↦ let t = so_far.own_there o a in (t.0, (t.1.0, λ v k. more (first ++ t.0) (t.1.1 v k)))
-    | inr b ↦ (then', ((λ f k. further.covers f (subst (λ l. Contains l f) (only own o b) k)), λ v k. subst (λ l. Contains l (first ++ then')) (sym is) (Contains-append_right old (joined first then') (first ++ then') (some_joined first then' v k))))
+    | inl a ↦ let t = so_far.own_there o a in (t.0, (t.1.0, λ v w i j. let s = t.1.1 v w i j in (s.0, (more s.0 s.1.0, s.1.1))))
+    | inr b ↦ (then', ((λ f k. further.covers f (subst (λ l. Contains l f) (only own o b) k)), λ v w i j. let s = puts.both v w i j in (s.0, (subst (λ l. Contains l s.0) (sym puts.is) (Contains-append_right old puts.added s.0 s.1.0), s.1.1))))
   ];
 }
   where
     more : (sets : Sets) → Contains old sets → Contains new sets
-    more sets c = subst (λ l. Contains l sets) (sym is) (Contains-append_left old (joined first then') sets c)
+    more sets c = subst (λ l. Contains l sets) (sym puts.is) (Contains-append_left old puts.added sets c)
 
     of_both : (v : MeantSet Place) → Contains (first ++ then') v → (f : StandingField Place) × (Contains (shared ++ own) f × (f.set ≡ v))
     of_both v c = elim (Contains-append_cases first then' v c) [
@@ -131,13 +201,23 @@ module _ (shared : List (StandingField Place)) (first : Sets) (owns : List (List
   abbrev IsPlaced : Sets → StandingField Place → Type 0
   IsPlaced then' f = IsBare f.set ⊎ (IsAmong first f.set ⊎ IsAmong then' f.set)
 
-  have_both : (then' : Sets) → ((v : MeantSet Place) → IsAmong then' v → Contains lists (first ++ then')) → (f g : StandingField Place) → IsPlaced then' f → IsPlaced then' g → HaveBoth lists f g
+  said_among : (sets : Sets) (u v : MeantSet Place) → Contains sets u → unplaced_set u ≡ unplaced_set v → IsAmong sets v
+  said_among sets u v c e = subst (Contains (plain_sets sets)) e (contains_map unplaced_set sets u c)
+
+  have_two : (then' : Sets) → HaveAnyTwo first then' lists → (v w : MeantSet Place) → IsAmong (first ++ then') v → IsAmong then' w → (sets : Sets) × (Contains lists sets × (IsAmong sets v × IsAmong sets w))
+  have_two then' there v w a b =
+      let x = contains_unmap unplaced_set (first ++ then') (unplaced_set v) a in
+      let y = contains_unmap unplaced_set then' (unplaced_set w) b in
+      let s = there x.0 y.0 x.1.0 y.1.0 in
+      (s.0, (s.1.0, (said_among s.0 x.0 v s.1.1.0 x.1.1, said_among s.0 y.0 w s.1.1.1 y.1.1)))
+
+  have_both : (then' : Sets) → HaveAnyTwo first then' lists → (f g : StandingField Place) → IsPlaced then' f → IsPlaced then' g → HaveBoth lists f g
   have_both then' there f g (inl bare) q = inl bare
   have_both then' there f g (inr p) (inl bare) = inr (inl bare)
   have_both then' there f g (inr (inl a)) (inr (inl b)) = inr (inr (first, (so_far.shared_there f.set a, (a, b))))
-  have_both then' there f g (inr (inl a)) (inr (inr b)) = inr (inr (first ++ then', (there g.set b, (among_left then' f.set a, among_right then' g.set b))))
-  have_both then' there f g (inr (inr a)) (inr (inl b)) = inr (inr (first ++ then', (there f.set a, (among_right then' f.set a, among_left then' g.set b))))
-  have_both then' there f g (inr (inr a)) (inr (inr b)) = inr (inr (first ++ then', (there f.set a, (among_right then' f.set a, among_right then' g.set b))))
+  have_both then' there f g (inr (inl a)) (inr (inr b)) = inr (inr (have_two then' there f.set g.set (among_left then' f.set a) b))
+  have_both then' there f g (inr (inr a)) (inr (inl b)) = let s = have_two then' there g.set f.set (among_left then' g.set b) a in inr (inr (s.0, (s.1.0, (s.1.1.1, s.1.1.0))))
+  have_both then' there f g (inr (inr a)) (inr (inr b)) = inr (inr (have_two then' there f.set g.set (among_right then' f.set a) b))
 
   placed : (then' : Sets) (own : List (StandingField Place)) → ((f : StandingField Place) → Contains own f → IsPlaced then' f) → (f : StandingField Place) → Contains (shared ++ own) f → IsPlaced then' f
   placed then' own each f c = elim (Contains-append_cases shared own f c) [
@@ -159,7 +239,7 @@ module _ (shared : List (StandingField Place)) (first : Sets) (owns : List (List
 
       below : (group : List (StandingField Place)) → Contains (with_own shared owns) group → (f g : StandingField Place) → Contains group f → Contains group g → HaveBoth lists f g
       below group c f g a b = elim (of_parts shared owns group c) [
-        | inl e ↦ have_both [] (λ v k. not_in_nil (unplaced_set v) k) f g (alone f (subst (λ l. Contains l f) e a)) (alone g (subst (λ l. Contains l g) e b))
+        | inl e ↦ have_both [] (λ v w i j. not_in_nil w j) f g (alone f (subst (λ l. Contains l f) e a)) (alone g (subst (λ l. Contains l g) e b))
         | inr (own, (there, e)) ↦
             let t = so_far.own_there own there in
             have_both t.0 t.1.1 f g (placed t.0 own t.1.0 f (subst (λ l. Contains l f) e a)) (placed t.0 own t.1.0 g (subst (λ l. Contains l g) e b))
@@ -170,10 +250,10 @@ pub none_joined : (first : Sets) (lists : List Sets) → JoinsEach first [] list
 none_joined first lists shared are so_far = so_far
 
 pub joined_more : (first : Sets) (owns : List OwnFields) (i : ℕ) (x : OwnFields) → i < length owns → x ≡ get_or owns i x → (further : Sets) (old mid new : List Sets) → AreFurther (fields_of x.fields.items) first further
-    → new ≡ mid ++ joined first further → JoinsEach first (map (λ o. fields_of o.fields.items) (take i owns)) old mid → JoinsEach first (map (λ o. fields_of o.fields.items) (take (i + 1) owns)) old new
-joined_more first owns i x h e further old mid new are is so_far shared of begun =
+    → PutsTogether first further mid new → JoinsEach first (map (λ o. fields_of o.fields.items) (take i owns)) old mid → JoinsEach first (map (λ o. fields_of o.fields.items) (take (i + 1) owns)) old new
+joined_more first owns i x h e further old mid new are puts so_far shared of begun =
     subst (λ ls. BelowSoFar shared first ls new) (sym (front_with (λ (o : OwnFields). fields_of o.fields.items) owns i x h e))
-    (own_below shared (fields_of x.fields.items) first further (map (λ o. fields_of o.fields.items) (take i owns)) mid new of are is (so_far shared of begun))
+    (own_below shared (fields_of x.fields.items) first further (map (λ o. fields_of o.fields.items) (take i owns)) mid new of are puts (so_far shared of begun))
 
 -- the lists below the fields of one key
 pub parts_below : (shared : List FieldSelection) (owns : List OwnFields) (first : Sets) (begun lists : List Sets) → AreSetsOf (fields_of shared) first → begun ≡ [] ++ joined [] first

@@ -4,6 +4,7 @@ pub mod Grouped
 pub mod KeyGroups
 pub mod Passes
 pub mod Compared
+pub mod Walked
 pub mod Below
 pub mod Under
 pub mod Own

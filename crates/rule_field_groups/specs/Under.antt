@@ -1,5 +1,5 @@
 -- Private: leads to `FieldsMerge`. The lists of sets below the fields of one key.
-use Rattle.std.specs.Prelude.{◌≡◌, ◌⊎◌, ◌++◌, ◌∷◌, [], List, map, Contains, Vec}
+use Rattle.std.specs.Prelude.{◌≡◌, ◌⊎◌, ◌++◌, ◌∷◌, [], List, map, flat_map, Contains, Vec}
 use Rattle.std.specs.declared.alloc.Global.{Global}
 use Rattle.graphql_names.specs.Placed.{Place}
 use Rattle.document_meaning.specs.MeantTree.{MeantSet}
@@ -27,6 +27,29 @@ joined first (x ∷ xs) = (first ++ x ∷ xs) ∷ []
 abbrev pub JoinsSets : Sets → Sets → List Sets → List Sets → Type 0
 JoinsSets first then' old new = new ≡ old ++ joined first then'
 
+-- each of these sets with the last
+abbrev pub each_with : Sets → MeantSet Place → List Sets
+each_with sets v = map (λ w. w ∷ v ∷ []) sets
+
+-- each of the first ones with each of those
+abbrev pub twos_of : Sets → Sets → List Sets
+twos_of first then' = flat_map (each_with first) then'
+
+-- those are a list, if there are some, and each of the first ones with each of them
+abbrev pub JoinsTwos : Sets → Sets → List Sets → List Sets → Type 0
+JoinsTwos first then' old new = new ≡ (old ++ joined [] then') ++ twos_of first then'
+
+-- one of these lists has any two sets, if the second is one of those
+abbrev pub HaveAnyTwo : Sets → Sets → List Sets → Type 0
+HaveAnyTwo first then' lists = (v w : MeantSet Place) → Contains (first ++ then') v → Contains then' w → (sets : Sets) × (Contains lists sets × (Contains sets v × Contains sets w))
+
+-- such lists of no other sets come last
+pub record PutsTogether (first then' : Sets) (old new : List Sets) : Type 0 where
+  pub added : List Sets
+  pub is : new ≡ old ++ added
+  pub within : (sets : Sets) → Contains added sets → (v : MeantSet Place) → Contains sets v → Contains (first ++ then') v
+  pub both : HaveAnyTwo first then' added
+
 -- each of the sets is that of a field of the group
 abbrev pub AreOf : List (StandingField Place) → Sets → Type 0
 AreOf group sets = (v : MeantSet Place) → Contains sets v → (f : StandingField Place) × (Contains group f × (f.set ≡ v))
@@ -53,7 +76,7 @@ pub record BelowSoFar (shared : List (StandingField Place)) (first : Sets) (owns
   pub under : (sets : Sets) → Contains lists sets → AreOf shared sets ⊎ ((own : List (StandingField Place)) × (Contains owns own × AreOf (shared ++ own) sets))
   pub shared_there : (v : MeantSet Place) → IsAmong first v → Contains lists first
   pub own_there : (own : List (StandingField Place)) → Contains owns own → (further : Sets) × (((f : StandingField Place) → Contains own f → IsBare f.set ⊎ (IsAmong first f.set ⊎ IsAmong further f.set))
-      × ((v : MeantSet Place) → IsAmong further v → Contains lists (first ++ further)))
+      × HaveAnyTwo first further lists)
 
 abbrev pub JoinsEach : Sets → List (List (StandingField Place)) → List Sets → List Sets → Type 0
 JoinsEach first owns old new = (shared : List (StandingField Place)) → AreSetsOf shared first → BelowSoFar shared first [] old → BelowSoFar shared first owns new

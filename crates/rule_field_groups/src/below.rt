@@ -1,16 +1,21 @@
 //! What selection sets select, and the sets of a group.
-ghost use Rattle.std.specs.Prelude.{map, IfOk, OnOk};
+ghost use Rattle.std.specs.Prelude.{◌≡◌, ◌++◌, ◌∷◌, [], map, IfOk, OnOk};
 ghost use Rattle.rule_document_ground.specs.Fields.{field_of, fields_of, meant_fragments};
-ghost use Rattle.rule_field_groups.specs.Below.{meant_sets, AreSelected, IsDistinctOf, IsMerged, AreSetsOf, NotesSet};
-ghost use Rattle.rule_field_groups.specs.Under.{sets_in, AreFurther, AddsFurther, JoinsSets, JoinsEach, AreListsBelow};
+ghost use Rattle.rule_field_groups.specs.Below.{meant_at, meant_sets, AreSelected, IsDistinctOf, IsMerged, AreSetsOf, NotesSet};
+ghost use Rattle.rule_field_groups.specs.Under.{sets_in, each_with, AreFurther, AddsFurther, JoinsSets, JoinsTwos, PutsTogether, JoinsEach, AreListsBelow};
 ghost use Rattle.rule_field_groups.specs.KeyGroups.{parts_of};
 
 use crate::groups::{KeyGroup, OwnFields};
+use crate::set_walk::SetWalk;
 use document_typed_operations::FragmentMap;
 use document_typed_selections::SelectionSet;
 use indexmap::IndexSet;
-use rule_document_ground::{FieldSelection, push_fields};
+use rule_document_ground::FieldSelection;
 use std::alloc::{AllocError, Global};
+
+/// Lists of shared sets and others are made whole if they are for so few types, or at most so many times as long as the others: so
+/// the lists below a group are in all not much longer than the group is.
+const FEW: usize = 4;
 
 /// A selection set, for the fields that it selects. Equality and hash are those of what it says, ignoring places.
 #[derive(Clone, Copy, PartialEq, Eq, Hash)]
@@ -18,7 +23,7 @@ pub struct SelectedSet<'doc> {
     pub set: &'doc SelectionSet,
 }
 
-/// What these sets select, through fragments, all of it.
+/// What these sets select, through fragments, all of it: set by set, but no fragment twice.
 fn all_selected<'doc>(
     alloc: Global,
     fragments: &'doc FragmentMap,
@@ -26,11 +31,15 @@ fn all_selected<'doc>(
 ) -> Result<Vec<FieldSelection<'doc>>, AllocError>
     ensures { IfOk result (λ found. AreSelected (meant_fragments fragments.now) (meant_sets sets.now) (fields_of found.items)) }
 {
-    let mut found = Vec::new(alloc);
+    let mut walk = SetWalk {
+        fields: Vec::new(alloc),
+        spread: IndexSet::new(alloc),
+        left: Vec::new(alloc),
+    };
     for set in sets {
-        push_fields(set.set, fragments, &mut found)?;
+        walk.walk(set.set, fragments)?;
     }
-    Ok(found)
+    Ok(walk.fields)
 }
 
 /// The list without those of which an earlier one says the same.
@@ -137,7 +146,70 @@ fn push_joined<'doc>(
     Ok(())
 }
 
-/// Adds a list for each object type: the shared sets, and the further ones of its fields. A type without further ones has none.
+/// Adds a list of two sets.
+fn push_two<'doc>(
+    one: SelectedSet<'doc>,
+    other: SelectedSet<'doc>,
+    lists: &mut Vec<Vec<SelectedSet<'doc>>>,
+) -> Result<(), AllocError>
+    ensures { OnOk result (sets_in lists.new ≡ sets_in lists.old ++ (meant_at one.entry ∷ meant_at other.entry ∷ []) ∷ []) }
+{
+    let two = Vec::from_slice(*lists.allocator(), &[one, other])?;
+    lists.push(two)?;
+    Ok(())
+}
+
+/// Adds a list of two for each of the sets: it and the last.
+fn push_each_with<'doc>(
+    sets: &[SelectedSet<'doc>],
+    last: SelectedSet<'doc>,
+    lists: &mut Vec<Vec<SelectedSet<'doc>>>,
+) -> Result<(), AllocError>
+    ensures { OnOk result (sets_in lists.new ≡ sets_in lists.old ++ each_with (meant_sets sets.now) (meant_at last.entry)) }
+{
+    for set in sets {
+        push_two(*set, last, lists)?;
+    }
+    Ok(())
+}
+
+/// Adds a list of the further sets, unless there are none, and lists of two: each of the first sets with each of these.
+fn push_apart<'doc>(
+    first: &[SelectedSet<'doc>],
+    further: &[SelectedSet<'doc>],
+    lists: &mut Vec<Vec<SelectedSet<'doc>>>,
+) -> Result<(), AllocError>
+    ensures { OnOk result (JoinsTwos (meant_sets first.now) (meant_sets further.now) (sets_in lists.old) (sets_in lists.new)) }
+{
+    push_joined(&[], further, lists)?;
+    for set in further {
+        push_each_with(first, *set, lists)?;
+    }
+    Ok(())
+}
+
+/// Whether the first sets stand with the further ones in one list, where there are lists for so many types.
+fn is_short(types: usize, first: usize, further: usize) -> bool {
+    types <= FEW || first / FEW <= further
+}
+
+/// Adds lists of the first sets and the further ones, for one of so many types: one of them has any two sets, if one of these is a
+/// further one.
+fn push_together<'doc>(
+    types: usize,
+    first: &[SelectedSet<'doc>],
+    further: &[SelectedSet<'doc>],
+    lists: &mut Vec<Vec<SelectedSet<'doc>>>,
+) -> Result<(), AllocError>
+    ensures { OnOk result (PutsTogether (meant_sets first.now) (meant_sets further.now) (sets_in lists.old) (sets_in lists.new)) }
+{
+    if is_short(types, first.len(), further.len()) {
+        return push_joined(first, further, lists);
+    }
+    push_apart(first, further, lists)
+}
+
+/// Adds lists for each object type, of the shared sets and the further ones of its fields. A type without further ones has none.
 fn push_own_lists<'doc>(
     owns: &[OwnFields<'doc>],
     shared: &IndexSet<SelectedSet<'doc>>,
@@ -148,13 +220,13 @@ fn push_own_lists<'doc>(
     let alloc = *lists.allocator();
     for own in owns {
         let sets = further_sets(alloc, &own.fields, shared)?;
-        push_joined(shared.as_slice(), sets.as_slice(), lists)?;
+        push_together(owns.len(), shared.as_slice(), sets.as_slice(), lists)?;
     }
     Ok(())
 }
 
-/// The lists of sets below the fields of one key: the shared sets, and for each object type these and its own. For any two
-/// fields that go together, one of the lists has the sets of both.
+/// The lists of sets below the fields of one key: the shared sets, and for each object type these and its own, in one list or in
+/// lists of two. For any two fields that go together, one of the lists has the sets of both.
 pub fn lists_below<'doc>(
     alloc: Global,
     group: &KeyGroup<'doc>,

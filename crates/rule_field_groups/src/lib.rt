@@ -7,16 +7,17 @@
 //! For the layer above: `groups_of` gives the groups of a list in a pass, of which the parts are groups of fields that go
 //! together (`AreGroups`, over `Together` of `specs/Passes.antt`, and `parts_of` of `specs/KeyGroups.antt`);
 //! `check_key_group` adds what of the parts of a group does not agree (`AddsEach`), and counts how often shapes were compared
-//! (`specs/Compared.antt`); `merged_list` gives what sets select, each content once (`IsMerged` of `specs/Below.antt`),
-//! `lists_below` the lists of sets below a group (`AreListsBelow` of `specs/Under.antt`). `own_fields_of` and `spread_sets_of`
-//! give what a set selects itself and what it spreads (`specs/Own.antt`).
+//! (`specs/Compared.antt`); `merged_list` gives what sets select, each content once (`IsMerged` of `specs/Below.antt`), by one
+//! walk over all of them in which no fragment is walked twice (`set_walk.rt`), `lists_below` the lists of sets below a group
+//! (`AreListsBelow` of `specs/Under.antt`). `own_fields_of` and `spread_sets_of` give what a set selects itself and what it
+//! spreads (`specs/Own.antt`).
 //!
 //! The fields that a set has through fragments are the own fields of the sets that spreads lead to from it: of inline
 //! fragments, which are spread where they stand, and of fragments (`laws::fields_through_spreads`). So fields are found by
 //! steps from set to set, and no set is scanned twice. Own fields and spread sets are the same without places
 //! (`proofs/Plain.antt`).
 //!
-//! Begin with `groups.rt` and `conflicts.rt`, then `below.rt` and `own.rt`.
+//! Begin with `groups.rt` and `conflicts.rt`, then `below.rt`, `set_walk.rt` and `own.rt`.
 #![tactic(auto)]
 
 mod below;
@@ -26,6 +27,7 @@ mod kinds;
 pub mod laws;
 mod own;
 mod pass;
+mod set_walk;
 mod shapes;
 
 pub use below::{SelectedSet, lists_below, merged_list};

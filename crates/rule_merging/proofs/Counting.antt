@@ -34,7 +34,7 @@ use Rattle.rule_field_groups.specs.Compared.{compared}
 use Rattle.rule_merging.specs.Counted.{Account, no_account, most_members, most_comparisons, IsWithin, Meets, OnlyMeets, Pays, DifferInMembers, AreApart, IsLast, AreLast, AreListed, Grows, IsCountedBy, IsPaidBy}
 use Rattle.rule_number_lists.specs.NumberLists.{HaveSame, length_above_two}
 use Rattle.rule_number_lists.proofs.Standing.{same_order, same_trans, same_sym, no_repeat_order}
-use Rattle.rule_number_lists.proofs.Few.{squares, no_longer, few, above_two_length, above_two_le}
+use Rattle.rule_number_lists.proofs.Few.{no_longer, few, above_two_length, above_two_le}
 use Rattle.rule_field_groups.proofs.Counts.{sums}
 use Rattle.rule_field_groups.proofs.Lists.{slice_get-push_cases, contains_from_get, none_twice, apart_more}
 
@@ -71,7 +71,7 @@ differ_more lists list differ none i j a b h k same = elim (slice_get-push_cases
 
 -- nothing is spent, and the fields that were met stay
 still_within : (old new : Account) → new.spent ≡ old.spent → length old.met ≤ length new.met → IsWithin old → IsWithin new
-still_within old new e more within = omega (arith, e, more, within, squares (length old.met) (length new.met) more)
+still_within old new e more within = omega (arith, e, more, within)
 
 pub pays_nothing : (list : List PlainField) (old new : Account) → new.lists ≡ old.lists → Meets list old new → new.spent ≡ old.spent → Pays list old new
 pays_nothing list old new is m e = record { lists = is; meets = m; spends = omega (arith, e); within = still_within old new e m.more }
@@ -335,7 +335,7 @@ module _ (d : MeantDocument Place) where
       pub members_few : sum (map length_above_two lists) ≤ most_members (length all)
       members_few =
           let less : length met ≤ length all = no_longer met all paid.once (λ x c. has x (paid.last x c)) in
-          omega (arith, paid.paid, paid.within, less, squares (length met) (length all) less)
+          omega (arith, paid.paid, paid.within, less)
 
       pub comparisons_few : (count : ℕ) → IsCountedBy d os lists count → count ≤ most_comparisons (length all)
       comparisons_few count counted =

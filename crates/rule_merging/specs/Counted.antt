@@ -34,7 +34,7 @@ no_account = record { lists = []; met = []; spent = 0; comparisons = 0 }
 
 -- so many members the lists of more than two have in all, at most, for so many fields
 abbrev pub most_members : ℕ → ℕ
-most_members n = 200 + 4 * n + n * n
+most_members n = 200 + 4 * n
 
 -- and so often shapes are compared
 abbrev pub most_comparisons : ℕ → ℕ

@@ -55,7 +55,7 @@ abbrev pub IsCountedMerger : Merger → Type 0
 IsCountedMerger m = IsCountedOver (operations m.document) m
 
 -- how time grows: if the last fields of chains of these operations have no other contents than so many, shapes were compared at most so
--- often as `most_comparisons` says: twice their number times itself, four times it, and 200. The lists of more than two have in all at most
+-- often as `most_comparisons` says: their number times itself, four times it, and 200. The lists of more than two have in all at most
 -- `most_members` members
 abbrev pub ComparesFew : Merger → Type 0
 ComparesFew m = (os : List (MeantOperation Place)) (all : List PlainField) → IsCountedOver os m → ((x : PlainField) → IsLast m.document os x → Contains all x)

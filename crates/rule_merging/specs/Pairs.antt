@@ -1,9 +1,8 @@
 -- Private: leads to `FieldsMerge`. Pairs of sets that are looked at.
 use Rattle.std.specs.Prelude.{◌≡◌, ◌++◌, ◌∷◌, ◌⊎◌, List, [], map, Contains}
-use Rattle.graphql_names.specs.Placed.{Place}
-use Rattle.document_meaning.specs.MeantTree.{MeantSet}
 use Rattle.rule_number_lists.specs.NumberLists.{HaveSame}
 use Rattle.rule_document_definitions.specs.PlainFields.{PlainSet}
+pub use Rattle.rule_field_groups.specs.Under.{each_with}
 use Rattle.rule_field_groups.specs.Below.{plain_sets}
 use Rattle.rule_merging.specs.Remembered.{Kept, HasLooked}
 use Rattle.rule_merging.specs.Examined.{Sets, AreTwosOf}
@@ -26,7 +25,3 @@ pub record Looks (wanted : List Sets) (old new : Kept) : Type 0 where
 -- pairs are looked at, and no others stand there, of which any two of these sets are one
 abbrev pub LooksAtTwos : Sets → Kept → Kept → Type 0
 LooksAtTwos sets old new = (twos : List Sets) × (AreTwosOf sets twos × Looks twos (record old { pairs = [] }) new)
-
--- each of these sets with the other
-abbrev pub each_with : Sets → MeantSet Place → List Sets
-each_with sets v = map (λ w. w ∷ v ∷ []) sets

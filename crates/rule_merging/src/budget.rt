@@ -3,11 +3,8 @@
 ghost use Rattle.std.specs.Prelude.{◌≡◌, ◌≤◌, ◌+◌, IsTrue, IfSome};
 ghost use Rattle.rule_merging.specs.Counted.{most_members};
 
-/// So many members of lists may be examined for each field that was seen, if these are few.
+/// So many members of lists may be examined for each field that was seen.
 const FOR_EACH_FIELD: usize = 4;
-
-/// If they are many, one for so many fields: so lists that are as long as a document has types, for each of the types, are paid.
-const FIELDS_FOR_ONE: usize = 4;
 
 /// So many may be examined before that.
 const AT_FIRST: usize = 200;
@@ -17,8 +14,7 @@ fn is_paid(members: usize, fields: usize) -> bool
     ensures { IsTrue result → members ≤ most_members fields }
 {
     let more = members.saturating_sub(AT_FIRST);
-    let each = fields / FIELDS_FOR_ONE;
-    more <= fields.saturating_mul(FOR_EACH_FIELD) || more <= fields.saturating_mul(each)
+    more <= fields.saturating_mul(FOR_EACH_FIELD)
 }
 
 /// What is spent with so many members more, if so many fields pay for all.

@@ -116,8 +116,8 @@ impl<'doc> Examination<'doc> {
         self.examine_fields(&list, examined, breaches)
     }
 
-    /// Examines what some sets select.
-    fn examine_new(
+    /// Examines what some sets select, unless this was looked at before. What is skipped is remembered by its pairs alone.
+    fn examine_once(
         &self,
         sets: &[SelectedSet<'doc>],
         examined: &mut Remembered<'doc>,
@@ -129,24 +129,11 @@ impl<'doc> Examination<'doc> {
         if examined.skips(sets) {
             return self.examine_twos(sets, examined, breaches);
         }
-        self.examine_paid(sets, examined, breaches)
-    }
-
-    /// Examines what some sets select, unless this was looked at before.
-    fn examine_once(
-        &self,
-        sets: &[SelectedSet<'doc>],
-        examined: &mut Remembered<'doc>,
-        breaches: &mut Vec<Breach>,
-    ) -> Result<(), AllocError>
-        ensures examined { OnOk result (ExaminesThese self.now sets.now examined.old examined.new breaches.old breaches.new) }
-        ensures counted { GrowsOver self.now (meant_sets sets.now ∷ []) examined.old examined.new }
-    {
         let is_known = examined.has_expanded(sets)?;
         if is_known {
             return Ok(());
         }
-        self.examine_new(sets, examined, breaches)?;
+        self.examine_paid(sets, examined, breaches)?;
         examined.expand(sets)?;
         Ok(())
     }

@@ -1,6 +1,4 @@
-use Rattle.std.proofs.Common.{◌≡◌, ◌++◌, ◌∷◌, ◌∙◌, [], map, ap, sym}
-use Rattle.rule_field_groups.specs.Grouped.{lists_of}
-use Rattle.rule_field_groups.specs.Below.{meant_sets}
+use Rattle.std.proofs.Common.{◌++◌, ◌∙◌, ap, sym}
 use Rattle.rule_field_groups.specs.Under.{sets_in}
 use Rattle.rule_field_groups.proofs.Under.{joins_none, joins_some}
 use Rattle.rule_field_groups.proofs.below.push_joined.Goals as goal

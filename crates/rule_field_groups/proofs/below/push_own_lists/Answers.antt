@@ -1,11 +1,11 @@
-use Rattle.std.proofs.Common.{◌<◌, ◌++◌, ◌∙◌, List, map, length, ap, subst, arith}
+use Rattle.std.proofs.Common.{◌<◌, List, map, length, subst, arith}
 use Rattle.std.proofs.lemmas.List.{take_all}
 use Rattle.rule_document_ground.specs.Fields.{fields_of}
 use Rattle.rule_document_ground.specs.declared.field_selection.FieldSelection.{FieldSelection}
 use Rattle.rule_field_groups.specs.declared.groups.OwnFields.{OwnFields}
 use Rattle.rule_field_groups.specs.declared.below.SelectedSet.{SelectedSet}
 use Rattle.rule_field_groups.specs.Below.{meant_sets}
-use Rattle.rule_field_groups.specs.Under.{joined, sets_in, AreFurther, JoinsEach}
+use Rattle.rule_field_groups.specs.Under.{sets_in, AreFurther, PutsTogether, JoinsEach}
 use Rattle.rule_field_groups.proofs.Under.{none_joined, joined_more}
 use Rattle.rule_field_groups.proofs.below.push_own_lists.Goals as goal
 
@@ -19,10 +19,10 @@ loop-own-preserved c =
     let x = c.own-item.result in
     let h : i < length c.args.owns.now = omega arith in
     let mid = sets_in c.loop-own.lists in
-    joined_more (meant_sets keys) c.args.owns.now i x h c.own-item.is (meant_sets c.in_ok-sets.sets.keys) (sets_in c.args.lists.now) mid (sets_in c.push_joined.new.lists)
+    joined_more (meant_sets keys) c.args.owns.now i x h c.own-item.is (meant_sets c.in_ok-sets.sets.keys) (sets_in c.args.lists.now) mid (sets_in c.push_together.new.lists)
     (subst (λ (l : List FieldSelection). AreFurther (fields_of l) (meant_sets keys) (meant_sets c.in_ok-sets.sets.keys)) c.deref.ensures.value c.in_ok-sets.ensures)
-    (c.in_ok-push_joined.ensures ∙ ap (λ (l : List SelectedSet). mid ++ joined (meant_sets l) (meant_sets c.as_slice-in-loop-own.result.now)) c.as_slice.ensures.keys
-    ∙ ap (λ (l : List SelectedSet). mid ++ joined (meant_sets keys) (meant_sets l)) c.as_slice-in-loop-own.ensures.keys)
+    (subst (λ (l : List SelectedSet). PutsTogether (meant_sets keys) (meant_sets l) mid (sets_in c.push_together.new.lists)) c.as_slice-in-loop-own.ensures.keys
+    (subst (λ (l : List SelectedSet). PutsTogether (meant_sets l) (meant_sets c.as_slice-in-loop-own.result.now) mid (sets_in c.push_together.new.lists)) c.as_slice.ensures.keys c.in_ok-push_together.ensures))
     c.loop-own.invariant
 
 pub returns : goal.returns

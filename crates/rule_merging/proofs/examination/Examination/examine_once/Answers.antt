@@ -37,46 +37,46 @@ returns-then-is_known-clause-counted c =
     let d = document_of c.args.self.now in
     grows_same d (λ os. AreListed d os (meant_sets c.args.sets.now ∷ [])) c.args.self.now.pass (account_of c.args.examined.now) (account_of c.has_expanded.new.self) (ap (λ (b : Beside). b.account) c.in_ok-is_known.ensures.beside)
 
-pub returns-in_err-examine_new-clause-counted : goal.returns-in_err-examine_new-clause-counted
-returns-in_err-examine_new-clause-counted c =
+pub returns-in_err-examine_paid-clause-counted : goal.returns-in_err-examine_paid-clause-counted
+returns-in_err-examine_paid-clause-counted c =
     let e = c.args.self.now in
     let d = document_of e in
-    grows_on d (λ os. AreListed d os (meant_sets c.args.sets.now ∷ [])) e.pass (account_of c.args.examined.now) (account_of c.has_expanded.new.self) (account_of c.examine_new.new.examined)
+    grows_on d (λ os. AreListed d os (meant_sets c.args.sets.now ∷ [])) e.pass (account_of c.args.examined.now) (account_of c.has_expanded.new.self) (account_of c.examine_paid.new.examined)
     (grows_same d (λ os. AreListed d os (meant_sets c.args.sets.now ∷ [])) e.pass (account_of c.args.examined.now) (account_of c.has_expanded.new.self) (ap (λ (b : Beside). b.account) c.in_ok-is_known.ensures.beside))
-    c.in_err-examine_new.ensures.counted
+    c.in_err-examine_paid.ensures.counted
 
 pub returns-in_err-expand-clause-counted : goal.returns-in_err-expand-clause-counted
 returns-in_err-expand-clause-counted c =
     let e = c.args.self.now in
     let d = document_of e in
     let Given : Premise d = λ os. AreListed d os (meant_sets c.args.sets.now ∷ []) in
-    grows_on d Given e.pass (account_of c.args.examined.now) (account_of c.examine_new.new.examined) (account_of c.expand.new.self)
-    (grows_on d Given e.pass (account_of c.args.examined.now) (account_of c.has_expanded.new.self) (account_of c.examine_new.new.examined)
+    grows_on d Given e.pass (account_of c.args.examined.now) (account_of c.examine_paid.new.examined) (account_of c.expand.new.self)
+    (grows_on d Given e.pass (account_of c.args.examined.now) (account_of c.has_expanded.new.self) (account_of c.examine_paid.new.examined)
     (grows_same d Given e.pass (account_of c.args.examined.now) (account_of c.has_expanded.new.self) (ap (λ (b : Beside). b.account) c.in_ok-is_known.ensures.beside))
-    c.in_ok-examine_new.ensures.counted)
-    (grows_same d Given e.pass (account_of c.examine_new.new.examined) (account_of c.expand.new.self) (ap (λ (b : Beside). b.account) c.in_err-expand.ensures.beside))
+    c.in_ok-examine_paid.ensures.counted)
+    (grows_same d Given e.pass (account_of c.examine_paid.new.examined) (account_of c.expand.new.self) (ap (λ (b : Beside). b.account) c.in_err-expand.ensures.beside))
 
 pub returns-clause-examined : goal.returns-clause-examined
 returns-clause-examined c =
     let e = c.args.self.now in
     let sets = meant_sets c.args.sets.now in
     let old = kept_of c.has_expanded.new.self in
-    let new = kept_of c.examine_new.new.examined in
+    let new = kept_of c.examine_paid.new.examined in
     let next = sets_in c.args.examined.now.next in
     let last = sets_in c.expand.new.self.next in
     looked_then e.pass (schema_of e) (document_of e) sets (kept_of c.args.examined.now) new (kept_of c.expand.new.self) c.in_ok-expand.field-0
-    (brokens_of c.args.breaches.now) (brokens_of c.examine_new.new.breaches) next last c.in_ok-expand.ensures.expands
-    (subst (λ (k : Kept). ExaminesSets e (sets ∷ []) k new c.args.breaches.now c.examine_new.new.breaches next last) c.in_ok-is_known.ensures.same
-    (subst (λ n. ExaminesSets e (sets ∷ []) old new c.args.breaches.now c.examine_new.new.breaches n last) (ap (λ (b : Beside). b.next) c.in_ok-is_known.ensures.beside)
-    (subst (λ n. ExaminesSets e (sets ∷ []) old new c.args.breaches.now c.examine_new.new.breaches (sets_in c.has_expanded.new.self.next) n) (sym (ap (λ (b : Beside). b.next) c.in_ok-expand.ensures.beside)) c.in_ok-examine_new.ensures.examined)))
+    (brokens_of c.args.breaches.now) (brokens_of c.examine_paid.new.breaches) next last c.in_ok-expand.ensures.expands
+    (subst (λ (k : Kept). ExaminesSets e (sets ∷ []) k new c.args.breaches.now c.examine_paid.new.breaches next last) c.in_ok-is_known.ensures.same
+    (subst (λ n. ExaminesSets e (sets ∷ []) old new c.args.breaches.now c.examine_paid.new.breaches n last) (ap (λ (b : Beside). b.next) c.in_ok-is_known.ensures.beside)
+    (subst (λ n. ExaminesSets e (sets ∷ []) old new c.args.breaches.now c.examine_paid.new.breaches (sets_in c.has_expanded.new.self.next) n) (sym (ap (λ (b : Beside). b.next) c.in_ok-expand.ensures.beside)) c.in_ok-examine_paid.ensures.examined)))
 
 pub returns-clause-counted : goal.returns-clause-counted
 returns-clause-counted c =
     let e = c.args.self.now in
     let d = document_of e in
     let Given : Premise d = λ os. AreListed d os (meant_sets c.args.sets.now ∷ []) in
-    grows_on d Given e.pass (account_of c.args.examined.now) (account_of c.examine_new.new.examined) (account_of c.expand.new.self)
-    (grows_on d Given e.pass (account_of c.args.examined.now) (account_of c.has_expanded.new.self) (account_of c.examine_new.new.examined)
+    grows_on d Given e.pass (account_of c.args.examined.now) (account_of c.examine_paid.new.examined) (account_of c.expand.new.self)
+    (grows_on d Given e.pass (account_of c.args.examined.now) (account_of c.has_expanded.new.self) (account_of c.examine_paid.new.examined)
     (grows_same d Given e.pass (account_of c.args.examined.now) (account_of c.has_expanded.new.self) (ap (λ (b : Beside). b.account) c.in_ok-is_known.ensures.beside))
-    c.in_ok-examine_new.ensures.counted)
-    (grows_same d Given e.pass (account_of c.examine_new.new.examined) (account_of c.expand.new.self) (ap (λ (b : Beside). b.account) c.in_ok-expand.ensures.beside))
+    c.in_ok-examine_paid.ensures.counted)
+    (grows_same d Given e.pass (account_of c.examine_paid.new.examined) (account_of c.expand.new.self) (ap (λ (b : Beside). b.account) c.in_ok-expand.ensures.beside))
