@@ -6,7 +6,7 @@ crate behind those that it stands on, and in a crate as its `Lib.antt` has them.
 
 A clause is `requires`, `ensures` or `follows` of a public function, or what an `impl` of a trait says by a `ghost` word
 (`output`, `is_clone`, ..). Public are the items that `lib.rt` of one of the users' crates gives, where it takes them from an
-inner crate those of that crate. A clause reaches the definitions that it names, and a definition those that it names.
+inner crate those of that crate, and the functions that C calls. A clause reaches the definitions that it names, and a definition those that it names.
 
 An invariant of a public type speaks of its private fields: what follows from it is had by a clause of some call. So what
 invariants alone reach is printed behind, and counts for nothing.
@@ -136,6 +136,11 @@ def inner_clauses(library, paths):
             if function.is_public:
                 found += [Clause(path, line, function.name, kind, words, scope) for kind, _, words, line in function.clauses]
     return found
+
+
+def exported_clauses(library):
+    """The clauses of the functions that C calls."""
+    return inner_clauses(library, [path for path in sources.paths("crates/*/src/*.rt") if "#[unsafe(no_mangle)]" in sources.read(path)])
 
 
 def laws():
@@ -356,7 +361,7 @@ def files_of(came):
 
 def main(words):
     library = sources.Library()
-    clauses = public_clauses(library)
+    clauses = public_clauses(library) + exported_clauses(library)
     promises = [clause for clause in clauses if not clause.kind.startswith("invariant")]
     came = reach(library, promises)
     files = files_of(came)

@@ -1,5 +1,5 @@
 #!/usr/bin/env python3
-"""Whether the examples print what they say: scripts/examples.py [--check] [--write]
+"""Whether the examples print what they say: scripts/examples.py [--check] [--write] [--program FILE FOLDER..]
 
 A run is a command and what it prints. A line that begins with `$ ` is a command, for bash, at the top of the repository; the
 lines after it are what it prints, to standard output and standard error; the last may be its status in brackets, `[1]`, which
@@ -11,6 +11,8 @@ name, as in `examples/refused/unknown_field.graphql:4:5`: each must be that of a
 the programs that `./graphql-checked` and `./graphql-report` keep; where one is not built from these sources, it says so and leaves
 out its runs. Lines of `--format json` and `--batch` are read back as JSON. --write puts what is printed into examples/*/runs.txt, which must then be read: an expected line comes from the
 specification, not from the program.
+
+--program runs FILE wherever a command has `./graphql-checked`, and of all runs those of examples/FOLDER alone that have it.
 """
 import concurrent.futures
 import difflib
@@ -87,6 +89,17 @@ def all_runs():
     return found
 
 
+def runs_with(program, folders):
+    """The runs of these folders, with another program in place of `./graphql-checked`."""
+    found = []
+    for folder in folders:
+        path = os.path.join("examples", folder, "runs.txt")
+        found += [run for run in runs_of(path, 1, read(path)) if "./graphql-checked " in run.command]
+    for run in found:
+        run.command = run.command.replace("./graphql-checked ", shlex.quote(program) + " ")
+    return found
+
+
 def places(run, lines):
     """The places of the faults that a run prints: file, line and column, counted from 1, columns in bytes where only an offset
     is printed."""
@@ -132,6 +145,9 @@ def rewritten(path):
 
 
 def main(words):
+    if "--program" in words:
+        at = words.index("--program")
+        return compared(runs_with(os.path.abspath(words[at + 1]), words[at + 2 :]), [])
     missing = [program for program in PROGRAMS if not is_built(program)]
     for program in missing:
         print(f"examples: {program} is not built from these sources, so its runs are left out; ./{program} builds it")
@@ -143,8 +159,13 @@ def main(words):
             with open(os.path.join(TOP, path), "w", encoding="utf-8") as file:
                 file.write(text)
         return 0
+    wrong = compared([run for run in all_runs() if not any(program in run.command for program in missing)], [] if missing else pages())
+    return wrong if "--check" in words else 0
+
+
+def compared(runs, told):
+    """Runs them, and prints what differs, and which places on these pages are those of no fault: 1 where there is anything."""
     wrong, known = 0, set()
-    runs = [run for run in all_runs() if not any(program in run.command for program in missing)]
     with concurrent.futures.ThreadPoolExecutor(4) as pool:
         printed = list(pool.map(Run.lines, runs))
     for run, found in zip(runs, printed):
@@ -156,13 +177,13 @@ def main(words):
             wrong += 1
             print(f"{run.path}:{run.line}: $ {run.command}")
             print("\n".join(line for line in difflib.unified_diff(run.wanted, found, "wanted", "printed", lineterm="", n=1)))
-    for path in [] if missing else pages():
+    for path in told:
         for place in sorted(set(re.findall(r"\b(examples/[\w/.-]+:\d+:\d+)", read(path)))):
             if place not in known:
                 wrong += 1
                 print(f"{path}: {place} is the place of no fault that a run prints")
     print(f"examples: {len(runs)} runs, {wrong} wrong")
-    return 1 if wrong and "--check" in words else 0
+    return 1 if wrong else 0
 
 
 if __name__ == "__main__":

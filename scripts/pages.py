@@ -9,7 +9,7 @@ repository is not in crates.txt; one in backticks that reads as a file (`name.rt
 docs/PROMISES.md or docs/MAP.md says nothing of a crate of crates.txt; a line of a block after `<!-- from PATH -->` is not in that
 file, after the lines before it; a public clause is longer than 160 characters.
 
-What reads as a crate: a word that begins with `graphql_`; one that begins as the crates of an area do (`tree_`, `read_`, ..), if the
+What reads as a crate: a word that begins with `graphql_` and is none of the header for C; one that begins as the crates of an area do (`tree_`, `read_`, ..), if the
 sources have nothing else of that name, neither an item, a definition nor a file; and, whatever it begins with, a name in backticks
 in a heading of docs/PROMISES.md, or in a column of a table whose head has the word crate or crates.
 
@@ -75,13 +75,18 @@ def crates_alone(path, text):
             yield number, word
 
 
+def c_names():
+    """The names of the header for C and of what it passes on to."""
+    return set(re.findall(r"\bgraphql_\w+", sources.read("include/graphql_checked.h") + sources.read("c/graphql_checked.c")))
+
+
 def unknown_crates(path, text, crates, others):
     """The names that read as crates and are none of crates.txt."""
     areas = sorted({crate.split("_")[0] for crate in crates})
-    found = set(crates_alone(path, text))
-    for number, line in enumerate(re.sub(r"^```(?:rust|console)\n.*?^```$", lambda block: "\n" * block.group(0).count("\n"), text, flags=re.M | re.S).split("\n"), 1):
+    found, calls = set(crates_alone(path, text)), c_names()
+    for number, line in enumerate(re.sub(r"^```(?:rust|console|c|python|js|go)\n.*?^```$", lambda block: "\n" * block.group(0).count("\n"), text, flags=re.M | re.S).split("\n"), 1):
         for word in re.findall(rf"\b(?:{'|'.join(areas)})_\w+", line):
-            if not word.endswith("_") and (word.startswith("graphql_") or word not in others):
+            if not word.endswith("_") and word not in calls and (word.startswith("graphql_") or word not in others):
                 found.add((number, word))
     for number, word in sorted(found):
         if word not in crates:

@@ -14,7 +14,11 @@ there or is not answered as it wants, and where no request is seen: an unproved 
 
 With --states PROGRAM is that of `row_checker`, and its rows of the call `series` are run: one schema answers several documents, and
 the first of them twice. Each request, or 50 times N of them, is refused alone, so that memory is there again behind it. Either the row
-is not judged, or one answer is want of memory and each other one is right, those of the same schema behind it among them."""
+is not judged, or one answer is want of memory and each other one is right, those of the same schema behind it among them.
+
+With --library PROGRAM is that of `examples/c/abuse.c`, which compares the answers of the library for C by itself, and takes want of
+memory for right where some is refused: alone, it asks again and wants the right answer. Each request, or 50 times N of them, is
+refused, alone and with all from it on."""
 
 import argparse
 import concurrent.futures
@@ -252,6 +256,31 @@ class Series(Runs):
         return is_memory and any(out.startswith(cut) and self.follows(statuses, out[len(cut) :], index + 1) for cut in cuts)
 
 
+class Calls(Runs):
+    """The runs of a program that compares the answers of the library by itself."""
+
+    def __init__(self, program, shim, folder):
+        super().__init__(program, shim, folder, Row(os.path.basename(program), []), [])
+
+    def is_right(self):
+        """Whether it tells of no difference where memory is ample."""
+        return self.right == (0, b"as wanted\n", b"")
+
+    def is_told(self, answer):
+        """Whether want of memory was an answer, and it tells of no difference."""
+        return answer == (0, b"as wanted, out of memory told\n", b"")
+
+
+def tried_calls(program, shim, folder, sample, pool):
+    """What is to be told of the runs of such a program: a kind and a line each."""
+    calls = Calls(program, shim, os.path.join(folder, "calls"))
+    calls.begin()
+    if not calls.is_right():
+        return [("other", f"{calls.row.name}: the answer is {calls.right!r}")]
+    numbered = [(number, is_each) for number in numbers(calls.requests, 50 * sample, 0) for is_each in (False, True)]
+    return pool.map(lambda one: calls.refuse(*one), numbered)
+
+
 def numbers(requests, sample, offset):
     """So many numbers from 1 to that of the requests, spread evenly, the first and the last among them."""
     if requests <= sample:
@@ -284,6 +313,7 @@ def main():
     reader.add_argument("--sample", type=int, default=12)
     reader.add_argument("--jobs", type=int, default=1)
     reader.add_argument("--states", action="store_true")
+    reader.add_argument("--library", action="store_true")
     reader.add_argument("program", nargs="?")
     reader.add_argument("word", nargs="?", default="")
     given = reader.parse_args()
@@ -297,7 +327,13 @@ def main():
         with open(source, "w", encoding="utf-8") as file:
             file.write(SHIM)
         subprocess.run(["cc", "-O1", "-shared", "-fPIC", "-fno-builtin", "-o", shim, source], check=True)
-        for offset, runs in enumerate(chosen(program, shim, folder, given.word, given.states)):
+        if given.library:
+            for kind, line in tried_calls(program, shim, folder, given.sample, pool):
+                count[kind] += 1
+                if line:
+                    print(line, flush=True)
+        pairs = [] if given.library else chosen(program, shim, folder, given.word, given.states)
+        for offset, runs in enumerate(pairs):
             runs.begin()
             name = runs.row.name
             is_whole = name in WHOLE and name not in whole
@@ -312,7 +348,7 @@ def main():
                 count[kind] += 1
                 if line:
                     print(line, flush=True)
-    if not given.states:
+    if not given.states and not given.library:
         wrong += [f"{name}: there is no such row" for name in WHOLE if given.word in name and name not in whole]
     for line in wrong:
         print(line)

@@ -295,7 +295,7 @@ class Function:
         self.comment, self.clauses, self.start, self.end, self.line = comment, clauses, start, end, line
 
 
-FUNCTION = re.compile(r"^([ ]*)((?:pub(?:\((?:crate|super)\))? )?)(?:const |unsafe |ghost )*fn (\w+)", re.M)
+FUNCTION = re.compile(r"^([ ]*)((?:pub(?:\((?:crate|super)\))? )?)(?:(?:const|unsafe|ghost|extern) +)*fn (\w+)", re.M)
 
 
 def comment_above(text, at):

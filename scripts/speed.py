@@ -1,5 +1,6 @@
 #!/usr/bin/env python3
-"""What checking and writing a pair costs: speed.py PROGRAM [WORD]; and a batch: speed.py --batch REPORT
+"""What checking and writing a pair costs: speed.py PROGRAM [WORD]; a batch: speed.py --batch REPORT; the library for C: speed.py
+--library FILE
 
 PROGRAM is the built program of `graphql_checked_program` (`rt run` there leaves it in `out/`). Schemas and documents of several
 sizes are written to a folder that is removed again, and PROGRAM answers each pair. A line tells the bytes of both texts, the
@@ -7,8 +8,12 @@ instructions that callgrind counts and the most memory that the program held, ea
 the byte. With WORD only cases whose names have it are run. It needs valgrind, and `time` as GNU has it.
 
 REPORT is the built program of `graphql_report_program`. It answers batches of 1,000, 10,000 and 100,000 small documents, of which
-each tenth is refused, over a schema of 780 types described at length. A line tells the seconds, and the most memory held."""
+each tenth is refused, over a schema of 780 types described at length. A line tells the seconds, and the most memory held.
 
+FILE is libgraphql_checked.so, as scripts/c_library makes it. The same documents go over one handle on the same schema, by the
+function for C alone and by the Python package. A line each tells processor seconds by the call, and documents a second."""
+
+import ctypes
 import json
 import os
 import re
@@ -17,6 +22,8 @@ import subprocess
 import sys
 import tempfile
 import time
+
+import sources
 
 # Six definitions, one of each kind, as # of a schema: an object that implements an interface, with arguments and directives,
 # a union, an enum, an input object and a scalar. ~ is the number of the next six.
@@ -345,8 +352,36 @@ def batches(program):
             print(f"{count:,} lines: {seconds:.1f} s, {memory:,} KB", flush=True)
 
 
+def library(path, count=20000):
+    """Prints what a schema, a document over it and a call cost by the library at a path."""
+    sys.path.insert(0, os.path.join(sources.TOP, "python"))
+    import graphql_checked
+
+    used, texts = graphql_checked.Library(path), [json.loads(line(number))["document"] for number in range(1, count + 1)]
+    raw = [text.encode() for text in texts]
+    begun = time.process_time()
+    schema = graphql_checked.Schema(described(780), library=used)
+    opened, handle = time.process_time(), ctypes.byref(schema._handle)
+    room, needed = ctypes.create_string_buffer(4096), ctypes.c_size_t()
+    place, function = ctypes.byref(needed), used.functions.graphql_schema_check
+    statuses = [function(handle, text, len(text), room, 4096, place) for text in raw]
+    called = time.process_time()
+    reports = [schema.check(text) for text in texts]
+    checked = time.process_time()
+    for _ in texts:
+        function(handle, None, 1, room, 4096, place)
+    empty = time.process_time()
+    if statuses != [int(not report) for report in reports] or statuses.count(1) != count // 10:
+        sys.exit("speed.py: the answers are not as wanted")
+    print(f"schema opened in {opened - begun:.3f} s")
+    for name, seconds in (("graphql_schema_check", called - opened), ("Schema.check", checked - called), ("a call alone", empty - checked)):
+        print(f"{name}: {seconds / count * 1e6:.1f} us, {count / seconds:,.0f} a second", flush=True)
+
+
 def main():
     """Prints a line for each case."""
+    if sys.argv[1] == "--library":
+        return library(os.path.abspath(sys.argv[2]))
     if sys.argv[1] == "--batch":
         return batches(os.path.abspath(sys.argv[2]))
     program = os.path.abspath(sys.argv[1])

@@ -1,0 +1,180 @@
+//! A schema that C holds: opened of several texts, asked, and closed.
+
+ghost use Rattle.std.specs.Prelude.{◌≡◌, ◌≢◌, None, IfSome, IsUtf8};
+ghost use Rattle.graphql_checked_c.specs.Told.{HoldsSchemaOf, IsReportOfTexts, AreCertainTexts, HasNotUtf8, IsNoCut, IsYesOver, IsReportOver, IsCertainOver, IsSchemaText, IsDocumentText, IsNoPrefix, layout_of, KeepsOrNot, IsStatus, IsDoneOrMemory, IsDoneOrMemoryOrPrefix, HasStack, IsToldIn, IsUntold};
+
+use crate::answer::{ACCEPTED, MEMORY, PREFIX, STACK};
+use crate::handle::{Handle, Kept, keep, take};
+use crate::opening::schema_of_texts;
+use crate::over::{checked, document_text, layout, schema_text};
+use caller_memory::{put, suffices};
+use graphql_checked::CheckedSchema;
+use std::alloc::Global;
+
+/// The version: 10,000 times the major number, 100 times the minor one, and the patch.
+#[unsafe(no_mangle)]
+pub extern "C" fn graphql_proved_version() -> u32
+    ensures { result ≡ 100 }
+{
+    100
+}
+
+/// Opens a handle on the schema of these texts, each of which ends where `ends` says.
+///
+/// The status is 0 where it is open; 1 where the texts are refused, and then the report is told as `graphql_proved_report` does;
+/// 3 where one is not UTF-8; 4 where memory ran out; 5 where the stack is too small; 7 where the ends are not those of texts.
+#[unsafe(no_mangle)]
+#[tactic(auto, using(crate::proofs::Answers::put_nothing, crate::proofs::Answers::put_told, crate::proofs::Answers::some_is))]
+pub extern "C" fn graphql_proved_schema_open(
+    alloc: Global,
+    texts: &[u8],
+    ends: &[usize],
+    nesting: usize,
+    stack: usize,
+    handle: &mut Handle,
+    room: &mut [u8],
+    needed: &mut usize,
+) -> u32
+    requires { handle.old.value ≡ None }
+    ensures opened { result ≡ 0 → HoldsSchemaOf nesting texts.now ends.now handle.new.value }
+    ensures closed { result ≢ 0 → handle.new.value ≡ None }
+    ensures refused { result ≡ 1 → IsToldIn room.old room.new needed.new (IsReportOfTexts nesting texts.now ends.now) }
+    ensures encoding { result ≡ 3 → HasNotUtf8 texts.now ends.now }
+    ensures stack { result ≡ 5 → HasStack stack nesting → ⊥ }
+    ensures order { result ≡ 7 → IsNoCut texts.now ends.now }
+    ensures status { IsStatus result }
+    ensures complete { HasStack stack nesting → AreCertainTexts nesting texts.now ends.now → IsDoneOrMemory result }
+    ensures untold { result ≢ 1 → IsUntold room.old room.new needed.new }
+{
+    *needed = 0;
+    if !suffices(stack, nesting) {
+        return STACK;
+    }
+    match schema_of_texts(alloc, texts, ends, nesting) {
+        Ok(schema) => kept(alloc, handle, schema),
+        Err(answer) => {
+            *needed = put(room, &answer.bytes);
+            answer.status
+        }
+    }
+}
+
+/// Puts the schema into the handle, which is empty.
+fn kept(alloc: Global, handle: &mut Handle, schema: CheckedSchema) -> u32
+    requires { handle.old.value ≡ None }
+    ensures { KeepsOrNot schema handle.new.value result }
+{
+    match Box::new(alloc, Kept { schema }) {
+        Ok(kept) => {
+            keep(handle, kept);
+            ACCEPTED
+        }
+        Err(_) => MEMORY,
+    }
+}
+
+/// Checks a document over the schema of the handle, which stays as it is.
+///
+/// The status is 0 where the document is accepted; 1 where it is refused, and then the report is told as `graphql_proved_report`
+/// does; 3 where it is not UTF-8; 4 where memory ran out.
+#[unsafe(no_mangle)]
+#[tactic(auto, using(crate::proofs::Answers::held_yes, crate::proofs::Answers::report_told, crate::proofs::Answers::held_complete, crate::proofs::Answers::check_untold))]
+pub extern "C" fn graphql_proved_schema_check(
+    alloc: Global,
+    handle: &mut Handle,
+    document: &[u8],
+    room: &mut [u8],
+    needed: &mut usize,
+) -> u32
+    requires { handle.old.value ≢ None }
+    ensures kept { handle.new.value ≡ handle.old.value }
+    ensures accepted { result ≡ 0 → IfSome handle.old.value (λ k. IsYesOver k.schema document.now) }
+    ensures refused { result ≡ 1 → IfSome handle.old.value (λ k. IsToldIn room.old room.new needed.new (IsReportOver k.schema document.now)) }
+    ensures encoding { result ≡ 3 → IsUtf8 document.now → ⊥ }
+    ensures status { IsStatus result }
+    ensures complete { IfSome handle.old.value (λ k. IsCertainOver k.schema document.now → IsDoneOrMemory result) }
+    ensures untold { result ≢ 1 → IsUntold room.old room.new needed.new }
+{
+    let held = take(alloc, handle);
+    let answer = checked(alloc, &held.schema, document);
+    keep(handle, held);
+    *needed = put(room, &answer.bytes);
+    answer.status
+}
+
+/// Writes the text of the schema of the handle: on one line, or in lines that begin with the prefix once for each level.
+///
+/// The status is 0 where the text is told as `graphql_proved_report` tells a report; 4 where memory ran out; 8 where the prefix is
+/// not of spaces and tabs.
+#[unsafe(no_mangle)]
+#[tactic(auto, using(crate::proofs::Answers::schema_told, crate::proofs::Answers::schema_untold, crate::proofs::Answers::schema_status))]
+pub extern "C" fn graphql_proved_schema_text(
+    alloc: Global,
+    handle: &mut Handle,
+    lines: bool,
+    prefix: &[u8],
+    room: &mut [u8],
+    needed: &mut usize,
+) -> u32
+    requires { handle.old.value ≢ None }
+    ensures kept { handle.new.value ≡ handle.old.value }
+    ensures written { result ≡ 0 → IfSome handle.old.value (λ k. IsToldIn room.old room.new needed.new (IsSchemaText (layout_of lines prefix.now) k.schema)) }
+    ensures prefix { result ≡ 8 → IsNoPrefix lines prefix.now }
+    ensures status { IsDoneOrMemoryOrPrefix result }
+    ensures untold { result ≢ 0 → IsUntold room.old room.new needed.new }
+{
+    *needed = 0;
+    let Some(layout) = layout(lines, prefix) else {
+        return PREFIX;
+    };
+    let held = take(alloc, handle);
+    let answer = schema_text(alloc, &held.schema, layout);
+    keep(handle, held);
+    *needed = put(room, &answer.bytes);
+    answer.status
+}
+
+/// Checks a document over the schema of the handle, and writes its text as `graphql_proved_schema_text` does the schema's.
+///
+/// The status is 0 where the text is told; 1, 3 and 4 as of `graphql_proved_schema_check`; 8 where the prefix is not of spaces
+/// and tabs.
+#[unsafe(no_mangle)]
+#[tactic(auto, using(crate::proofs::Answers::put_nothing, crate::proofs::Answers::document_told, crate::proofs::Answers::report_told, crate::proofs::Answers::held_prefixed, crate::proofs::Answers::held_no_prefix))]
+pub extern "C" fn graphql_proved_document_text(
+    alloc: Global,
+    handle: &mut Handle,
+    document: &[u8],
+    lines: bool,
+    prefix: &[u8],
+    room: &mut [u8],
+    needed: &mut usize,
+) -> u32
+    requires { handle.old.value ≢ None }
+    ensures kept { handle.new.value ≡ handle.old.value }
+    ensures written { result ≡ 0 → IfSome handle.old.value (λ k. IsToldIn room.old room.new needed.new (IsDocumentText (layout_of lines prefix.now) k.schema document.now)) }
+    ensures refused { result ≡ 1 → IfSome handle.old.value (λ k. IsToldIn room.old room.new needed.new (IsReportOver k.schema document.now)) }
+    ensures encoding { result ≡ 3 → IsUtf8 document.now → ⊥ }
+    ensures prefix { result ≡ 8 → IsNoPrefix lines prefix.now }
+    ensures status { IsStatus result }
+    ensures complete { IfSome handle.old.value (λ k. IsCertainOver k.schema document.now → IsDoneOrMemoryOrPrefix result) }
+    ensures untold { result ≢ 0 → result ≢ 1 → IsUntold room.old room.new needed.new }
+{
+    *needed = 0;
+    let Some(layout) = layout(lines, prefix) else {
+        return PREFIX;
+    };
+    let held = take(alloc, handle);
+    let answer = document_text(alloc, &held.schema, document, layout);
+    keep(handle, held);
+    *needed = put(room, &answer.bytes);
+    answer.status
+}
+
+/// Closes the handle: its schema is dropped, and it is empty.
+#[unsafe(no_mangle)]
+pub extern "C" fn graphql_proved_schema_close(alloc: Global, handle: &mut Handle)
+    requires { handle.old.value ≢ None }
+    ensures { handle.new.value ≡ None }
+{
+    let _held = take(alloc, handle);
+}
