@@ -1,9 +1,8 @@
 //! The operation that a fault is in, where its data name it.
 
 ghost use Rattle.std.specs.Prelude.{◌≡◌, IfOk, OnOk, option_map, string_bytes};
-ghost use Rattle.fault_document_data.specs.DocumentBreachView.{document_breach_of};
 ghost use Rattle.graphql_faults.specs.DetailsView.{details_of};
-ghost use Rattle.graphql_report.specs.ToldPlaces.{operation_in, operation_of, operation_words, AddsOperation};
+ghost use Rattle.graphql_report.specs.ToldPlaces.{operation_of, operation_words, AddsOperation};
 
 use fault_document_data::BuildError;
 use graphql_faults::Details;
@@ -35,41 +34,12 @@ fn operation_of(details: &Details) -> Option<&Name>
     ensures { option_map (λ name. name.now.text) result ≡ operation_of (details_of details.now) }
 {
     match details {
-        Details::DocumentBuild(error) => operation_in(error),
-        Details::Syntax(_)
-        | Details::Nesting
-        | Details::Spent
-        | Details::SchemaBuild(_)
-        | Details::Data(_)
-        | Details::RecursionLimitError => None,
-    }
-}
-
-/// The name of the operation, where a fault of typing, merging, subscriptions or `@defer` has it.
-fn operation_in(error: &BuildError) -> Option<&Name>
-    ensures { option_map (λ name. name.now.text) result ≡ operation_in (document_breach_of error.now) }
-{
-    match error {
-        BuildError::SubscriptionUsesMultipleFields { name, .. }
-        | BuildError::SubscriptionUsesIntrospection { name, .. }
-        | BuildError::SubscriptionUsesConditionalSelection { name } => name.as_ref(),
-        BuildError::TypeSystemDefinition
-        | BuildError::AmbiguousAnonymousOperation
-        | BuildError::OperationNameCollision { .. }
-        | BuildError::FragmentNameCollision { .. }
-        | BuildError::UndefinedRootOperation { .. }
-        | BuildError::UndefinedTypeInNamedFragmentTypeCondition { .. }
-        | BuildError::UndefinedTypeInInlineFragmentTypeCondition { .. }
-        | BuildError::SubselectionOnScalarType { .. }
-        | BuildError::SubselectionOnEnumType { .. }
-        | BuildError::UndefinedField { .. }
-        | BuildError::ConflictingFieldName(_)
-        | BuildError::ConflictingFieldArgument(_)
-        | BuildError::ConflictingFieldType(_)
-        | BuildError::DeferLabelMustNotBeVariable
-        | BuildError::DuplicateDeferLabel { .. }
-        | BuildError::DeferOnRootMutationOrSubscriptionField { .. }
-        | BuildError::DeferInSubscriptionMustBeConditional => None,
+        Details::DocumentBuild(
+            BuildError::SubscriptionUsesMultipleFields { name, .. }
+            | BuildError::SubscriptionUsesIntrospection { name, .. }
+            | BuildError::SubscriptionUsesConditionalSelection { name },
+        ) => name.as_ref(),
+        _ => None,
     }
 }
 
@@ -83,13 +53,13 @@ fn in_operation(
     ensures { IfOk result (λ related. string_bytes related.words ≡ operation_words name.now.text) }
 {
     let place = name.location();
-    let path = String::from_str(alloc, path_at(sources, path, place))?;
+    let path = path_at(sources, path, place);
+    let path = String::from_str(alloc, path)?;
     let start = match place_at(sources, place) {
         None => None,
         Some(place) => Some(place.start),
     };
-    let mut words = String::from_str(alloc, "in operation `")?;
-    words.push_str(name.as_str())?;
-    words.push_str("`")?;
+    let name = name.as_str();
+    let words = format!(in alloc; "in operation `{name}`")?;
     Ok(Related { path, start, words })
 }

@@ -42,16 +42,17 @@ fn request_in(alloc: Global, value: &Value) -> Result<Option<Request>, AllocErro
     let Some(id) = value.get("id") else {
         return Ok(None);
     };
-    let Some(document) = value.get("document").and_then(Value::as_str) else {
+    let Some(document) = value.get("document") else {
         return Ok(None);
     };
-    match id_text(alloc, id)? {
-        None => Ok(None),
-        Some(id) => Ok(Some(Request {
-            id,
-            document: String::from_str(alloc, document)?,
-        })),
-    }
+    let Some(document) = document.as_str() else {
+        return Ok(None);
+    };
+    let Some(id) = id_text(alloc, id)? else {
+        return Ok(None);
+    };
+    let document = String::from_str(alloc, document)?;
+    Ok(Some(Request { id, document }))
 }
 
 /// The text or whole number, as JSON.

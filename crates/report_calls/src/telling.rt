@@ -42,28 +42,34 @@ impl Telling<'_> {
     fn print(&self, rt: &HostRuntime, entries: &[Entry]) -> Result<(), Stop> {
         let most = self.settings.max_faults;
         if matches!(self.settings.format, Format::Json) {
-            return print_all(rt, entries, most);
+            return print_all(rt, &entries[..entries.len().min(most)]);
         }
         let printed = folded(rt.alloc(), entries)?;
         let (told, rest) = printed.split_at(printed.len().min(most));
-        for one in told {
-            self.print_one(rt, entries, *one)?;
-        }
+        self.print_folded(rt, entries, told)?;
         print_more(rt, faults_in(rest))
     }
 
-    /// Prints a fault in its form, and how many it stands for.
-    fn print_one(&self, rt: &HostRuntime, entries: &[Entry], one: Printed) -> Result<(), Stop> {
-        if let Some(entry) = entries.get(one.index) {
-            print_formed(rt, self.settings.format, entry)?;
+    /// Prints each fault in its form, and how many it stands for.
+    fn print_folded(
+        &self,
+        rt: &HostRuntime,
+        entries: &[Entry],
+        printed: &[Printed],
+    ) -> Result<(), Stop> {
+        for one in printed {
+            if let Some(entry) = entries.get(one.index) {
+                print_formed(rt, self.settings.format, entry)?;
+            }
+            print_more(rt, one.more)?;
         }
-        print_more(rt, one.more)
+        Ok(())
     }
 }
 
-/// Prints the first faults, each as a line of JSON.
-fn print_all(rt: &HostRuntime, entries: &[Entry], most: usize) -> Result<(), Stop> {
-    for entry in entries.iter().take(most) {
+/// Prints the faults, each as a line of JSON.
+fn print_all(rt: &HostRuntime, entries: &[Entry]) -> Result<(), Stop> {
+    for entry in entries {
         print_formed(rt, Format::Json, entry)?;
     }
     Ok(())
@@ -74,8 +80,10 @@ fn print_more(rt: &HostRuntime, more: usize) -> Result<(), Stop> {
     if more == 0 {
         return Ok(());
     }
-    let text = format!(in rt.alloc(); "and {more} more\n")?;
-    put(rt, &text)
+    match println!(rt; "and {more} more") {
+        Ok(()) => Ok(()),
+        Err(_) => Err(Stop::Output),
+    }
 }
 
 /// How many faults these are, with those that each stands for.
@@ -115,8 +123,11 @@ pub fn sources_of<'a>(
     lines: &'a [Lines<'a>],
 ) -> Result<Vec<Source<'a>>, AllocError> {
     let mut sources = Vec::new(alloc);
-    for (path, lines) in paths.iter().zip(lines) {
-        sources.push(Source { path, lines })?;
+    for index in 0..paths.len().min(lines.len()) {
+        sources.push(Source {
+            path: &paths[index],
+            lines: &lines[index],
+        })?;
     }
     Ok(sources)
 }

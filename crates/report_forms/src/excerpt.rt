@@ -1,6 +1,7 @@
 //! The line of a fault.
 
 use crate::entry::Excerpt;
+use crate::lines::before_terminator;
 use crate::source::{Source, source_at};
 use graphql_names::SourceSpan;
 use std::alloc::{AllocError, Global};
@@ -50,14 +51,11 @@ fn split_at(text: &str, bytes: usize) -> (&str, &str) {
 
 /// The characters at the beginning, up to the end of a line and not too many.
 fn first_of_line(text: &str) -> &str {
-    let mut bytes = 0usize;
-    for character in text.chars().take(MOST) {
-        if character == '\n' || character == '\r' {
-            break;
-        }
-        bytes = bytes.saturating_add(character.len_utf8());
+    let line = before_terminator(text);
+    match line.char_indices().nth(MOST) {
+        None => line,
+        Some((end, _)) => line.get(..end).unwrap_or(line),
     }
-    text.get(..bytes).unwrap_or("")
 }
 
 /// The characters at the end, from the beginning of a line on and not too many.

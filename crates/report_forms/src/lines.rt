@@ -140,7 +140,7 @@ fn line_from(text: &str, start: usize) -> &str
 }
 
 /// What stands before the first line terminator, or the whole text where there is none.
-fn before_terminator(text: &str) -> &str
+pub(crate) fn before_terminator(text: &str) -> &str
     ensures { IsFirstLine text.now result.now }
 {
     for (index, byte) in text.as_bytes().iter().enumerate() {

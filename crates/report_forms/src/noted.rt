@@ -67,12 +67,10 @@ fn related_at(alloc: Global, sources: &[Source<'_>], noted: Noted) -> Result<Rel
     ensures { IfOk result (λ related. IsRelated sources.now noted related) }
 {
     let path = match noted.place {
-        None => String::new(alloc),
-        Some(span) => {
-            let path = path_of(sources, span);
-            String::from_str(alloc, path)?
-        }
+        None => "",
+        Some(span) => path_of(sources, span),
     };
+    let path = String::from_str(alloc, path)?;
     let words = String::from_str(alloc, noted.words)?;
     let start = match place_at(sources, noted.place) {
         None => None,
