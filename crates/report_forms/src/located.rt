@@ -1,6 +1,6 @@
 //! An entry at its place.
 
-ghost use Rattle.std.specs.Prelude.{IfOk};
+ghost use Rattle.std.specs.Prelude.{◌≡◌, [], IfOk, string_bytes};
 ghost use Rattle.report_forms.specs.Places.{IsLocated};
 
 use crate::entry::Entry;
@@ -17,7 +17,9 @@ impl Entry {
         name: &str,
         place: Option<SourceSpan>,
     ) -> Result<Entry, AllocError>
-        ensures { IfOk result (IsLocated sources.now name.now place) }
+        ensures place { IfOk result (IsLocated sources.now name.now place) }
+        ensures rule { IfOk result (λ entry. entry.rule.now ≡ []) }
+        ensures message { IfOk result (λ entry. string_bytes entry.message ≡ []) }
     {
         let path = path_at(sources, name, place);
         let path = String::from_str(alloc, path)?;
