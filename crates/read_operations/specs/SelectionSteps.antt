@@ -4,7 +4,7 @@ use Rattle.std.specs.Option.{option_map}
 use Rattle.graphql_names.specs.declared.name.Name.{Name}
 use Rattle.graphql_names.specs.Placed.{Place, Text, name_tree}
 use Rattle.tree_directives.specs.DirectiveTree.{Arguments, Directives, directives_tree}
-use Rattle.tree_operations.specs.SelectionTree.{FieldHead, SelectionTree, SelectionTrees, FieldTree, SpreadTree, InlineTree, no_selections}
+use Rattle.tree_operations.specs.SelectionTree.{SelectionTree, SelectionTrees, FieldTree, SpreadTree, InlineTree, no_selections}
 use Rattle.tree_operations.specs.declared.selection.FragmentSpread.{FragmentSpread}
 use Rattle.read_grammar.specs.Meaning.{Meaning}
 use Rattle.read_grammar.specs.Begins.{begins_selection}
@@ -22,12 +22,19 @@ alias_view x = (option_map name_tree x.0, name_tree x.1)
 abbrev pub spread_view : FragmentSpread → Text Place × Directives Place
 spread_view s = (name_tree s.fragment_name, directives_tree s.directives)
 
--- a field of its alias and name and what stands behind them, and an inline fragment of its parts, at a place
-abbrev pub field_with : {P : Type 0} → P → (Option (Text P) × Text P) × (Option (Arguments P) × (Option (Directives P) × Option (SelectionTrees P))) → SelectionTree P
-field_with p x = FieldTree p (record { alias = x.0.0; name = x.0.1; arguments = unwrap_or x.1.0 []; directives = unwrap_or x.1.1.0 [] }) (unwrap_or x.1.1.1 no_selections)
+-- what is read before the selections of a field: its alias and name, its arguments, its directives; and of an inline fragment
+abbrev pub FieldRead : Type 0 → Type 0
+FieldRead P = (Option (Text P) × Text P) × (Option (Arguments P) × Option (Directives P))
 
-abbrev pub inline_with : {P : Type 0} → P → Option (Text P) × (Option (Directives P) × SelectionTrees P) → SelectionTree P
-inline_with p x = InlineTree p x.0 (unwrap_or x.1.0 []) x.1.1
+abbrev pub InlineRead : Type 0 → Type 0
+InlineRead P = Option (Text P) × Option (Directives P)
+
+-- a field, and an inline fragment, of what is read before its selections and of these, at a place
+abbrev pub field_with : {P : Type 0} → P → FieldRead P → Option (SelectionTrees P) → SelectionTree P
+field_with p x set = FieldTree p (record { alias = x.0.0; name = x.0.1; arguments = unwrap_or x.1.0 []; directives = unwrap_or x.1.1 [] }) (unwrap_or set no_selections)
+
+abbrev pub inline_with : {P : Type 0} → P → InlineRead P → SelectionTrees P → SelectionTree P
+inline_with p x set = InlineTree p x.0 (unwrap_or x.1 []) set
 
 -- ---- how it is read
 
@@ -36,21 +43,16 @@ module _ {P : Type 0} (m : Meaning P) where
   abbrev pub directives_and_set : ℕ → Parser (SelectionTrees P) → Parser (Option (Directives P) × SelectionTrees P)
   directives_and_set n set = try is_at (directives m with_variables n) ⊙ set
 
-  -- Directives? SelectionSet?
-  abbrev pub directives_and_any_set : ℕ → Parser (SelectionTrees P) → Parser (Option (Directives P) × Option (SelectionTrees P))
-  directives_and_any_set n set = try is_at (directives m with_variables n) ⊙ try is_open_brace set
-
-  -- Arguments? Directives? SelectionSet?
-  abbrev pub behind_name : ℕ → Parser (SelectionTrees P) → Parser (Option (Arguments P) × (Option (Directives P) × Option (SelectionTrees P)))
-  behind_name n set = try is_open_paren (arguments m with_variables n) ⊙ try is_at (directives m with_variables n) ⊙ try is_open_brace set
-
-  abbrev pub field_parts : ℕ → Parser (SelectionTrees P) → Parser (FieldHead P × SelectionTrees P)
-  field_parts n set =
-      (λ x. (record { alias = x.0.0; name = x.0.1; arguments = unwrap_or x.1.0 []; directives = unwrap_or x.1.1.0 [] }, unwrap_or x.1.1.1 no_selections))
-      <&> alias_and_name m ⊙ try is_open_paren (arguments m with_variables n) ⊙ try is_at (directives m with_variables n) ⊙ try is_open_brace set
+  -- Alias? Name Arguments? Directives?
+  abbrev pub field_head : ℕ → Parser (FieldRead P)
+  field_head n = alias_and_name m ⊙ try is_open_paren (arguments m with_variables n) ⊙ try is_at (directives m with_variables n)
 
   abbrev pub spread_parts : ℕ → Parser (Text P × Directives P)
   spread_parts n = (λ x. (x.0, unwrap_or x.1 [])) <&> fragment_name m ⊙ try is_at (directives m with_variables n)
+
+  -- TypeCondition? Directives?
+  abbrev pub inline_head : ℕ → Parser (InlineRead P)
+  inline_head n = try is_on (type_condition m) ⊙ try is_at (directives m with_variables n)
 
   abbrev pub inline_parts : ℕ → Parser (SelectionTrees P) → Parser (Option (Text P) × (Directives P × SelectionTrees P))
   inline_parts n set = (λ x. (x.0, (unwrap_or x.1.0 [], x.1.1))) <&> try is_on (type_condition m) ⊙ try is_at (directives m with_variables n) ⊙ set
@@ -69,10 +71,6 @@ module _ {P : Type 0} (m : Meaning P) where
   -- SelectionSet?
   abbrev pub optional_set : ℕ → Parser (Option (SelectionTrees P))
   optional_set n = try is_open_brace (selection_set m n)
-
-  -- Directives? SelectionSet?, with the selections of that depth
-  abbrev pub directives_and_optional_set : ℕ → Parser (Option (Directives P) × Option (SelectionTrees P))
-  directives_and_optional_set n = directives_and_any_set n (selection_set m n)
 
   -- selections without their braces
   abbrev pub some_selections : ℕ → Parser (List (SelectionTree P))

@@ -10,20 +10,18 @@ ghost use Rattle.read_grammar.specs.Reading as read;
 ghost use Rattle.read_grammar.specs.Reading.{Reads};
 ghost use Rattle.read_values.specs.Meanings.{in_file};
 ghost use Rattle.read_operations.specs.SelectionSteps as steps;
-ghost use Rattle.read_operations.specs.PartViews.{set_view, directives_and_any_set_view, after_name_view};
+ghost use Rattle.read_operations.specs.PartViews.{set_view};
 
 use crate::condition::next_is_fragment_name;
 use crate::selection_parts::{
-    alias_and_name, begins_selection, field_with, inline_with, optional_condition, placed_spread,
+    begins_selection, field_head, field_with, inline_head, inline_with, placed_spread,
 };
-use graphql_names::{FileId, Node};
+use graphql_names::FileId;
 use read_grammar::Stop;
 use read_tokens::{Source, Terminal};
-use read_values::{
-    begin, expect, next_is, next_is_name, open, optional_arguments, optional_directives, since,
-};
+use read_values::{begin, expect, next_is, next_is_name, open, optional_directives, since};
 use std::alloc::Global;
-use tree_directives::{Argument, DirectiveList};
+use tree_directives::DirectiveList;
 use tree_operations::Selection;
 
 /// SelectionSet, or nothing.
@@ -42,43 +40,9 @@ fn optional_selection_set(
     Ok(Some(selection_set(alloc, tokens, file, depth)?))
 }
 
-/// `Directives? SelectionSet?`
-#[cycle(selection)]
-fn directives_and_any_set(
-    alloc: Global,
-    tokens: &mut Source<'_>,
-    file: FileId,
-    depth: usize,
-) -> Result<(Option<DirectiveList>, Option<Vec<Selection>>), Stop>
-    ensures { Reads directives_and_any_set_view (steps.directives_and_optional_set (in_file file) depth tokens.old) result tokens.new }
-{
-    let directives = optional_directives(alloc, tokens, file, false, depth)?;
-    let selections = optional_selection_set(alloc, tokens, file, depth)?;
-    Ok((directives, selections))
-}
-
-/// What follows the name of a field: `Arguments? Directives? SelectionSet?`.
-#[cycle(selection)]
-fn behind_name(
-    alloc: Global,
-    tokens: &mut Source<'_>,
-    file: FileId,
-    depth: usize,
-) -> Result<
-    (
-        Option<Vec<Node<Argument>>>,
-        (Option<DirectiveList>, Option<Vec<Selection>>),
-    ),
-    Stop,
->
-    ensures { Reads after_name_view (steps.behind_name (in_file file) depth (reading.selection_set (in_file file) depth) tokens.old) result tokens.new }
-{
-    let arguments = optional_arguments(alloc, tokens, file, false, depth)?;
-    let behind = directives_and_any_set(alloc, tokens, file, depth)?;
-    Ok((arguments, behind))
-}
-
 /// Field: `Alias? Name Arguments? Directives? SelectionSet?`, with its place.
+// What stands before the selections is read by a call of its own, and `field_with` takes it over with whatever reading the
+// selections came to: nothing large is let go here, so that it lies on the stack once.
 #[cycle(selection)]
 #[inline(never)]
 fn placed_field(
@@ -90,28 +54,14 @@ fn placed_field(
     ensures { Reads selection_tree (reading.field (in_file file) depth (reading.selection_set (in_file file) depth) tokens.old) result tokens.new }
 {
     let begin = begin(tokens);
-    let names = alias_and_name(tokens, file)?;
-    let behind = behind_name(alloc, tokens, file, depth)?;
+    let head = field_head(alloc, tokens, file, depth)?;
+    let selections = optional_selection_set(alloc, tokens, file, depth);
     let place = since(tokens, file, begin);
-    Ok(field_with(alloc, place, names, behind)?)
-}
-
-/// `Directives? SelectionSet`
-#[cycle(selection)]
-pub fn directives_and_set(
-    alloc: Global,
-    tokens: &mut Source<'_>,
-    file: FileId,
-    depth: usize,
-) -> Result<(Option<DirectiveList>, Vec<Selection>), Stop>
-    ensures { Reads (λ x. (option_map directives_tree x.0, selection_trees selection_tree x.1.items)) (steps.directives_and_set (in_file file) depth (reading.selection_set (in_file file) depth) tokens.old) result tokens.new }
-{
-    let directives = optional_directives(alloc, tokens, file, false, depth)?;
-    let selections = selection_set(alloc, tokens, file, depth)?;
-    Ok((directives, selections))
+    field_with(alloc, place, head, selections)
 }
 
 /// InlineFragment, of which the dots are read that begin it: `TypeCondition? Directives? SelectionSet`.
+// As `placed_field`.
 #[cycle(selection)]
 #[inline(never)]
 fn placed_inline(
@@ -123,10 +73,10 @@ fn placed_inline(
 ) -> Result<Selection, Stop>
     ensures { Reads selection_tree (steps.inline_since (in_file file) begin depth (reading.selection_set (in_file file) depth) tokens.old) result tokens.new }
 {
-    let type_condition = optional_condition(tokens, file)?;
-    let behind = directives_and_set(alloc, tokens, file, depth)?;
+    let head = inline_head(alloc, tokens, file, depth)?;
+    let selections = selection_set(alloc, tokens, file, depth);
     let place = since(tokens, file, begin);
-    Ok(inline_with(alloc, place, type_condition, behind)?)
+    inline_with(alloc, place, head, selections)
 }
 
 /// FragmentSpread or InlineFragment: what begins with `...`.
@@ -197,6 +147,20 @@ pub fn selection_set(
     let found = some_selections(alloc, tokens, file, depth - 1)?;
     expect(tokens, Terminal::CloseBrace)?;
     Ok(found)
+}
+
+/// `Directives? SelectionSet`
+pub fn directives_and_set(
+    alloc: Global,
+    tokens: &mut Source<'_>,
+    file: FileId,
+    depth: usize,
+) -> Result<(Option<DirectiveList>, Vec<Selection>), Stop>
+    ensures { Reads (λ x. (option_map directives_tree x.0, selection_trees selection_tree x.1.items)) (steps.directives_and_set (in_file file) depth (reading.selection_set (in_file file) depth) tokens.old) result tokens.new }
+{
+    let directives = optional_directives(alloc, tokens, file, false, depth)?;
+    let selections = selection_set(alloc, tokens, file, depth)?;
+    Ok((directives, selections))
 }
 
 /// `Selection+`: selections without braces.

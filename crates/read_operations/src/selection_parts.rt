@@ -1,5 +1,5 @@
 //! Parts of selections that hold no selections (sections 2.4, 2.5, 2.7 and 2.8).
-ghost use Rattle.std.specs.Prelude.{◌≡◌, IfOk, unwrap_or};
+ghost use Rattle.std.specs.Prelude.{◌≡◌, Some, unwrap_or};
 ghost use Rattle.std.specs.Option.{option_map};
 ghost use Rattle.read_tokens.specs.Input as input;
 ghost use Rattle.graphql_names.specs.Placed.{name_tree};
@@ -11,17 +11,17 @@ ghost use Rattle.read_grammar.specs.Reading as read;
 ghost use Rattle.read_grammar.specs.Reading.{Reads};
 ghost use Rattle.read_values.specs.Meanings.{in_file};
 ghost use Rattle.read_operations.specs.SelectionSteps as steps;
-ghost use Rattle.read_operations.specs.PartViews.{directives_and_set_view, after_name_view};
+ghost use Rattle.read_operations.specs.PartViews.{Ends, set_view, selections_view, field_head_view, inline_head_view};
 
 use crate::condition::{fragment_name, type_condition};
 use graphql_names::{FileId, Name, Node, SourceSpan};
 use read_grammar::Stop;
 use read_tokens::{Source, Terminal};
 use read_values::{
-    arguments_or_none, directives_or_none, expect, name, next_is, next_is_name,
+    arguments_or_none, directives_or_none, expect, name, next_is, next_is_name, optional_arguments,
     optional_directives, since,
 };
-use std::alloc::{AllocError, Global};
+use std::alloc::Global;
 use tree_directives::{Argument, DirectiveList};
 use tree_operations::{Field, FragmentSpread, InlineFragment, Selection};
 
@@ -47,7 +47,7 @@ pub fn alias_and_name(tokens: &mut Source<'_>, file: FileId) -> Result<(Option<N
 }
 
 /// TypeCondition, or nothing.
-pub fn optional_condition(tokens: &mut Source<'_>, file: FileId) -> Result<Option<Name>, Stop>
+fn optional_condition(tokens: &mut Source<'_>, file: FileId) -> Result<Option<Name>, Stop>
     ensures { Reads (option_map name_tree) (read.try kinds.is_on (reading.type_condition (in_file file)) tokens.old) result tokens.new }
 {
     if !next_is(tokens, Terminal::On) {
@@ -90,22 +90,41 @@ pub fn placed_spread(
     Ok(Selection::FragmentSpread(Node::new_parsed(alloc, found, place)?))
 }
 
-/// The field of which this is read, at a place.
-// It and `inline_with` are not inlined, so that what they hold takes no stack at each level of selections.
+/// What a field has before its selections.
+pub type FieldHead = (
+    (Option<Name>, Name),
+    (Option<Vec<Node<Argument>>>, Option<DirectiveList>),
+);
+
+/// `Alias? Name Arguments? Directives?`
+// It and those below are not inlined, so that what they hold takes no stack at each level of selections.
+#[inline(never)]
+pub fn field_head(
+    alloc: Global,
+    tokens: &mut Source<'_>,
+    file: FileId,
+    depth: usize,
+) -> Result<FieldHead, Stop>
+    ensures { Reads field_head_view (steps.field_head (in_file file) depth tokens.old) result tokens.new }
+{
+    let names = alias_and_name(tokens, file)?;
+    let arguments = optional_arguments(alloc, tokens, file, false, depth)?;
+    let directives = optional_directives(alloc, tokens, file, false, depth)?;
+    Ok((names, (arguments, directives)))
+}
+
+/// The field of this head and these selections, at a place; or why the selections are not read.
 #[inline(never)]
 pub fn field_with(
     alloc: Global,
     place: SourceSpan,
-    names: (Option<Name>, Name),
-    behind: (
-        Option<Vec<Node<Argument>>>,
-        (Option<DirectiveList>, Option<Vec<Selection>>),
-    ),
-) -> Result<Selection, AllocError>
-    ensures { IfOk result (λ s. selection_tree s ≡ steps.field_with (Some place) (steps.alias_view names, after_name_view behind)) }
+    head: FieldHead,
+    selections: Result<Option<Vec<Selection>>, Stop>,
+) -> Result<Selection, Stop>
+    ensures { Ends set_view (steps.field_with (Some place) (field_head_view head)) selections result }
 {
-    let (alias, name) = names;
-    let (arguments, (directives, selections)) = behind;
+    let selections = selections?;
+    let ((alias, name), (arguments, directives)) = head;
     let found = Field {
         alias,
         name,
@@ -116,17 +135,36 @@ pub fn field_with(
     Ok(Selection::Field(Node::new_parsed(alloc, found, place)?))
 }
 
-/// The inline fragment of which this is read, at a place.
+/// What an inline fragment has before its selections.
+pub type InlineHead = (Option<Name>, Option<DirectiveList>);
+
+/// `TypeCondition? Directives?`
+#[inline(never)]
+pub fn inline_head(
+    alloc: Global,
+    tokens: &mut Source<'_>,
+    file: FileId,
+    depth: usize,
+) -> Result<InlineHead, Stop>
+    ensures { Reads inline_head_view (steps.inline_head (in_file file) depth tokens.old) result tokens.new }
+{
+    let type_condition = optional_condition(tokens, file)?;
+    let directives = optional_directives(alloc, tokens, file, false, depth)?;
+    Ok((type_condition, directives))
+}
+
+/// The inline fragment of this head and these selections, at a place; or why the selections are not read.
 #[inline(never)]
 pub fn inline_with(
     alloc: Global,
     place: SourceSpan,
-    type_condition: Option<Name>,
-    behind: (Option<DirectiveList>, Vec<Selection>),
-) -> Result<Selection, AllocError>
-    ensures { IfOk result (λ s. selection_tree s ≡ steps.inline_with (Some place) (option_map name_tree type_condition, directives_and_set_view behind)) }
+    head: InlineHead,
+    selections: Result<Vec<Selection>, Stop>,
+) -> Result<Selection, Stop>
+    ensures { Ends selections_view (steps.inline_with (Some place) (inline_head_view head)) selections result }
 {
-    let (directives, selection_set) = behind;
+    let selection_set = selections?;
+    let (type_condition, directives) = head;
     let found = InlineFragment {
         type_condition,
         directives: directives_or_none(alloc, directives),

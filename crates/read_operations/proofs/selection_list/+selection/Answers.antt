@@ -1,4 +1,4 @@
-use Rattle.std.proofs.Common.{◌≡◌, ℕ, true, false, rules, arith}
+use Rattle.std.proofs.Common.{◌≡◌, ℕ, true, false, subst, rules, arith}
 use Rattle.std.proofs.lemmas.Result.{err_from_is_err_and}
 use Rattle.std.specs.Prelude.{map}
 use Rattle.graphql_names.specs.declared.span.FileId.{FileId}
@@ -12,7 +12,10 @@ use Rattle.read_grammar.proofs.Steady.{Steady}
 use Rattle.read_grammar.proofs.Steps.{viewed_turn, turn_stops_with, turns_end, turn_takes, some_starts, some_not}
 use Rattle.read_grammar.proofs.Opened.{selection_set_is}
 use Rattle.read_grammar.proofs.Views.{selections_viewed}
-use Rattle.read_operations.proofs.SelectionRules.{field_is, dots_spread, dots_inline, selection_field, selection_dots}
+use Rattle.read_grammar.specs.Places.{place_in}
+use Rattle.read_operations.specs.SelectionSteps as steps
+use Rattle.read_operations.specs.PartViews.{Ends, selections_view, set_view, field_head_view, inline_head_view}
+use Rattle.read_operations.proofs.SelectionRules.{ends_reads, field_is, inline_is, dots_spread, dots_inline, selection_field, selection_dots}
 use Rattle.read_values.specs.Meanings.{in_file}
 use Rattle.read_operations.proofs.selection_list.+selection.Goals as goal
 
@@ -58,17 +61,21 @@ dots-returns t c =
     let other : next_is is_fragment_name (next c.expect.new.tokens) ≡ false = cc in
     rw (dots_inline (in_file c.args.file) c.args.depth (reading.selection_set (in_file c.args.file) c.args.depth) c.args.tokens.now c.expect.new.tokens c.in_ok-expect.ensures other) (search rules)
 
+pub placed_inline-returns-in_err-head : goal.placed_inline-returns-in_err-head
+placed_inline-returns-in_err-head t c = rw (inline_is (in_file c.args.file) c.args.begin c.args.depth (reading.selection_set (in_file c.args.file) c.args.depth) c.args.tokens.now) (search rules)
+
 pub placed_inline-returns : goal.placed_inline-returns
-placed_inline-returns t c = rw c.in_ok-inline_with.ensures (search rules)
+placed_inline-returns t c = rw (inline_is (in_file c.args.file) c.args.begin c.args.depth (reading.selection_set (in_file c.args.file) c.args.depth) c.args.tokens.now, c.in_ok-head.ensures)
+    (ends_reads selections_view (λ z. steps.inline_with (place_in c.args.file.0 c.args.begin z.last) (inline_head_view c.in_ok-head.head)) _ c.selection_set-selections.result _ c.inline_with.result c.selection_set-selections.ensures
+    (subst (λ p. Ends selections_view (steps.inline_with p (inline_head_view c.in_ok-head.head)) c.selection_set-selections.result c.inline_with.result) c.since-place.ensures.place c.inline_with.ensures))
 
-pub placed_field-returns-in_err-names : goal.placed_field-returns-in_err-names
-placed_field-returns-in_err-names t c = rw (field_is (in_file c.args.file) c.args.depth (reading.selection_set (in_file c.args.file) c.args.depth) c.args.tokens.now) (search rules)
-
-pub placed_field-returns-in_err-behind : goal.placed_field-returns-in_err-behind
-placed_field-returns-in_err-behind t c = rw (field_is (in_file c.args.file) c.args.depth (reading.selection_set (in_file c.args.file) c.args.depth) c.args.tokens.now) (search rules)
+pub placed_field-returns-in_err-head : goal.placed_field-returns-in_err-head
+placed_field-returns-in_err-head t c = rw (field_is (in_file c.args.file) c.args.depth (reading.selection_set (in_file c.args.file) c.args.depth) c.args.tokens.now) (search rules)
 
 pub placed_field-returns : goal.placed_field-returns
-placed_field-returns t c = rw (field_is (in_file c.args.file) c.args.depth (reading.selection_set (in_file c.args.file) c.args.depth) c.args.tokens.now, c.in_ok-field_with.ensures) (search rules)
+placed_field-returns t c = rw (field_is (in_file c.args.file) c.args.depth (reading.selection_set (in_file c.args.file) c.args.depth) c.args.tokens.now, c.in_ok-head.ensures, ← c.begin-begin.ensures)
+    (ends_reads set_view (λ z. steps.field_with (place_in c.args.file.0 c.begin-begin.result z.last) (field_head_view c.in_ok-head.head)) _ c.optional_selection_set-selections.result _ c.field_with.result c.optional_selection_set-selections.ensures
+    (subst (λ p. Ends set_view (steps.field_with p (field_head_view c.in_ok-head.head)) c.optional_selection_set-selections.result c.field_with.result) c.since-place.ensures.place c.field_with.ensures))
 
 pub selection-returns-then-next_is_name : goal.selection-returns-then-next_is_name
 selection-returns-then-next_is_name t c =

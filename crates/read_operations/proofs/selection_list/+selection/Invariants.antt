@@ -9,34 +9,25 @@ use Rattle.read_values.specs.Meanings.{in_file}
 use Rattle.read_operations.proofs.selection_list.+selection.Given as goal
 
 abbrev pub decreases-selection_set : goal.decreases-selection_set
-decreases-selection_set l = 7 * l.depth
+decreases-selection_set l = 5 * l.depth
 
 abbrev pub decreases-optional_selection_set : goal.decreases-optional_selection_set
-decreases-optional_selection_set l = 7 * l.depth + 1
-
-abbrev pub decreases-directives_and_set : goal.decreases-directives_and_set
-decreases-directives_and_set l = 7 * l.depth + 1
-
-abbrev pub decreases-directives_and_any_set : goal.decreases-directives_and_any_set
-decreases-directives_and_any_set l = 7 * l.depth + 2
-
-abbrev pub decreases-behind_name : goal.decreases-behind_name
-decreases-behind_name l = 7 * l.depth + 3
+decreases-optional_selection_set l = 5 * l.depth + 1
 
 abbrev pub decreases-placed_inline : goal.decreases-placed_inline
-decreases-placed_inline l = 7 * l.depth + 2
+decreases-placed_inline l = 5 * l.depth + 1
 
 abbrev pub decreases-placed_field : goal.decreases-placed_field
-decreases-placed_field l = 7 * l.depth + 4
+decreases-placed_field l = 5 * l.depth + 2
 
 abbrev pub decreases-dots : goal.decreases-dots
-decreases-dots l = 7 * l.depth + 3
+decreases-dots l = 5 * l.depth + 2
 
 abbrev pub decreases-selection : goal.decreases-selection
-decreases-selection l = 7 * l.depth + 5
+decreases-selection l = 5 * l.depth + 3
 
 abbrev pub decreases-some_selections : goal.decreases-some_selections
-decreases-some_selections l = 7 * l.depth + 6
+decreases-some_selections l = 5 * l.depth + 4
 
 abbrev pub invariant-some_selections-turns : goal.invariant-some_selections-turns
 invariant-some_selections-turns l =
