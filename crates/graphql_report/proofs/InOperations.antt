@@ -1,6 +1,6 @@
 -- The operation that the data of a fault name, and the report of a document.
 use Rattle.std.proofs.Common.{◌≡◌, ℕ, List, [], ◌∷◌, ◌++◌, append-nil, sym, ◌∙◌, ap, subst}
-use Rattle.std.specs.Prelude.{Option, None, Some, string_bytes}
+use Rattle.std.specs.Prelude.{None, Some, string_bytes}
 use Rattle.graphql_names.specs.Placed.{Place}
 use Rattle.graphql_faults.specs.DetailsTree.{DetailsTree, DetailsAt}
 use Rattle.report_forms.specs.declared.entry.Entry.{Entry}

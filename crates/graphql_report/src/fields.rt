@@ -1,7 +1,7 @@
 //! The names and types that a fault has, under the names of its variant's fields.
 
 use fault_data::DiagnosticData;
-use fault_document_data::{BuildError, ConflictingFieldType};
+use fault_document_data::BuildError;
 use graphql_faults::Details;
 use graphql_names::Name;
 use report_forms::Field;
@@ -11,76 +11,62 @@ use std::fmt::Display;
 
 /// Each name and each type of the fault's data, in their order.
 pub(crate) fn fields_of(alloc: Global, details: &Details) -> Result<Vec<Field>, AllocError> {
-    let mut fields = Vec::new(alloc);
+    let mut fields = Fields {
+        alloc,
+        list: Vec::new(alloc),
+        is_whole: true,
+    };
     match details {
-        Details::Data(data) => push_of_data(alloc, &mut fields, data)?,
-        Details::DocumentBuild(error) => push_of_document(alloc, &mut fields, error)?,
-        Details::SchemaBuild(error) => push_of_folding(alloc, &mut fields, error)?,
+        Details::Data(data) => put_of_data(&mut fields, data),
+        Details::DocumentBuild(error) => put_of_document(&mut fields, error),
+        Details::SchemaBuild(error) => put_of_folding(&mut fields, error),
         _ => {}
     }
-    Ok(fields)
+    let Fields { list, is_whole, .. } = fields;
+    if is_whole { Ok(list) } else { Err(AllocError) }
 }
 
-/// Adds a field.
-fn push<T: Display>(
+/// A list of fields, and whether memory was there for each.
+#[derive(Drop)]
+struct Fields {
     alloc: Global,
-    fields: &mut Vec<Field>,
-    name: &'static str,
-    value: &T,
-) -> Result<(), AllocError> {
-    let value = value.to_string(alloc)?;
-    fields.push(Field { name, value })?;
-    Ok(())
+    list: Vec<Field>,
+    is_whole: bool,
 }
 
-/// Adds a name, if there is one.
-fn push_if_any(
-    alloc: Global,
-    fields: &mut Vec<Field>,
-    value: &Option<Name>,
-) -> Result<(), AllocError> {
-    match value {
-        None => Ok(()),
-        Some(name) => push(alloc, fields, "name", name),
+impl Fields {
+    /// Adds a field.
+    fn put<T: Display>(&mut self, name: &'static str, value: &T) {
+        let added = match value.to_string(self.alloc) {
+            Ok(value) => self.list.push(Field { name, value }).is_ok(),
+            Err(_) => false,
+        };
+        self.is_whole = self.is_whole && added;
     }
-}
 
-/// Adds two fields.
-fn push_two<A: Display, B: Display>(
-    alloc: Global,
-    fields: &mut Vec<Field>,
-    first: (&'static str, &A),
-    second: (&'static str, &B),
-) -> Result<(), AllocError> {
-    push(alloc, fields, first.0, first.1)?;
-    push(alloc, fields, second.0, second.1)
+    /// Adds a name, if there is one.
+    fn put_if_any(&mut self, name: &Option<Name>) {
+        if let Some(name) = name {
+            self.put("name", name);
+        }
+    }
 }
 
 /// Adds the names of a field that an interface asks for.
-fn push_asked(
-    alloc: Global,
-    fields: &mut Vec<Field>,
-    name: &Name,
-    interface: &Name,
-    field: &Name,
-) -> Result<(), AllocError> {
-    push(alloc, fields, "name", name)?;
-    push(alloc, fields, "interface", interface)?;
-    push(alloc, fields, "field", field)
+fn put_asked(fields: &mut Fields, name: &Name, interface: &Name, field: &Name) {
+    fields.put("name", name);
+    fields.put("interface", interface);
+    fields.put("field", field);
 }
 
 /// Adds the fields of a fault of folding.
-fn push_of_folding(
-    alloc: Global,
-    fields: &mut Vec<Field>,
-    error: &FoldingError,
-) -> Result<(), AllocError> {
+fn put_of_folding(fields: &mut Fields, error: &FoldingError) {
     match error {
         FoldingError::DirectiveDefinitionCollision { name }
         | FoldingError::TypeDefinitionCollision { name }
         | FoldingError::BuiltInScalarTypeRedefinition { name }
         | FoldingError::OrphanTypeExtension { name }
-        | FoldingError::TypeExtensionKindMismatch { name } => push(alloc, fields, "name", name),
+        | FoldingError::TypeExtensionKindMismatch { name } => fields.put("name", name),
         FoldingError::DuplicateImplementsInterfaceInObject { type_name, name }
         | FoldingError::DuplicateImplementsInterfaceInInterface { type_name, name }
         | FoldingError::ObjectFieldNameCollision { type_name, name }
@@ -88,81 +74,48 @@ fn push_of_folding(
         | FoldingError::EnumValueNameCollision { type_name, name }
         | FoldingError::UnionMemberNameCollision { type_name, name }
         | FoldingError::InputFieldNameCollision { type_name, name } => {
-            push_two(alloc, fields, ("type_name", type_name), ("name", name))
+            fields.put("type_name", type_name);
+            fields.put("name", name);
         }
-        _ => Ok(()),
+        _ => {}
     }
 }
 
 /// Adds the fields of a fault of typing, merging, subscriptions or `@defer`.
-fn push_of_document(
-    alloc: Global,
-    fields: &mut Vec<Field>,
-    error: &BuildError,
-) -> Result<(), AllocError> {
+fn put_of_document(fields: &mut Fields, error: &BuildError) {
     match error {
         BuildError::OperationNameCollision { name } | BuildError::FragmentNameCollision { name } =>
-            push(alloc, fields, "name", name),
+            fields.put("name", name),
         BuildError::UndefinedTypeInNamedFragmentTypeCondition { type_name }
         | BuildError::UndefinedTypeInInlineFragmentTypeCondition { type_name }
         | BuildError::SubselectionOnScalarType { type_name }
-        | BuildError::SubselectionOnEnumType { type_name } => push(
-            alloc,
-            fields,
-            "type_name",
-            type_name,
-        ),
+        | BuildError::SubselectionOnEnumType { type_name } => fields.put("type_name", type_name),
         BuildError::UndefinedField {
             type_name,
             field_name,
-        } => push_two(
-            alloc,
-            fields,
-            ("type_name", type_name),
-            ("field_name", field_name),
-        ),
-        BuildError::ConflictingFieldName(conflict) => push(alloc, fields, "alias", &conflict.alias),
-        BuildError::ConflictingFieldArgument(conflict) => push(
-            alloc,
-            fields,
-            "alias",
-            &conflict.alias,
-        ),
-        BuildError::ConflictingFieldType(conflict) => push_of_types(alloc, fields, conflict),
-        BuildError::SubscriptionUsesMultipleFields { name, .. }
-        | BuildError::SubscriptionUsesConditionalSelection { name } => push_if_any(
-            alloc, fields, name,
-        ),
-        BuildError::SubscriptionUsesIntrospection { name, field } => {
-            push_if_any(alloc, fields, name)?;
-            push(alloc, fields, "field", field)
+        } => {
+            fields.put("type_name", type_name);
+            fields.put("field_name", field_name);
         }
-        _ => Ok(()),
+        BuildError::ConflictingFieldName(conflict) => fields.put("alias", &conflict.alias),
+        BuildError::ConflictingFieldArgument(conflict) => fields.put("alias", &conflict.alias),
+        BuildError::ConflictingFieldType(conflict) => {
+            fields.put("alias", &conflict.alias);
+            fields.put("original_type", &conflict.original_type);
+            fields.put("conflicting_type", &conflict.conflicting_type);
+        }
+        BuildError::SubscriptionUsesMultipleFields { name, .. }
+        | BuildError::SubscriptionUsesConditionalSelection { name } => fields.put_if_any(name),
+        BuildError::SubscriptionUsesIntrospection { name, field } => {
+            fields.put_if_any(name);
+            fields.put("field", field);
+        }
+        _ => {}
     }
 }
 
-/// Adds the fields of two fields of one response key whose types have different shapes.
-fn push_of_types(
-    alloc: Global,
-    fields: &mut Vec<Field>,
-    conflict: &ConflictingFieldType,
-) -> Result<(), AllocError> {
-    push(alloc, fields, "alias", &conflict.alias)?;
-    push(alloc, fields, "original_type", &conflict.original_type)?;
-    push(
-        alloc,
-        fields,
-        "conflicting_type",
-        &conflict.conflicting_type,
-    )
-}
-
 /// Adds the fields of a fault of schemas, uses, values or documents.
-fn push_of_data(
-    alloc: Global,
-    fields: &mut Vec<Field>,
-    data: &DiagnosticData,
-) -> Result<(), AllocError> {
+fn put_of_data(fields: &mut Fields, data: &DiagnosticData) {
     match data {
         DiagnosticData::UndefinedDefinition { name }
         | DiagnosticData::RootOperationObjectType { name, .. }
@@ -186,15 +139,11 @@ fn push_of_data(
         | DiagnosticData::UnusedVariable { name }
         | DiagnosticData::UndefinedFragment { name }
         | DiagnosticData::UnusedFragment { name }
-        | DiagnosticData::RecursiveFragmentDefinition { name, .. } => push(
-            alloc, fields, "name", name,
-        ),
+        | DiagnosticData::RecursiveFragmentDefinition { name, .. } => fields.put("name", name),
         DiagnosticData::EmptyFieldSet { type_name, .. }
         | DiagnosticData::EmptyValueSet { type_name, .. }
         | DiagnosticData::EmptyMemberSet { type_name, .. }
-        | DiagnosticData::EmptyInputValueSet { type_name, .. } => push(
-            alloc,
-            fields,
+        | DiagnosticData::EmptyInputValueSet { type_name, .. } => fields.put(
             "type_name",
             type_name,
         ),
@@ -203,19 +152,15 @@ fn push_of_data(
         | DiagnosticData::InvalidImplementationFieldType { .. }
         | DiagnosticData::MissingInterfaceFieldArgument { .. }
         | DiagnosticData::InvalidImplementationFieldArgumentType { .. }
-        | DiagnosticData::ExtraRequiredImplementationFieldArgument { .. } => push_of_interfaces(
-            alloc, fields, data,
+        | DiagnosticData::ExtraRequiredImplementationFieldArgument { .. } => put_of_interfaces(
+            fields, data,
         ),
-        _ => push_of_uses(alloc, fields, data),
+        _ => put_of_uses(fields, data),
     }
 }
 
 /// Adds the fields of a fault of what a type implements.
-fn push_of_interfaces(
-    alloc: Global,
-    fields: &mut Vec<Field>,
-    data: &DiagnosticData,
-) -> Result<(), AllocError> {
+fn put_of_interfaces(fields: &mut Fields, data: &DiagnosticData) {
     match data {
         DiagnosticData::TransitiveImplementedInterfaces {
             interface,
@@ -223,16 +168,16 @@ fn push_of_interfaces(
             missing_interface,
             ..
         } => {
-            push(alloc, fields, "interface", interface)?;
-            push(alloc, fields, "via_interface", via_interface)?;
-            push(alloc, fields, "missing_interface", missing_interface)
+            fields.put("interface", interface);
+            fields.put("via_interface", via_interface);
+            fields.put("missing_interface", missing_interface);
         }
         DiagnosticData::MissingInterfaceField {
             name,
             interface,
             field,
             ..
-        } => push_asked(alloc, fields, name, interface, field),
+        } => put_asked(fields, name, interface, field),
         DiagnosticData::InvalidImplementationFieldType {
             name,
             interface,
@@ -241,13 +186,9 @@ fn push_of_interfaces(
             actual_type,
             ..
         } => {
-            push_asked(alloc, fields, name, interface, field)?;
-            push_two(
-                alloc,
-                fields,
-                ("interface_type", interface_type),
-                ("actual_type", actual_type),
-            )
+            put_asked(fields, name, interface, field);
+            fields.put("interface_type", interface_type);
+            fields.put("actual_type", actual_type);
         }
         DiagnosticData::MissingInterfaceFieldArgument {
             name,
@@ -263,8 +204,8 @@ fn push_of_interfaces(
             argument,
             ..
         } => {
-            push_asked(alloc, fields, name, interface, field)?;
-            push(alloc, fields, "argument", argument)
+            put_asked(fields, name, interface, field);
+            fields.put("argument", argument);
         }
         DiagnosticData::InvalidImplementationFieldArgumentType {
             name,
@@ -275,25 +216,17 @@ fn push_of_interfaces(
             actual_type,
             ..
         } => {
-            push_asked(alloc, fields, name, interface, field)?;
-            push(alloc, fields, "argument", argument)?;
-            push_two(
-                alloc,
-                fields,
-                ("interface_type", interface_type),
-                ("actual_type", actual_type),
-            )
+            put_asked(fields, name, interface, field);
+            fields.put("argument", argument);
+            fields.put("interface_type", interface_type);
+            fields.put("actual_type", actual_type);
         }
-        _ => Ok(()),
+        _ => {}
     }
 }
 
 /// Adds the fields of a fault of uses, values or documents that has a type, or more names than one.
-fn push_of_uses(
-    alloc: Global,
-    fields: &mut Vec<Field>,
-    data: &DiagnosticData,
-) -> Result<(), AllocError> {
+fn put_of_uses(fields: &mut Fields, data: &DiagnosticData) {
     match data {
         DiagnosticData::RequiredArgument {
             name,
@@ -304,12 +237,10 @@ fn push_of_uses(
             name,
             expected_type,
             ..
-        } => push_two(
-            alloc,
-            fields,
-            ("name", name),
-            ("expected_type", expected_type),
-        ),
+        } => {
+            fields.put("name", name);
+            fields.put("expected_type", expected_type);
+        }
         DiagnosticData::DisallowedVariableUsage {
             variable,
             variable_type,
@@ -317,20 +248,12 @@ fn push_of_uses(
             argument_type,
             ..
         } => {
-            push_two(
-                alloc,
-                fields,
-                ("variable", variable),
-                ("variable_type", variable_type),
-            )?;
-            push_two(
-                alloc,
-                fields,
-                ("argument", argument),
-                ("argument_type", argument_type),
-            )
+            fields.put("variable", variable);
+            fields.put("variable_type", variable_type);
+            fields.put("argument", argument);
+            fields.put("argument_type", argument_type);
         }
-        DiagnosticData::UnsupportedValueType { ty, .. } => push(alloc, fields, "ty", ty),
+        DiagnosticData::UnsupportedValueType { ty, .. } => fields.put("ty", ty),
         DiagnosticData::UndefinedEnumValue {
             value,
             definition,
@@ -340,22 +263,21 @@ fn push_of_uses(
             value,
             definition,
             ..
-        } => push_two(alloc, fields, ("value", value), ("definition", definition)),
-        DiagnosticData::VariableInputType { name, ty, .. } => push_two(
-            alloc,
-            fields,
-            ("name", name),
-            ("ty", ty),
-        ),
-        DiagnosticData::MissingSubselection { output_type, .. } => push(
-            alloc,
-            fields,
+        } => {
+            fields.put("value", value);
+            fields.put("definition", definition);
+        }
+        DiagnosticData::VariableInputType { name, ty, .. } => {
+            fields.put("name", name);
+            fields.put("ty", ty);
+        }
+        DiagnosticData::MissingSubselection { output_type, .. } => fields.put(
             "output_type",
             output_type,
         ),
         DiagnosticData::InvalidFragmentTarget { name, ty } => {
-            push_if_any(alloc, fields, name)?;
-            push(alloc, fields, "ty", ty)
+            fields.put_if_any(name);
+            fields.put("ty", ty);
         }
         DiagnosticData::InvalidFragmentSpread {
             name,
@@ -363,14 +285,10 @@ fn push_of_uses(
             type_condition,
             ..
         } => {
-            push_if_any(alloc, fields, name)?;
-            push_two(
-                alloc,
-                fields,
-                ("type_name", type_name),
-                ("type_condition", type_condition),
-            )
+            fields.put_if_any(name);
+            fields.put("type_name", type_name);
+            fields.put("type_condition", type_condition);
         }
-        _ => Ok(()),
+        _ => {}
     }
 }

@@ -36,67 +36,55 @@ pub(crate) fn hint_of(
             _ => {}
         }
     }
-    let Some(schema) = schema else {
-        return Ok(None);
-    };
-    match details {
-        Details::DocumentBuild(error) => typing_hint(alloc, schema, error),
-        Details::Data(data) => schema_hint(alloc, schema, data),
-        _ => Ok(None),
+    match schema {
+        None => Ok(None),
+        Some(schema) => schema_hint(alloc, schema, details),
     }
 }
 
-/// A field of the type, or a type.
-fn typing_hint(
-    alloc: Global,
-    schema: &Schema,
-    error: &BuildError,
-) -> Result<Option<String>, AllocError> {
-    match error {
-        BuildError::UndefinedField {
-            type_name,
-            field_name,
-        } => member_hint(alloc, schema, type_name, field_name),
-        BuildError::UndefinedTypeInNamedFragmentTypeCondition { type_name }
-        | BuildError::UndefinedTypeInInlineFragmentTypeCondition { type_name } => closest_key(
-            alloc,
-            &schema.types,
-            type_name,
-            "",
-        ),
-        _ => Ok(None),
-    }
-}
-
-/// An argument, a type, a value of an enum, a field of an input object or a directive.
+/// A type, a field, a value of an enum, a field of an input object, an argument or a directive.
 fn schema_hint(
     alloc: Global,
     schema: &Schema,
-    data: &DiagnosticData,
+    details: &Details,
 ) -> Result<Option<String>, AllocError> {
-    match data {
-        DiagnosticData::UndefinedDefinition { name } => closest_key(alloc, &schema.types, name, ""),
-        DiagnosticData::UndefinedDirective { name } => closest_key(
+    match details {
+        Details::Data(DiagnosticData::UndefinedDefinition { name: type_name })
+        | Details::DocumentBuild(
+            BuildError::UndefinedTypeInNamedFragmentTypeCondition { type_name }
+            | BuildError::UndefinedTypeInInlineFragmentTypeCondition { type_name },
+        ) => closest_key(alloc, &schema.types, type_name, ""),
+        Details::DocumentBuild(
+            BuildError::UndefinedField {
+                type_name,
+                field_name,
+            },
+        ) => member_hint(alloc, schema, type_name, field_name),
+        Details::Data(
+            DiagnosticData::UndefinedEnumValue {
+                value,
+                definition,
+                ..
+            }
+            | DiagnosticData::UndefinedInputValue {
+                value,
+                definition,
+                ..
+            },
+        ) => member_hint(alloc, schema, definition, value),
+        Details::Data(
+            DiagnosticData::UndefinedArgument {
+                name,
+                coordinate,
+                ..
+            },
+        ) => argument_hint(alloc, schema, coordinate, name),
+        Details::Data(DiagnosticData::UndefinedDirective { name }) => closest_key(
             alloc,
             &schema.directive_definitions,
             name,
             "@",
         ),
-        DiagnosticData::UndefinedArgument {
-            name,
-            coordinate,
-            ..
-        } => argument_hint(alloc, schema, coordinate, name),
-        DiagnosticData::UndefinedEnumValue {
-            value,
-            definition,
-            ..
-        }
-        | DiagnosticData::UndefinedInputValue {
-            value,
-            definition,
-            ..
-        } => member_hint(alloc, schema, definition, value),
         _ => Ok(None),
     }
 }

@@ -1,9 +1,8 @@
 //! The operation that a fault is in, where its data name it.
 
-ghost use Rattle.std.specs.Prelude.{◌≡◌, IfOk, OnOk, option_map, string_bytes};
-ghost use Rattle.fault_document_data.specs.DocumentBreachView.{document_breach_of};
+ghost use Rattle.std.specs.Prelude.{◌≡◌, OnOk, option_map};
 ghost use Rattle.graphql_faults.specs.DetailsView.{details_of};
-ghost use Rattle.graphql_report.specs.ToldPlaces.{operation_in, operation_of, operation_words, AddsOperation};
+ghost use Rattle.graphql_report.specs.ToldPlaces.{operation_of, AddsOperation};
 
 use fault_document_data::BuildError;
 use graphql_faults::Details;
@@ -11,7 +10,8 @@ use graphql_names::Name;
 use report_forms::{Related, Source, path_at, place_at};
 use std::alloc::{AllocError, Global};
 
-/// Adds the operation that the data of the fault name, where they name one.
+/// Adds the operation that the data of the fault name, at its name, where they name one. `path` is the name of the text where that
+/// has no place.
 #[tactic(auto, using(crate::proofs::InOperations::adds_none, crate::proofs::InOperations::adds_one))]
 pub(crate) fn push_operation(
     alloc: Global,
@@ -25,8 +25,16 @@ pub(crate) fn push_operation(
     let Some(name) = operation_of(details) else {
         return Ok(());
     };
-    let operation = in_operation(alloc, sources, path, name)?;
-    all.push(operation)?;
+    let place = name.location();
+    let path = path_at(sources, path, place);
+    let path = String::from_str(alloc, path)?;
+    let start = match place_at(sources, place) {
+        None => None,
+        Some(place) => Some(place.start),
+    };
+    let name = name.as_str();
+    let words = format!(in alloc; "in operation `{name}`")?;
+    all.push(Related { path, start, words })?;
     Ok(())
 }
 
@@ -35,61 +43,11 @@ fn operation_of(details: &Details) -> Option<&Name>
     ensures { option_map (λ name. name.now.text) result ≡ operation_of (details_of details.now) }
 {
     match details {
-        Details::DocumentBuild(error) => operation_in(error),
-        Details::Syntax(_)
-        | Details::Nesting
-        | Details::Spent
-        | Details::SchemaBuild(_)
-        | Details::Data(_)
-        | Details::RecursionLimitError => None,
+        Details::DocumentBuild(
+            BuildError::SubscriptionUsesMultipleFields { name, .. }
+            | BuildError::SubscriptionUsesIntrospection { name, .. }
+            | BuildError::SubscriptionUsesConditionalSelection { name },
+        ) => name.as_ref(),
+        _ => None,
     }
-}
-
-/// The name of the operation, where a fault of typing, merging, subscriptions or `@defer` has it.
-fn operation_in(error: &BuildError) -> Option<&Name>
-    ensures { option_map (λ name. name.now.text) result ≡ operation_in (document_breach_of error.now) }
-{
-    match error {
-        BuildError::SubscriptionUsesMultipleFields { name, .. }
-        | BuildError::SubscriptionUsesIntrospection { name, .. }
-        | BuildError::SubscriptionUsesConditionalSelection { name } => name.as_ref(),
-        BuildError::TypeSystemDefinition
-        | BuildError::AmbiguousAnonymousOperation
-        | BuildError::OperationNameCollision { .. }
-        | BuildError::FragmentNameCollision { .. }
-        | BuildError::UndefinedRootOperation { .. }
-        | BuildError::UndefinedTypeInNamedFragmentTypeCondition { .. }
-        | BuildError::UndefinedTypeInInlineFragmentTypeCondition { .. }
-        | BuildError::SubselectionOnScalarType { .. }
-        | BuildError::SubselectionOnEnumType { .. }
-        | BuildError::UndefinedField { .. }
-        | BuildError::ConflictingFieldName(_)
-        | BuildError::ConflictingFieldArgument(_)
-        | BuildError::ConflictingFieldType(_)
-        | BuildError::DeferLabelMustNotBeVariable
-        | BuildError::DuplicateDeferLabel { .. }
-        | BuildError::DeferOnRootMutationOrSubscriptionField { .. }
-        | BuildError::DeferInSubscriptionMustBeConditional => None,
-    }
-}
-
-/// The operation of this name, at the name. `path` is the name of the text where that has no place.
-fn in_operation(
-    alloc: Global,
-    sources: &[Source<'_>],
-    path: &str,
-    name: &Name,
-) -> Result<Related, AllocError>
-    ensures { IfOk result (λ related. string_bytes related.words ≡ operation_words name.now.text) }
-{
-    let place = name.location();
-    let path = String::from_str(alloc, path_at(sources, path, place))?;
-    let start = match place_at(sources, place) {
-        None => None,
-        Some(place) => Some(place.start),
-    };
-    let mut words = String::from_str(alloc, "in operation `")?;
-    words.push_str(name.as_str())?;
-    words.push_str("`")?;
-    Ok(Related { path, start, words })
 }

@@ -1,11 +1,10 @@
 //! The places that the data of a fault have.
 
-ghost use Rattle.std.specs.Prelude.{◌≡◌, ◌++◌, map, IfOk, OnOk};
+ghost use Rattle.std.specs.Prelude.{◌≡◌, ◌++◌, ◌∷◌, [], map, IfOk, OnOk};
 ghost use Rattle.graphql_names.specs.Node.{place};
 ghost use Rattle.fault_data.specs.DiagnosticView.{diagnostic_of};
-ghost use Rattle.fault_document_data.specs.DocumentBreachView.{document_breach_of};
 ghost use Rattle.graphql_faults.specs.DetailsView.{details_of};
-ghost use Rattle.graphql_report.specs.ToldPlaces.{plain, first_of_data, more_of_data, first_of_document, first_of, more_of, places_of, extended, in_cycle};
+ghost use Rattle.graphql_report.specs.ToldPlaces.{plain, first_of_data, more_of_data, first_of, places_of, extended, in_cycle};
 
 use fault_data::DiagnosticData;
 use fault_document_data::BuildError;
@@ -19,84 +18,56 @@ use std::alloc::{AllocError, Global};
 pub(crate) fn places_of(alloc: Global, details: &Details) -> Result<Vec<Noted>, AllocError>
     ensures { IfOk result (λ noted. map plain noted.items ≡ places_of (details_of details.now)) }
 {
-    let mut noted = vec![in alloc; first_of(details)]?;
-    push_more(&mut noted, details)?;
-    Ok(noted)
-}
-
-/// A place, with words.
-fn noted(place: Option<SourceSpan>, words: &'static str) -> Noted
-    ensures { plain result ≡ (place, words.now) }
-{
-    Noted { place, words }
-}
-
-/// The first place.
-fn first_of(details: &Details) -> Noted
-    ensures { plain result ≡ first_of (details_of details.now) }
-{
+    let (place, words) = first_of(details);
+    let mut noted = vec![in alloc; Noted { place, words }]?;
     match details {
-        Details::Data(diagnostic) => first_of_data(diagnostic),
-        Details::DocumentBuild(error) => first_of_document(error),
-        Details::Syntax(_)
-        | Details::Nesting
-        | Details::Spent
-        | Details::SchemaBuild(_)
-        | Details::RecursionLimitError => noted(None, ""),
+        Details::Data(diagnostic) => {
+            push_more_of_data(&mut noted, diagnostic)?;
+            Ok(noted)
+        }
+        _ => Ok(noted),
     }
 }
 
-/// The first place of a fault of typing, merging, subscriptions or `@defer`.
-fn first_of_document(error: &BuildError) -> Noted
-    ensures { plain result ≡ first_of_document (document_breach_of error.now) }
+/// The first place, and what is there.
+fn first_of(details: &Details) -> (Option<SourceSpan>, &'static str)
+    ensures { (result.0, result.1.now) ≡ first_of (details_of details.now) }
 {
-    match error {
-        BuildError::ConflictingFieldName(conflict) => noted(
-            conflict.original_location,
+    match details {
+        Details::Data(diagnostic) => first_of_data(diagnostic),
+        Details::DocumentBuild(BuildError::ConflictingFieldName(fields)) => (
+            fields.original_location,
             "the other field",
         ),
-        BuildError::ConflictingFieldArgument(conflict) => noted(
-            conflict.original_location,
+        Details::DocumentBuild(BuildError::ConflictingFieldArgument(fields)) => (
+            fields.original_location,
             "the other field",
         ),
-        BuildError::ConflictingFieldType(conflict) => noted(
-            conflict.original_location,
+        Details::DocumentBuild(BuildError::ConflictingFieldType(fields)) => (
+            fields.original_location,
             "the other field",
         ),
-        BuildError::DuplicateDeferLabel {
-            original_location,
-            ..
-        } => noted(*original_location, "first used here"),
-        BuildError::TypeSystemDefinition
-        | BuildError::AmbiguousAnonymousOperation
-        | BuildError::OperationNameCollision { .. }
-        | BuildError::FragmentNameCollision { .. }
-        | BuildError::UndefinedRootOperation { .. }
-        | BuildError::UndefinedTypeInNamedFragmentTypeCondition { .. }
-        | BuildError::UndefinedTypeInInlineFragmentTypeCondition { .. }
-        | BuildError::SubselectionOnScalarType { .. }
-        | BuildError::SubselectionOnEnumType { .. }
-        | BuildError::UndefinedField { .. }
-        | BuildError::SubscriptionUsesMultipleFields { .. }
-        | BuildError::SubscriptionUsesIntrospection { .. }
-        | BuildError::SubscriptionUsesConditionalSelection { .. }
-        | BuildError::DeferLabelMustNotBeVariable
-        | BuildError::DeferOnRootMutationOrSubscriptionField { .. }
-        | BuildError::DeferInSubscriptionMustBeConditional => noted(None, ""),
+        Details::DocumentBuild(
+            BuildError::DuplicateDeferLabel {
+                original_location,
+                ..
+            },
+        ) => (*original_location, "first used here"),
+        _ => (None, ""),
     }
 }
 
 /// The first place of a fault of schemas, uses, values or documents.
-fn first_of_data(diagnostic: &DiagnosticData) -> Noted
-    ensures { plain result ≡ first_of_data (diagnostic_of diagnostic.now) }
+fn first_of_data(diagnostic: &DiagnosticData) -> (Option<SourceSpan>, &'static str)
+    ensures { (result.0, result.1.now) ≡ first_of_data (diagnostic_of diagnostic.now) }
 {
     match diagnostic {
         DiagnosticData::DuplicateRootOperationType {
             original_definition,
             ..
-        } => noted(*original_definition, "first named as a root here"),
+        } => (*original_definition, "first named as a root here"),
         DiagnosticData::OutputType { type_location, .. }
-        | DiagnosticData::InputType { type_location, .. } => noted(*type_location, "the type"),
+        | DiagnosticData::InputType { type_location, .. } => (*type_location, "the type"),
         DiagnosticData::UniqueInputValue {
             original_definition,
             ..
@@ -104,20 +75,20 @@ fn first_of_data(diagnostic: &DiagnosticData) -> Noted
         | DiagnosticData::UniqueVariable {
             original_definition,
             ..
-        } => noted(*original_definition, "first defined here"),
+        } => (*original_definition, "first defined here"),
         DiagnosticData::UniqueArgument {
             original_definition,
             ..
-        } => noted(*original_definition, "first given here"),
+        } => (*original_definition, "first given here"),
         DiagnosticData::UniqueDirective {
             original_application,
             ..
-        } => noted(*original_application, "first used here"),
+        } => (*original_application, "first used here"),
         DiagnosticData::TransitiveImplementedInterfaces {
             transitive_interface_location,
             ..
-        } => noted(*transitive_interface_location, "implemented here"),
-        DiagnosticData::MissingInterfaceField { field_location, .. } => noted(
+        } => (*transitive_interface_location, "implemented here"),
+        DiagnosticData::MissingInterfaceField { field_location, .. } => (
             *field_location,
             "the interface's field",
         ),
@@ -128,7 +99,7 @@ fn first_of_data(diagnostic: &DiagnosticData) -> Noted
         | DiagnosticData::ExtraRequiredImplementationFieldArgument {
             interface_field_location,
             ..
-        } => noted(*interface_field_location, "the interface's field"),
+        } => (*interface_field_location, "the interface's field"),
         DiagnosticData::MissingInterfaceFieldArgument {
             interface_argument_location,
             ..
@@ -136,11 +107,11 @@ fn first_of_data(diagnostic: &DiagnosticData) -> Noted
         | DiagnosticData::InvalidImplementationFieldArgumentType {
             interface_argument_location,
             ..
-        } => noted(*interface_argument_location, "the interface's argument"),
+        } => (*interface_argument_location, "the interface's argument"),
         DiagnosticData::UnsupportedLocation {
             definition_location,
             ..
-        } => noted(*definition_location, "the directive's definition"),
+        } => (*definition_location, "the directive's definition"),
         DiagnosticData::UndefinedArgument {
             definition_location,
             ..
@@ -164,55 +135,16 @@ fn first_of_data(diagnostic: &DiagnosticData) -> Noted
         | DiagnosticData::RequiredField {
             definition_location,
             ..
-        } => noted(*definition_location, "the definition"),
+        } => (*definition_location, "the definition"),
         DiagnosticData::DisallowedVariableUsage {
             variable_location,
             ..
-        } => noted(*variable_location, "the variable's definition"),
+        } => (*variable_location, "the variable's definition"),
         DiagnosticData::InvalidFragmentSpread {
             fragment_location,
             ..
-        } => noted(*fragment_location, "the fragment's definition"),
-        DiagnosticData::QueryRootOperationType
-        | DiagnosticData::UndefinedDefinition { .. }
-        | DiagnosticData::RootOperationObjectType { .. }
-        | DiagnosticData::ReservedName { .. }
-        | DiagnosticData::EmptyFieldSet { .. }
-        | DiagnosticData::EmptyValueSet { .. }
-        | DiagnosticData::EmptyMemberSet { .. }
-        | DiagnosticData::EmptyInputValueSet { .. }
-        | DiagnosticData::UnionMemberObjectType { .. }
-        | DiagnosticData::RecursiveInterfaceDefinition { .. }
-        | DiagnosticData::RecursiveInputObjectDefinition { .. }
-        | DiagnosticData::RecursiveDirectiveDefinition { .. }
-        | DiagnosticData::DeeplyNestedType { .. }
-        | DiagnosticData::UndefinedDirective { .. }
-        | DiagnosticData::IntCoercionError { .. }
-        | DiagnosticData::FloatCoercionError { .. }
-        | DiagnosticData::UndefinedVariable { .. }
-        | DiagnosticData::VariableInputType { .. }
-        | DiagnosticData::UnusedVariable { .. }
-        | DiagnosticData::MissingSubselection { .. }
-        | DiagnosticData::UndefinedFragment { .. }
-        | DiagnosticData::InvalidFragmentTarget { .. }
-        | DiagnosticData::UnusedFragment { .. }
-        | DiagnosticData::RecursiveFragmentDefinition { .. }
-        | DiagnosticData::RecursionError => noted(None, ""),
-    }
-}
-
-/// Adds the further places.
-fn push_more(all: &mut Vec<Noted>, details: &Details) -> Result<(), AllocError>
-    ensures { OnOk result (map plain all.new.items ≡ map plain all.old.items ++ more_of (details_of details.now)) }
-{
-    match details {
-        Details::Data(diagnostic) => push_more_of_data(all, diagnostic),
-        Details::Syntax(_)
-        | Details::Nesting
-        | Details::Spent
-        | Details::SchemaBuild(_)
-        | Details::DocumentBuild(_)
-        | Details::RecursionLimitError => Ok(()),
+        } => (*fragment_location, "the fragment's definition"),
+        _ => (None, ""),
     }
 }
 
@@ -239,51 +171,16 @@ fn push_more_of_data(all: &mut Vec<Noted>, diagnostic: &DiagnosticData) -> Resul
             ..
         } => push_extended(all, extensions_locations),
         DiagnosticData::InvalidFragmentSpread { type_location, .. } => {
-            all.push(noted(*type_location, "the type's definition"))?;
+            all.push(Noted {
+                place: *type_location,
+                words: "the type's definition",
+            })?;
             Ok(())
         }
         DiagnosticData::RecursiveInputObjectDefinition { trace, .. } => push_cycle(all, trace),
         DiagnosticData::RecursiveDirectiveDefinition { trace, .. } => push_cycle(all, trace),
         DiagnosticData::RecursiveFragmentDefinition { trace, .. } => push_cycle(all, trace),
-        DiagnosticData::QueryRootOperationType
-        | DiagnosticData::UndefinedDefinition { .. }
-        | DiagnosticData::RootOperationObjectType { .. }
-        | DiagnosticData::DuplicateRootOperationType { .. }
-        | DiagnosticData::ReservedName { .. }
-        | DiagnosticData::OutputType { .. }
-        | DiagnosticData::InputType { .. }
-        | DiagnosticData::UnionMemberObjectType { .. }
-        | DiagnosticData::RecursiveInterfaceDefinition { .. }
-        | DiagnosticData::TransitiveImplementedInterfaces { .. }
-        | DiagnosticData::MissingInterfaceField { .. }
-        | DiagnosticData::InvalidImplementationFieldType { .. }
-        | DiagnosticData::MissingInterfaceFieldArgument { .. }
-        | DiagnosticData::InvalidImplementationFieldArgumentType { .. }
-        | DiagnosticData::ExtraRequiredImplementationFieldArgument { .. }
-        | DiagnosticData::UniqueInputValue { .. }
-        | DiagnosticData::DeeplyNestedType { .. }
-        | DiagnosticData::UndefinedDirective { .. }
-        | DiagnosticData::UniqueDirective { .. }
-        | DiagnosticData::UnsupportedLocation { .. }
-        | DiagnosticData::UniqueArgument { .. }
-        | DiagnosticData::UndefinedArgument { .. }
-        | DiagnosticData::RequiredArgument { .. }
-        | DiagnosticData::DisallowedVariableUsage { .. }
-        | DiagnosticData::UnsupportedValueType { .. }
-        | DiagnosticData::IntCoercionError { .. }
-        | DiagnosticData::FloatCoercionError { .. }
-        | DiagnosticData::UndefinedVariable { .. }
-        | DiagnosticData::UndefinedEnumValue { .. }
-        | DiagnosticData::UndefinedInputValue { .. }
-        | DiagnosticData::RequiredField { .. }
-        | DiagnosticData::UniqueVariable { .. }
-        | DiagnosticData::VariableInputType { .. }
-        | DiagnosticData::UnusedVariable { .. }
-        | DiagnosticData::MissingSubselection { .. }
-        | DiagnosticData::UndefinedFragment { .. }
-        | DiagnosticData::InvalidFragmentTarget { .. }
-        | DiagnosticData::UnusedFragment { .. }
-        | DiagnosticData::RecursionError => Ok(()),
+        _ => Ok(()),
     }
 }
 
@@ -292,7 +189,7 @@ fn push_extended(all: &mut Vec<Noted>, places: &[Option<SourceSpan>]) -> Result<
     ensures { OnOk result (map plain all.new.items ≡ map plain all.old.items ++ map extended places.now) }
 {
     for place in places {
-        all.push(noted(*place, "extended here"))?;
+        push(all, *place, "extended here")?;
     }
     Ok(())
 }
@@ -302,7 +199,19 @@ fn push_cycle<T>(all: &mut Vec<Noted>, cycle: &[Node<T>]) -> Result<(), AllocErr
     ensures { OnOk result (map plain all.new.items ≡ map plain all.old.items ++ map (λ node. in_cycle (place node)) cycle.now) }
 {
     for node in cycle {
-        all.push(noted(node.location(), "the cycle goes through here"))?;
+        push(all, node.location(), "the cycle goes through here")?;
     }
+    Ok(())
+}
+
+/// Adds a place, with words.
+fn push(
+    all: &mut Vec<Noted>,
+    place: Option<SourceSpan>,
+    words: &'static str,
+) -> Result<(), AllocError>
+    ensures { OnOk result (map plain all.new.items ≡ map plain all.old.items ++ (place, words.now) ∷ []) }
+{
+    all.push(Noted { place, words })?;
     Ok(())
 }

@@ -1,16 +1,18 @@
 //! Documents as lines of JSON.
 
-use crate::{Checking, report_of};
-use graphql_checked::Layout;
+use crate::faults_of;
+use graphql_checked::{CheckedSchema, Layout};
+use graphql_report::Report;
 use report_calls::{
-    Request, Stop, Tally, answer_accepted, answer_refused, answer_unread, read_request,
+    Request, Stop, Tally, Telling, answer_accepted, answer_refused, answer_unread, read_request,
 };
 use std::io::{BufRead, BufReader};
 
 /// Answers each line of standard input by a line on standard output, in order.
 pub(crate) fn check_batch(
     rt: &HostRuntime,
-    checking: &Checking<'_>,
+    telling: &Telling<'_>,
+    schema: &CheckedSchema,
     tally: &mut Tally,
 ) -> Result<(), Stop> {
     let Ok(reader) = BufReader::new(rt.alloc(), rt.stdin()) else {
@@ -18,7 +20,7 @@ pub(crate) fn check_batch(
     };
     for line in reader.lines(rt.alloc()) {
         match read_request(rt, line)? {
-            Some(request) => answer(rt, checking, &request, tally)?,
+            Some(request) => answer(rt, telling, schema, &request, tally)?,
             None => answer_unread(rt, tally)?,
         }
     }
@@ -28,23 +30,32 @@ pub(crate) fn check_batch(
 /// Answers a line that asks for a document.
 fn answer(
     rt: &HostRuntime,
-    checking: &Checking<'_>,
+    telling: &Telling<'_>,
+    schema: &CheckedSchema,
     request: &Request,
     tally: &mut Tally,
 ) -> Result<(), Stop> {
     let text = request.document.as_str();
-    match checking.schema.check(text) {
+    match schema.check(text) {
         Ok(checked) => {
             let written = checked.written(Layout::OneLine)?;
             answer_accepted(rt, &request.id, &written, tally)
         }
         Err(refusal) => {
-            let report = report_of(rt.alloc(), checking, "document", text, &refusal)?;
+            let faults = faults_of(&refusal)?;
+            let report = Report::of_document(
+                rt.alloc(),
+                faults,
+                telling.schemas,
+                schema.schema(),
+                "document",
+                text,
+            )?;
             answer_refused(
                 rt,
                 &request.id,
                 report.entries(),
-                checking.telling.settings.max_faults,
+                telling.settings.max_faults,
                 tally,
             )
         }

@@ -14,8 +14,8 @@ use crate::batch::check_batch;
 use graphql_checked::{CheckedSchema, Checker, DiagnosticList, Limits, Refusal};
 use graphql_report::Report;
 use report_calls::{
-    Settings, Stop, Tally, Telling, lines_of, read_document, read_files, read_settings, sources_of,
-    tell_end,
+    Settings, Stop, Tally, Telling, lines_of, read_document, read_files, read_settings, read_words,
+    sources_of, tell_end,
 };
 use std::alloc::Global;
 use std::process::ExitCode;
@@ -37,28 +37,6 @@ fn faults_of(refusal: &Refusal) -> Result<&DiagnosticList, Stop> {
     }
 }
 
-/// The schema that documents are checked over, and how faults are told.
-#[derive(Clone, Copy)]
-struct Checking<'a> {
-    schema: &'a CheckedSchema,
-    telling: &'a Telling<'a>,
-}
-
-/// The report of a refused document.
-fn report_of(
-    alloc: Global,
-    checking: &Checking<'_>,
-    path: &str,
-    text: &str,
-    refusal: &Refusal,
-) -> Result<Report, Stop> {
-    let faults = faults_of(refusal)?;
-    let schemas = checking.telling.schemas;
-    let schema = checking.schema.schema();
-    let report = Report::of_document(alloc, faults, schemas, schema, path, text)?;
-    Ok(report)
-}
-
 /// Tells why the schema is refused.
 fn tell_schema(
     rt: &HostRuntime,
@@ -68,28 +46,38 @@ fn tell_schema(
 ) -> Result<(), Stop> {
     let faults = faults_of(refusal)?;
     let report = Report::new(rt.alloc(), faults, telling.schemas, None, "schema")?;
-    telling.tell_schema(rt, report.entries(), tally)
+    tally.add_schema(report.entries().len());
+    telling.tell(rt, report.entries())
 }
 
 /// Checks the document in a file, and tells its faults.
 fn check_document(
     rt: &HostRuntime,
-    checking: &Checking<'_>,
+    telling: &Telling<'_>,
+    schema: &CheckedSchema,
     path: &str,
     tally: &mut Tally,
 ) -> Result<(), Stop> {
     let Some(text) = read_document(rt, path, tally)? else {
         return Ok(());
     };
-    let telling = checking.telling;
-    match checking.schema.check(&text) {
+    match schema.check(&text) {
         Ok(_) => {
             tally.add_accepted();
             Ok(())
         }
         Err(refusal) => {
-            let report = report_of(rt.alloc(), checking, path, &text, &refusal)?;
-            telling.tell_document(rt, report.entries(), tally)
+            let faults = faults_of(&refusal)?;
+            let report = Report::of_document(
+                rt.alloc(),
+                faults,
+                telling.schemas,
+                schema.schema(),
+                path,
+                &text,
+            )?;
+            tally.add_refused(report.entries().len());
+            telling.tell(rt, report.entries())
         }
     }
 }
@@ -97,15 +85,15 @@ fn check_document(
 /// Checks the documents that are asked for, each by itself.
 fn check_documents(
     rt: &HostRuntime,
-    checking: &Checking<'_>,
+    telling: &Telling<'_>,
+    schema: &CheckedSchema,
     tally: &mut Tally,
 ) -> Result<(), Stop> {
-    let settings = checking.telling.settings;
-    for path in &settings.documents {
-        check_document(rt, checking, path, tally)?;
+    for path in &telling.settings.documents {
+        check_document(rt, telling, schema, path, tally)?;
     }
-    if settings.batch {
-        check_batch(rt, checking, tally)?;
+    if telling.settings.batch {
+        check_batch(rt, telling, schema, tally)?;
     }
     Ok(())
 }
@@ -120,27 +108,25 @@ fn check(rt: &HostRuntime, settings: &Settings, tally: &mut Tally) -> Result<(),
         schemas: &sources,
     };
     match schema_of(rt.alloc(), &texts, settings.nesting) {
-        Ok(schema) => {
-            let checking = Checking {
-                schema: &schema,
-                telling: &telling,
-            };
-            check_documents(rt, &checking, tally)
-        }
+        Ok(schema) => check_documents(rt, &telling, &schema, tally),
         Err(refusal) => tell_schema(rt, &telling, &refusal, tally),
     }
 }
 
-/// Checks what the settings say, tells last how much was found, and gives the status.
-fn status(rt: &HostRuntime, settings: &Settings) -> u8 {
+/// Checks what the words ask for, tells last how much was found, and gives the status.
+fn status(rt: &HostRuntime, words: &[String]) -> u8 {
+    let settings = match read_settings(rt, words) {
+        Ok(settings) => settings,
+        Err(status) => return status,
+    };
     let mut tally = Tally::new(settings.documents.is_empty() && !settings.batch);
-    let done = check(rt, settings, &mut tally);
+    let done = check(rt, &settings, &mut tally);
     tell_end(rt, tally, done)
 }
 
 fn main(rt: HostRuntime) -> ExitCode {
-    let status = match read_settings(&rt) {
-        Ok(settings) => status(&rt, &settings),
+    let status = match read_words(&rt) {
+        Ok(words) => status(&rt, &words),
         Err(status) => status,
     };
     ExitCode::from(status)

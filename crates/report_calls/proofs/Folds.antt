@@ -1,6 +1,6 @@
 -- The laws of what is printed of many faults.
-use Rattle.std.proofs.Common.{◌≡◌, ℕ, zero, suc, ◌+◌, ◌-◌, ◌<◌, ◌≤◌, Bool, true, false, cond, List, [], ◌∷◌, ◌++◌, length, take, get_or, map, min, refl, sym, ◌∙◌, ap, arith, inl, inr, add-one, add_comm, zero-add, unwrap_or}
-use Rattle.std.specs.Prelude.{nat_lt, nat_le, ◌==◌, sum_by, Option, None, Some, slice_get}
+use Rattle.std.proofs.Common.{◌≡◌, ℕ, zero, suc, ◌+◌, ◌-◌, ◌<◌, ◌≤◌, Bool, true, false, cond, List, [], ◌∷◌, ◌++◌, length, take, get_or, map, min, refl, sym, ◌∙◌, ap, arith, inl, inr, add-one, add_comm, zero-add}
+use Rattle.std.specs.Prelude.{nat_lt, nat_le, sum_by, Option, None, Some}
 use Rattle.std.specs.Borrow.{Bor}
 use Rattle.std.specs.Str.{bytes_eq}
 use Rattle.std.specs.Cmp.Lexicographic.{bytes_decides}

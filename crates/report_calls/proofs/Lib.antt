@@ -1,2 +1,2 @@
-pub mod Ids
 pub mod Folds
+pub mod Texts

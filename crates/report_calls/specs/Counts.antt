@@ -6,13 +6,15 @@ use Rattle.report_calls.specs.declared.tally.Tally.{Tally}
 abbrev pub added : ℕ → ℕ → ℕ
 added count more = min (count + more) (2 ^ 64 - 1)
 
--- a number with its word, which ends in `s` but after 1
-abbrev pub counted_words : ℕ → List ℕ → List ℕ
-counted_words number word = if number == 1 then decimal number ++ codes " " ++ word else decimal number ++ codes " " ++ word ++ codes "s"
+-- the ending of a word behind a number: `s` but after 1
+abbrev pub ending : ℕ → List ℕ
+ending number = if number == 1 then [] else codes "s"
 
--- what the faults are in
-abbrev pub scope_words : Tally → List ℕ
-scope_words t = if t.is_of_schema then codes " in the schema" else codes " in " ++ decimal t.refused ++ codes " of " ++ counted_words t.documents (codes "document")
+-- how many faults there are, and what they are in
+abbrev pub counts_words : Tally → List ℕ
+counts_words t =
+    if t.is_of_schema then decimal t.faults ++ codes " fault" ++ ending t.faults ++ codes " in the schema"
+    else decimal t.faults ++ codes " fault" ++ ending t.faults ++ codes " in " ++ decimal t.refused ++ codes " of " ++ decimal t.documents ++ codes " document" ++ ending t.documents
 
 -- how many were not read, if any were not
 abbrev pub unread_words : ℕ → List ℕ
@@ -20,4 +22,4 @@ unread_words unread = if nat_lt 0 unread then codes ", " ++ decimal unread ++ co
 
 -- `3 faults in 2 of 40 documents`, and how many were not read
 abbrev pub words_of : Tally → List ℕ
-words_of t = counted_words t.faults (codes "fault") ++ scope_words t ++ unread_words t.unread
+words_of t = counts_words t ++ unread_words t.unread

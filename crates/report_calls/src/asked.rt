@@ -1,6 +1,6 @@
 //! What a line of a batch asks for.
 
-ghost use Rattle.std.specs.Prelude.{◌≡◌, IfOk, is_some, option_map, string_bytes};
+ghost use Rattle.std.specs.Prelude.{◌≡◌, IfOk, option_map, string_bytes};
 ghost use Rattle.report_calls.specs.Asked.{asked_by, asked_of, id_text};
 ghost use Rattle.serde_json.specs.View.{view};
 ghost use Rattle.report_calls.specs.declared.asked.Request.{Request};
@@ -42,32 +42,26 @@ fn request_in(alloc: Global, value: &Value) -> Result<Option<Request>, AllocErro
     let Some(id) = value.get("id") else {
         return Ok(None);
     };
-    let Some(document) = value.get("document").and_then(Value::as_str) else {
+    let Some(document) = value.get("document") else {
         return Ok(None);
     };
-    match id_text(alloc, id)? {
-        None => Ok(None),
-        Some(id) => Ok(Some(Request {
-            id,
-            document: String::from_str(alloc, document)?,
-        })),
-    }
+    let Some(document) = document.as_str() else {
+        return Ok(None);
+    };
+    let Some(id) = id_text(alloc, id)? else {
+        return Ok(None);
+    };
+    let document = String::from_str(alloc, document)?;
+    Ok(Some(Request { id, document }))
 }
 
 /// The text or whole number, as JSON.
 fn id_text(alloc: Global, id: &Value) -> Result<Option<String>, AllocError>
     ensures { IfOk result (λ text. option_map string_bytes text ≡ id_text (view id.now)) }
 {
-    if !is_id(id) {
+    if !id.is_string() && (!id.is_number() || id.is_f64()) {
         return Ok(None);
     }
     let text = id.to_string(alloc)?;
     Ok(Some(text))
-}
-
-/// Whether the value is a text or a whole number.
-fn is_id(value: &Value) -> bool
-    ensures { result ≡ is_some (id_text (view value.now)) }
-{
-    value.is_string() || (value.is_number() && !value.is_f64())
 }

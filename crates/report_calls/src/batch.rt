@@ -1,6 +1,6 @@
 //! The lines of a batch, and the answers to them.
 
-use crate::answers::{accepted_line, refused_line, unread_line};
+use crate::answers::{UNREAD_LINE, accepted_line, refused_line};
 use crate::asked::{Request, request_of};
 use crate::files::{Stop, put, unread};
 use crate::tally::Tally;
@@ -13,14 +13,14 @@ pub fn read_request(rt: &HostRuntime, line: io::Result<String>) -> Result<Option
     match line {
         Ok(line) => Ok(request_of(rt.alloc(), &line)?),
         Err(error) if error.kind() == io::ErrorKind::InvalidData => Ok(None),
-        Err(error) => Err(unread(rt, "-", error)?),
+        Err(error) => Err(unread(rt, "-", error)),
     }
 }
 
 /// Answers a line that asks for nothing.
 pub fn answer_unread(rt: &HostRuntime, tally: &mut Tally) -> Result<(), Stop> {
     tally.add_unread();
-    put(rt, unread_line())
+    put(rt, UNREAD_LINE)
 }
 
 /// Answers that a document is accepted, and how it is written.
@@ -44,21 +44,20 @@ pub fn answer_refused(
     tally: &mut Tally,
 ) -> Result<(), Stop> {
     tally.add_refused(entries.len());
-    let faults = objects(rt.alloc(), entries, most)?;
-    let left_out = entries.len().saturating_sub(most);
-    let line = refused_line(rt.alloc(), id, &faults, left_out)?;
+    let (told, left_out) = entries.split_at(entries.len().min(most));
+    let faults = objects(rt.alloc(), told)?;
+    let line = refused_line(rt.alloc(), id, &faults, left_out.len())?;
     put(rt, &line)
 }
 
-/// The first faults as JSON, with a comma between each two.
-fn objects(alloc: Global, entries: &[Entry], most: usize) -> Result<String, AllocError> {
+/// The faults as JSON, with a comma between each two.
+fn objects(alloc: Global, entries: &[Entry]) -> Result<String, AllocError> {
     let mut objects = String::new(alloc);
-    for entry in entries.iter().take(most) {
+    let mut separator = "";
+    for entry in entries {
         let object = entry.object(alloc)?;
-        if !objects.is_empty() {
-            objects.push(',')?;
-        }
-        objects.push_str(&object)?;
+        write!(objects, "{separator}{object}")?;
+        separator = ",";
     }
     Ok(objects)
 }

@@ -5,34 +5,31 @@ use crate::settings::Settings;
 use crate::tally::Tally;
 use clap::Error;
 use clap::error::ErrorKind;
-use std::alloc::AllocError;
 use std::io;
 
 /// The status where the words are wrong.
 const WRONG_WORDS: u8 = 2;
 
-/// What the program's words ask for; where they ask for nothing that it does, that is told, and the status is given.
-pub fn read_settings(rt: &HostRuntime) -> Result<Settings, u8> {
-    let words = words(rt)?;
-    match Settings::from_words(rt.alloc(), &words) {
-        Ok(settings) => Ok(settings),
-        Err(error) => Err(told_of_words(rt, &error)),
+/// The program's words, its name first, or the status where one is not UTF-8, which is told.
+pub fn read_words(rt: &HostRuntime) -> Result<Vec<String>, u8> {
+    match std::env::args(rt) {
+        Ok(args) => match args.collect(rt.alloc()) {
+            Ok(words) => Ok(words),
+            Err(_) => Err(MEMORY),
+        },
+        Err(error) if error.kind() == io::ErrorKind::OutOfMemory => Err(MEMORY),
+        Err(_) => {
+            let _ = eprintln!(rt; "error: a word is not UTF-8");
+            Err(WRONG_WORDS)
+        }
     }
 }
 
-/// The words, the program's name first, or the status where one is not UTF-8.
-fn words(rt: &HostRuntime) -> Result<Vec<String>, u8> {
-    let read = match std::env::args(rt) {
-        Ok(args) => args.collect(rt.alloc()),
-        Err(error) if error.kind() == io::ErrorKind::OutOfMemory => Err(AllocError),
-        Err(_) => {
-            let _ = eprintln!(rt; "error: a word is not UTF-8");
-            return Err(WRONG_WORDS);
-        }
-    };
-    match read {
-        Ok(words) => Ok(words),
-        Err(_) => Err(MEMORY),
+/// What the words ask for; where they ask for nothing that the program does, that is told, and the status is given.
+pub fn read_settings(rt: &HostRuntime, words: &[String]) -> Result<Settings, u8> {
+    match Settings::from_words(rt.alloc(), words) {
+        Ok(settings) => Ok(settings),
+        Err(error) => Err(told_of_words(rt, &error)),
     }
 }
 

@@ -11,10 +11,10 @@ pub(crate) const DEVICE: u8 = 3;
 pub(crate) const MEMORY: u8 = 4;
 
 /// Why the program stops before its end.
-#[derive(Drop)]
+#[derive(Clone, Copy)]
 pub enum Stop {
-    /// A file cannot be read: which, and why.
-    Unread(String),
+    /// A file cannot be read: which, and why, is told already.
+    Unread,
     /// The output cannot be written.
     Output,
     Memory,
@@ -33,10 +33,10 @@ impl<T: Drop> From<AllocFailed<T>> for Stop {
 }
 
 impl Stop {
-    /// Tells it, and gives the status.
-    pub(crate) fn tell(&self, rt: &HostRuntime) -> u8 {
+    /// Tells it, unless it is told already, and gives the status.
+    pub(crate) fn tell(self, rt: &HostRuntime) -> u8 {
         let (why, status) = match self {
-            Stop::Unread(why) => (why.as_str(), DEVICE),
+            Stop::Unread => return DEVICE,
             Stop::Output => ("the output cannot be written", DEVICE),
             Stop::Memory => ("out of memory", MEMORY),
         };
@@ -45,14 +45,18 @@ impl Stop {
     }
 }
 
-/// Why the file of this name is not read.
-pub(crate) fn unread(rt: &HostRuntime, path: &str, error: io::Error) -> Result<Stop, AllocError> {
+/// Tells why the file of this name is not read.
+pub(crate) fn unread(rt: &HostRuntime, path: &str, error: io::Error) -> Stop {
     if error.kind() == io::ErrorKind::OutOfMemory {
-        return Ok(Stop::Memory);
+        return Stop::Memory;
     }
-    let path = shown(rt.alloc(), path)?;
-    let why = format!(in rt.alloc(); "{path}: cannot be read: {error}")?;
-    Ok(Stop::Unread(why))
+    match shown(rt.alloc(), path) {
+        Ok(path) => {
+            let _ = eprintln!(rt; "{path}: cannot be read: {error}");
+            Stop::Unread
+        }
+        Err(_) => Stop::Memory,
+    }
 }
 
 /// The text of the file of this name; of standard input where that is `-`. The file is closed then.
@@ -64,7 +68,7 @@ fn read_file(rt: &HostRuntime, path: &str) -> Result<String, Stop> {
     };
     match read {
         Ok(text) => Ok(text),
-        Err(error) => Err(unread(rt, path, error)?),
+        Err(error) => Err(unread(rt, path, error)),
     }
 }
 
@@ -85,8 +89,7 @@ pub fn read_document(
 ) -> Result<Option<String>, Stop> {
     match read_file(rt, path) {
         Ok(text) => Ok(Some(text)),
-        Err(Stop::Unread(why)) => {
-            let _ = eprintln!(rt; "{why}");
+        Err(Stop::Unread) => {
             tally.add_unread();
             Ok(None)
         }

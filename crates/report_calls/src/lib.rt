@@ -21,7 +21,7 @@ mod telling;
 
 pub use asked::{Request, request_of};
 pub use batch::{answer_accepted, answer_refused, answer_unread, read_request};
-pub use ends::{read_settings, tell_end};
+pub use ends::{read_settings, read_words, tell_end};
 pub use files::{Stop, read_document, read_files};
 pub use folding::{Printed, folded};
 pub use settings::{Format, Settings};

@@ -59,7 +59,12 @@ impl Settings {
 /// The settings that the matches have.
 fn settings_in(alloc: Global, matches: &ArgMatches<'_>) -> Result<Settings, AllocError> {
     Ok(Settings {
-        format: format_named(matches.get_str("format")),
+        format: match matches.get_str("format") {
+            Some("short") => Format::Short,
+            Some("json") => Format::Json,
+            Some("github") => Format::Github,
+            _ => Format::Text,
+        },
         nesting: matches.get_one::<usize>("nesting").unwrap_or(NESTING),
         max_faults: matches.get_one::<usize>("max-faults").unwrap_or(usize::MAX),
         schemas: paths(alloc, matches, "schema")?,
@@ -75,14 +80,4 @@ fn paths(alloc: Global, matches: &ArgMatches<'_>, name: &str) -> Result<Vec<Stri
         paths.push(String::from_str(alloc, path)?)?;
     }
     Ok(paths)
-}
-
-/// The form of this name: with lines, where there is none.
-fn format_named(name: Option<&str>) -> Format {
-    match name {
-        Some("short") => Format::Short,
-        Some("json") => Format::Json,
-        Some("github") => Format::Github,
-        _ => Format::Text,
-    }
 }

@@ -1,9 +1,8 @@
 //! How much was found.
 
 ghost use Rattle.std.specs.Prelude.{◌≡◌, ◌++◌, ◌<◌, true, IfOk, OnOk, string_bytes};
-ghost use Rattle.report_calls.specs.Counts.{added, counted_words, scope_words, unread_words, words_of};
+ghost use Rattle.report_calls.specs.Counts.{added, ending, counts_words, words_of};
 
-use report_forms::push_number;
 use std::alloc::{AllocError, Global};
 
 /// The status where all is accepted.
@@ -96,51 +95,38 @@ impl Tally {
         ensures { IfOk result (λ words. string_bytes words ≡ words_of self) }
     {
         let mut words = String::new(alloc);
-        push_counted(alloc, &mut words, "", self.faults, "fault")?;
-        self.push_scope(alloc, &mut words)?;
-        push_unread(alloc, &mut words, self.unread)?;
+        self.push_counts(&mut words)?;
+        if self.unread > 0 {
+            write!(words, ", {} not read", self.unread)?;
+        }
         Ok(words)
     }
 
-    /// Adds what the faults are in.
-    fn push_scope(self, alloc: Global, out: &mut String) -> Result<(), AllocError>
-        ensures { OnOk result (string_bytes out.new ≡ string_bytes out.old ++ scope_words self) }
+    /// Adds how many faults there are, and what they are in.
+    fn push_counts(self, out: &mut String) -> Result<(), AllocError>
+        ensures { OnOk result (string_bytes out.new ≡ string_bytes out.old ++ counts_words self) }
     {
+        let Tally {
+            documents,
+            refused,
+            faults,
+            ..
+        } = self;
+        let ending = plural(faults);
         if self.is_of_schema {
-            return out.push_str(" in the schema");
+            return write!(out, "{faults} fault{ending} in the schema");
         }
-        push_number(alloc, out, " in ", self.refused)?;
-        push_counted(alloc, out, " of ", self.documents, "document")
+        let ending_of_documents = plural(documents);
+        write!(
+            out,
+            "{faults} fault{ending} in {refused} of {documents} document{ending_of_documents}"
+        )
     }
 }
 
-/// Adds how many were not read, if any were not.
-fn push_unread(alloc: Global, out: &mut String, unread: usize) -> Result<(), AllocError>
-    ensures { OnOk result (string_bytes out.new ≡ string_bytes out.old ++ unread_words unread) }
+/// The ending of a word after the number: `s` but after 1.
+fn plural(number: usize) -> &'static str
+    ensures { result.now ≡ ending number }
 {
-    if unread > 0 {
-        push_number(alloc, out, ", ", unread)?;
-        out.push_str(" not read")
-    } else {
-        Ok(())
-    }
-}
-
-/// Adds the number with its word, which ends in `s` but after 1, after a head.
-fn push_counted(
-    alloc: Global,
-    out: &mut String,
-    head: &str,
-    number: usize,
-    word: &str,
-) -> Result<(), AllocError>
-    ensures { OnOk result (string_bytes out.new ≡ string_bytes out.old ++ head.now ++ counted_words number word.now) }
-{
-    push_number(alloc, out, head, number)?;
-    out.push_str(" ")?;
-    out.push_str(word)?;
-    if number == 1 {
-        return Ok(());
-    }
-    out.push_str("s")
+    if number == 1 { "" } else { "s" }
 }

@@ -3,7 +3,6 @@
 use crate::files::{Stop, put};
 use crate::folding::{Printed, folded};
 use crate::settings::{Format, Settings};
-use crate::tally::Tally;
 use report_forms::{Entry, Lines, Source};
 use std::alloc::{AllocError, Global};
 
@@ -15,58 +14,37 @@ pub struct Telling<'a> {
 }
 
 impl Telling<'_> {
-    /// Tells the faults of a document.
-    pub fn tell_document(
-        &self,
-        rt: &HostRuntime,
-        entries: &[Entry],
-        tally: &mut Tally,
-    ) -> Result<(), Stop> {
-        tally.add_refused(entries.len());
-        self.print(rt, entries)
-    }
-
-    /// Tells the faults of the schema.
-    pub fn tell_schema(
-        &self,
-        rt: &HostRuntime,
-        entries: &[Entry],
-        tally: &mut Tally,
-    ) -> Result<(), Stop> {
-        tally.add_schema(entries.len());
-        self.print(rt, entries)
-    }
-
     /// Prints the faults, as far as they are asked for. Lines of JSON are for programs, which fold what they like: there each fault
     /// has its line.
-    fn print(&self, rt: &HostRuntime, entries: &[Entry]) -> Result<(), Stop> {
+    pub fn tell(&self, rt: &HostRuntime, entries: &[Entry]) -> Result<(), Stop> {
         let most = self.settings.max_faults;
         if matches!(self.settings.format, Format::Json) {
-            return print_all(rt, entries, most);
+            for entry in &entries[..entries.len().min(most)] {
+                print_formed(rt, Format::Json, entry)?;
+            }
+            return Ok(());
         }
         let printed = folded(rt.alloc(), entries)?;
         let (told, rest) = printed.split_at(printed.len().min(most));
-        for one in told {
-            self.print_one(rt, entries, *one)?;
-        }
+        self.print_folded(rt, entries, told)?;
         print_more(rt, faults_in(rest))
     }
 
-    /// Prints a fault in its form, and how many it stands for.
-    fn print_one(&self, rt: &HostRuntime, entries: &[Entry], one: Printed) -> Result<(), Stop> {
-        if let Some(entry) = entries.get(one.index) {
-            print_formed(rt, self.settings.format, entry)?;
+    /// Prints each fault in its form, and how many it stands for.
+    fn print_folded(
+        &self,
+        rt: &HostRuntime,
+        entries: &[Entry],
+        printed: &[Printed],
+    ) -> Result<(), Stop> {
+        for one in printed {
+            if let Some(entry) = entries.get(one.index) {
+                print_formed(rt, self.settings.format, entry)?;
+            }
+            print_more(rt, one.more)?;
         }
-        print_more(rt, one.more)
+        Ok(())
     }
-}
-
-/// Prints the first faults, each as a line of JSON.
-fn print_all(rt: &HostRuntime, entries: &[Entry], most: usize) -> Result<(), Stop> {
-    for entry in entries.iter().take(most) {
-        print_formed(rt, Format::Json, entry)?;
-    }
-    Ok(())
 }
 
 /// Says how many faults are left out, if any are.
@@ -74,8 +52,10 @@ fn print_more(rt: &HostRuntime, more: usize) -> Result<(), Stop> {
     if more == 0 {
         return Ok(());
     }
-    let text = format!(in rt.alloc(); "and {more} more\n")?;
-    put(rt, &text)
+    match println!(rt; "and {more} more") {
+        Ok(()) => Ok(()),
+        Err(_) => Err(Stop::Output),
+    }
 }
 
 /// How many faults these are, with those that each stands for.
@@ -115,8 +95,11 @@ pub fn sources_of<'a>(
     lines: &'a [Lines<'a>],
 ) -> Result<Vec<Source<'a>>, AllocError> {
     let mut sources = Vec::new(alloc);
-    for (path, lines) in paths.iter().zip(lines) {
-        sources.push(Source { path, lines })?;
+    for index in 0..paths.len().min(lines.len()) {
+        sources.push(Source {
+            path: &paths[index],
+            lines: &lines[index],
+        })?;
     }
     Ok(sources)
 }

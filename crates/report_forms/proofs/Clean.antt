@@ -1,16 +1,10 @@
 -- Texts without control characters but line feeds.
-use Rattle.std.proofs.Common.{◌≡◌, ℕ, zero, suc, Bool, false, not, ◌&&◌, List, [], ◌∷◌, ◌++◌, length, All, refl, sym, ◌∙◌, ap, subst, arith}
+use Rattle.std.proofs.Common.{◌≡◌, ℕ, zero, suc, Bool, false, not, ◌&&◌, List, [], ◌∷◌, ◌++◌, All, refl, sym, ◌∙◌, ap, subst, arith}
 use Rattle.std.proofs.lemmas.List.Elements.{All-append}
-use Rattle.std.proofs.lemmas.Str.{chars-append, chars-nil, IsUtf8-append}
-use Rattle.std.specs.Prelude.{◌==◌}
+use Rattle.std.proofs.lemmas.Str.{chars-append}
+use Rattle.std.specs.Prelude.{Result, Ok, Err, OnOk, is_ok, ◌==◌, if◌then◌else◌}
 use Rattle.std.specs.Str.{chars, IsUtf8}
 use Rattle.report_forms.specs.Shown.{is_control, HasNoControl, HasOnlyLineFeeds}
-
-none : (bs : List ℕ) → bs ≡ [] → All (λ c. (is_control c && not (c == 10)) ≡ false) bs
-none bs e k d less = absurd (omega (arith, ap length e))
-
-pub clean-nil : (bs : List ℕ) → bs ≡ [] → HasOnlyLineFeeds bs
-clean-nil bs e = none (chars bs) (ap chars e ∙ chars-nil)
 
 weaker : (a b : Bool) → a ≡ false → (a && b) ≡ false
 weaker a b e = ap (λ x. x && b) e
@@ -26,11 +20,24 @@ one : All (λ c. (is_control c && not (c == 10)) ≡ false) (10 ∷ [])
 one zero d less = refl
 one (suc k) d less = absurd (omega arith)
 
--- a line is added
-pub clean-line : (old line new : List ℕ) → IsUtf8 old → IsUtf8 line → new ≡ old ++ line ++ 10 ∷ [] → HasOnlyLineFeeds old → HasNoControl line → HasOnlyLineFeeds new
-clean-line old line new o l e before shown =
-    let parts : chars new ≡ (chars old ++ chars line) ++ chars (10 ∷ []) =
-    ap chars e ∙ chars-append (old ++ line) (10 ∷ []) (IsUtf8-append old line o l) ∙ ap (λ cs. cs ++ chars (10 ∷ [])) (chars-append old line o) in
-    subst (All (λ c. (is_control c && not (c == 10)) ≡ false)) (sym (parts ∙ ap (λ cs. (chars old ++ chars line) ++ cs) feed))
-    (All-append (λ c. (is_control c && not (c == 10)) ≡ false) (chars old ++ chars line) (10 ∷ [])
-    (All-append (λ c. (is_control c && not (c == 10)) ≡ false) (chars old) (chars line) before (also (chars line) shown)) one)
+-- a line by itself
+pub clean-line : (line new : List ℕ) → IsUtf8 line → new ≡ line ++ 10 ∷ [] → HasNoControl line → HasOnlyLineFeeds new
+clean-line line new l e shown =
+    let parts : chars new ≡ chars line ++ chars (10 ∷ []) = ap chars e ∙ chars-append line (10 ∷ []) l in
+    subst (All (λ c. (is_control c && not (c == 10)) ≡ false)) (sym (parts ∙ ap (λ cs. chars line ++ cs) feed))
+    (All-append (λ c. (is_control c && not (c == 10)) ≡ false) (chars line) (10 ∷ []) (also (chars line) shown) one)
+
+clean-both : (old line : List ℕ) → IsUtf8 old → HasOnlyLineFeeds old → HasOnlyLineFeeds line → HasOnlyLineFeeds (old ++ line)
+clean-both old line o before h =
+    subst (All (λ c. (is_control c && not (c == 10)) ≡ false)) (sym (chars-append old line o)) (All-append (λ c. (is_control c && not (c == 10)) ≡ false) (chars old) (chars line) before h)
+
+-- lines are added
+pub clean-pushed : {T E : Type 0} (r : Result T E) (old line given new : List ℕ) → IsUtf8 old → given ≡ line → HasOnlyLineFeeds line → new ≡ (if is_ok r then old ++ given else old)
+    → OnOk r (HasOnlyLineFeeds old → HasOnlyLineFeeds new)
+clean-pushed (Ok x) old line given new o is h e = λ before. subst HasOnlyLineFeeds (sym (e ∙ ap (λ l. old ++ l) is)) (clean-both old line o before h)
+clean-pushed (Err x) old line given new o is h e = tt
+
+-- one call behind another
+pub clean-then : {T E A B : Type 0} (C : Type 0) (r : Result T E) → (A → B) → OnOk r (B → C) → OnOk r (A → C)
+clean-then C (Ok x) f g = λ a. g (f a)
+clean-then C (Err x) f g = tt

@@ -7,3 +7,4 @@ pub mod OneLine
 pub mod EscapedTexts
 pub mod Orders
 pub mod RelatedPlaces
+pub mod Texts

@@ -1,8 +1,8 @@
 -- Texts that have no line feed.
-use Rattle.std.proofs.Common.{◌≡◌, ℕ, suc, ◌+◌, ◌/◌, ◌%◌, ◌<◌, ◌≤◌, ◌^◌, Bool, true, false, cond, ◌&&◌, ◌||◌, List, [], ◌∷◌, ◌++◌, refl, ◌∙◌, ap, arith, inl, inr, decimal}
+use Rattle.std.proofs.Common.{◌≡◌, ℕ, zero, suc, ◌+◌, ◌/◌, ◌%◌, ◌≤◌, Bool, true, false, cond, ◌&&◌, ◌||◌, List, [], ◌∷◌, ◌++◌, refl, ◌∙◌, ap, arith, inl, inr, decimal}
 use Rattle.std.proofs.lemmas.Bool.Decides.{leb_tells, eqb_tells}
-use Rattle.std.proofs.lemmas.Fmt.{decimal_by_steps}
-use Rattle.std.specs.Prelude.{nat_le, nat_lt, ◌==◌}
+use Rattle.std.specs.Fmt.{digit_glyph, digits, digits_onto}
+use Rattle.std.specs.Prelude.{Result, Ok, Err, OnOk, nat_le, nat_lt, ◌==◌}
 use Rattle.std.specs.Char.{digit_char}
 use Rattle.json.specs.Print.{escape_letter, escape_byte, escape, quoted}
 use Rattle.report_forms.specs.Forms.{one_line}
@@ -25,10 +25,21 @@ one_line-append (x ∷ xs) ys p q = both (nat_le 32 x) (one_line (xs ++ ys)) (fi
 big : (n : ℕ) → 32 ≤ n → nat_le 32 n ≡ true
 big n le = elim (leb_tells 32 n) [ inl h ↦ h.0 | inr h ↦ absurd (omega (arith, h.1)) ]
 
-pub one_line-decimal : (n : ℕ) → n < 2 ^ 64 → one_line (decimal n) ≡ true
-one_line-decimal = decimal_by_steps (λ n ds. one_line ds ≡ true)
-    (λ n less. both (nat_le 32 (48 + n)) true (big (48 + n) (omega arith)) refl)
-    (λ n ds more ih. one_line-append ds ((48 + n % 10) ∷ []) ih (both (nat_le 32 (48 + n % 10)) true (big (48 + n % 10) (omega arith)) refl))
+glyph : (d : ℕ) → nat_le 32 (digit_glyph false d) ≡ true
+glyph d = elim (nat_lt d 10) as (λ b. nat_le 32 (cond b (48 + d) (87 + d)) ≡ true) [ true ↦ big (48 + d) (omega arith) | false ↦ big (87 + d) (omega arith) ]
+
+one_line-digits : (k n : ℕ) (behind : List ℕ) → one_line behind ≡ true → one_line (digits_onto k 10 false n behind) ≡ true
+one_line-digits zero n behind h = h
+one_line-digits (suc k) n behind h =
+    let more : one_line (digit_glyph false (n % 10) ∷ behind) ≡ true = both (nat_le 32 (digit_glyph false (n % 10))) (one_line behind) (glyph (n % 10)) h in
+    elim (n / 10 == 0) as (λ b. one_line (cond b (digit_glyph false (n % 10) ∷ behind) (digits_onto k 10 false (n / 10) (digit_glyph false (n % 10) ∷ behind))) ≡ true) [
+      | true ↦ more
+      | false ↦ one_line-digits k (n / 10) (digit_glyph false (n % 10) ∷ behind) more
+    ]
+
+pub one_line-decimal : (n : ℕ) → one_line (decimal n) ≡ true
+unfolding digits
+one_line-decimal n = one_line-digits 64 n [] refl
 
 digit : (d : ℕ) → nat_le 32 (digit_char d) ≡ true
 digit d = elim (nat_lt d 10) as (λ b. nat_le 32 (cond b (48 + d) (87 + d)) ≡ true) [ true ↦ big (48 + d) (omega arith) | false ↦ big (87 + d) (omega arith) ]
@@ -79,3 +90,12 @@ one_line-quoted s = one_line-append (escape s) (34 ∷ []) (one_line-escape s) r
 
 pub one_line-same : (bs ds : List ℕ) → bs ≡ ds → one_line ds ≡ true → one_line bs ≡ true
 one_line-same bs ds e h = ap one_line e ∙ h
+
+-- a number between two texts
+pub one_line-number : (front : List ℕ) (n : ℕ) (back : List ℕ) → one_line front ≡ true → one_line back ≡ true → one_line (front ++ (decimal n ++ back)) ≡ true
+one_line-number front n back f b = one_line-append front (decimal n ++ back) f (one_line-append (decimal n) back (one_line-decimal n) b)
+
+-- a text that is written behind another
+pub one_line-written : {T E : Type 0} (r : Result T E) (old new more : List ℕ) → one_line old ≡ true → one_line more ≡ true → OnOk r (new ≡ old ++ more) → OnOk r (one_line new ≡ true)
+one_line-written (Ok x) old new more before h e = one_line-same new (old ++ more) e (one_line-append old more before h)
+one_line-written (Err x) old new more before h e = tt

@@ -26,15 +26,15 @@ heading e = string_bytes e.path ++ position_text (start_of e) ++ codes ": error[
 abbrev pub width_of : List ℕ → ℕ
 width_of text = str_width false (chars (shown_text text))
 
--- a line behind its number, and under it a mark for each column of the place, one at the least
+-- a line behind its number, and under it, behind a margin as wide, a mark for each column of the place, one at the least
 abbrev pub numbered_line : ℕ → Excerpt → List ℕ
 numbered_line number e = decimal number ++ codes " | " ++ string_bytes e.before ++ string_bytes e.marked ++ string_bytes e.after
 
 abbrev pub marks : ℕ → Excerpt → List ℕ
-marks number e = replicate (length (decimal number)) 32 ++ codes " | " ++ replicate (width_of (string_bytes e.before)) 32 ++ replicate (max (width_of (string_bytes e.marked)) 1) 94
+marks margin e = replicate margin 32 ++ codes " | " ++ replicate (width_of (string_bytes e.before)) 32 ++ replicate (max (width_of (string_bytes e.marked)) 1) 94
 
 abbrev pub excerpt_text : ℕ → Excerpt → List ℕ
-excerpt_text number e = shown_text (numbered_line number e) ++ 10 ∷ [] ++ shown_text (marks number e) ++ 10 ∷ []
+excerpt_text number e = shown_text (numbered_line number e) ++ 10 ∷ [] ++ shown_text (marks (length (decimal number)) e) ++ 10 ∷ []
 
 -- the properties of a place in a workflow command
 abbrev pub properties : Option Place → List ℕ

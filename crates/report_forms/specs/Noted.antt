@@ -1,7 +1,6 @@
 -- The places that belong to a fault beside its own.
-use Rattle.std.specs.Prelude.{◌≡◌, ℕ, Bool, true, false, ◌++◌, not, ◌&&◌, ◌==◌, List, [], ◌∷◌, Option, None, Some, string_bytes, filter, option_map, ⊤}
+use Rattle.std.specs.Prelude.{◌≡◌, Bool, true, false, not, ◌&&◌, ◌==◌, List, [], ◌∷◌, Option, None, Some, string_bytes, filter, option_map, ⊤}
 use Rattle.graphql_names.specs.declared.span.SourceSpan.{SourceSpan}
-use Rattle.report_forms.specs.declared.position.Position.{Position}
 use Rattle.report_forms.specs.declared.entry.Place.{Place}
 use Rattle.report_forms.specs.declared.entry.Related.{Related}
 use Rattle.report_forms.specs.declared.noted.Noted.{Noted}
@@ -32,9 +31,3 @@ AreRelated sources [] [] = ⊤
 AreRelated sources [] (r ∷ rs) = ⊥
 AreRelated sources (n ∷ ns) [] = ⊥
 AreRelated sources (n ∷ ns) (r ∷ rs) = IsRelated sources n r × AreRelated sources ns rs
-
--- one more is added, if it is another place
-pub record AddsOther (sources : List Source) (own : Option SourceSpan) (noted : Noted) (old new : List Related) : Type 0 where
-  pub part : List Related
-  pub adds : new ≡ old ++ part
-  pub each : AreRelated sources (others own (noted ∷ [])) part

@@ -1,6 +1,6 @@
 -- The order in which faults are told: those without a place first, then by text and by offset, and where these are the same, as they
 -- were found.
-use Rattle.std.specs.Prelude.{ℕ, zero, suc, List, [], ◌∷◌, Option, None, Some}
+use Rattle.std.specs.Prelude.{ℕ, suc, List, [], ◌∷◌, Option, None, Some}
 use Rattle.std.specs.Ordering.{nat_cmp, ordering_then}
 use Rattle.std.specs.Option.{option_cmp}
 use Rattle.std.specs.List.Sorted.{IsPermutation, IsSorted}

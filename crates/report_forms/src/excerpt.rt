@@ -1,6 +1,7 @@
 //! The line of a fault.
 
 use crate::entry::Excerpt;
+use crate::lines::before_terminator;
 use crate::source::{Source, source_at};
 use graphql_names::SourceSpan;
 use std::alloc::{AllocError, Global};
@@ -17,47 +18,36 @@ pub fn excerpt_at(
     let Some(span) = place else {
         return Ok(None);
     };
-    match source_at(sources, span) {
-        None => Ok(None),
-        Some(source) => Ok(Some(excerpt(alloc, source.lines.text(), span)?)),
-    }
-}
-
-/// The same of a place in this text.
-fn excerpt(alloc: Global, text: &str, span: SourceSpan) -> Result<Excerpt, AllocError> {
-    let (head, rest) = split_at(text, span.offset);
-    let (inside, behind) = split_at(rest, span.length);
+    let Some(source) = source_at(sources, span) else {
+        return Ok(None);
+    };
+    let (head, rest) = cut(source.lines.text(), span.offset);
+    let (inside, behind) = cut(rest, span.length);
     let marked = first_of_line(inside);
     let after = if marked.len() == inside.len() {
         first_of_line(behind)
     } else {
         ""
     };
-    Ok(Excerpt {
+    Ok(Some(Excerpt {
         before: String::from_str(alloc, last_of_line(head))?,
         marked: String::from_str(alloc, marked)?,
         after: String::from_str(alloc, after)?,
-    })
+    }))
 }
 
 /// The text before and after so many bytes; all before, where it can't be cut there.
-fn split_at(text: &str, bytes: usize) -> (&str, &str) {
-    match (text.get(..bytes), text.get(bytes..)) {
-        (Some(head), Some(rest)) => (head, rest),
-        _ => (text, ""),
-    }
+fn cut(text: &str, bytes: usize) -> (&str, &str) {
+    text.split_at_checked(bytes).unwrap_or((text, ""))
 }
 
 /// The characters at the beginning, up to the end of a line and not too many.
 fn first_of_line(text: &str) -> &str {
-    let mut bytes = 0usize;
-    for character in text.chars().take(MOST) {
-        if character == '\n' || character == '\r' {
-            break;
-        }
-        bytes = bytes.saturating_add(character.len_utf8());
+    let line = before_terminator(text);
+    match line.char_indices().nth(MOST) {
+        None => line,
+        Some((end, _)) => line.get(..end).unwrap_or(line),
     }
-    text.get(..bytes).unwrap_or("")
 }
 
 /// The characters at the end, from the beginning of a line on and not too many.

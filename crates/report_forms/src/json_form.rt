@@ -1,6 +1,6 @@
 //! A fault as a line of JSON.
 
-ghost use Rattle.std.specs.Prelude.{◌≡◌, ◌++◌, true, OnOk, IfOk, string_bytes, decimal};
+ghost use Rattle.std.specs.Prelude.{◌≡◌, true, OnOk, IfOk, string_bytes};
 ghost use Rattle.json.specs.Print.{quoted};
 ghost use Rattle.report_forms.specs.Forms.{one_line, IsOneLine};
 
@@ -15,9 +15,8 @@ impl Entry {
     pub fn json(&self, alloc: Global) -> Result<String, AllocError>
         ensures { IfOk result (λ text. IsOneLine (string_bytes text)) }
     {
-        let mut out = self.object(alloc)?;
-        out.push('\n')?;
-        Ok(out)
+        let object = self.object(alloc)?;
+        format!(in alloc; "{object}\n")
     }
 
     /// The object, which ends in no line feed.
@@ -29,20 +28,18 @@ impl Entry {
         Ok(out)
     }
 
-    /// Adds the object.
+    /// Adds the object, whose end `push_fields` adds.
     fn push_object(&self, alloc: Global, out: &mut String) -> Result<(), AllocError>
         requires { one_line (string_bytes out.old) ≡ true }
         ensures { OnOk result (one_line (string_bytes out.new) ≡ true) }
     {
         push_text(alloc, out, "{\"path\":", &self.path)?;
-        push_place(alloc, out, self.place)?;
+        push_place(out, self.place)?;
         push_text(alloc, out, ",\"rule\":", self.rule)?;
         push_text(alloc, out, ",\"message\":", &self.message)?;
-        push_all_related(alloc, out, &self.related)?;
+        push_related(alloc, out, &self.related)?;
         push_hint(alloc, out, &self.hint)?;
-        push_fields(alloc, out, &self.fields)?;
-        push_plain(out, "}")?;
-        Ok(())
+        push_fields(alloc, out, &self.fields)
     }
 }
 
@@ -52,8 +49,7 @@ fn push_plain(out: &mut String, text: &str) -> Result<(), AllocError>
     requires before { one_line (string_bytes out.old) ≡ true }
     ensures { OnOk result (one_line (string_bytes out.new) ≡ true) }
 {
-    out.push_str(text)?;
-    Ok(())
+    out.push_str(text)
 }
 
 /// Adds a text in JSON after a head.
@@ -62,10 +58,8 @@ fn push_text(alloc: Global, out: &mut String, head: &str, text: &str) -> Result<
     requires before { one_line (string_bytes out.old) ≡ true }
     ensures { OnOk result (one_line (string_bytes out.new) ≡ true) }
 {
-    push_plain(out, head)?;
-    let text = quoted_line(alloc, text)?;
-    push_plain(out, &text)?;
-    Ok(())
+    let text = quoted(alloc, text)?;
+    write!(out, "{head}{text}")
 }
 
 /// The text as JSON.
@@ -75,107 +69,55 @@ pub fn quoted(alloc: Global, text: &str) -> Result<String, AllocError>
     Value::String(String::from_str(alloc, text)?).to_string(alloc)
 }
 
-/// The text as JSON, of which it is known that it is in one line.
-fn quoted_line(alloc: Global, text: &str) -> Result<String, AllocError>
-    ensures { IfOk result (λ json. one_line (string_bytes json) ≡ true) }
-{
-    let json = quoted(alloc, text)?;
-    Ok(json)
-}
-
-/// Adds a number after a head.
-fn push_number(alloc: Global, out: &mut String, head: &str, number: usize) -> Result<(), AllocError>
-    requires head { one_line head.now ≡ true }
-    requires before { one_line (string_bytes out.old) ≡ true }
-    ensures { OnOk result (one_line (string_bytes out.new) ≡ true) }
-{
-    push_plain(out, head)?;
-    let number = digits(alloc, number)?;
-    push_plain(out, &number)?;
-    Ok(())
-}
-
-/// The number in decimal.
-fn digits(alloc: Global, number: usize) -> Result<String, AllocError>
-    ensures value { IfOk result (λ text. string_bytes text ≡ decimal number) }
-    ensures plain { IfOk result (λ text. one_line (string_bytes text) ≡ true) }
-{
-    let text = number.to_string(alloc)?;
-    Ok(text)
-}
-
 /// Adds the members of the place.
-fn push_place(alloc: Global, out: &mut String, place: Option<Place>) -> Result<(), AllocError>
+fn push_place(out: &mut String, place: Option<Place>) -> Result<(), AllocError>
     requires { one_line (string_bytes out.old) ≡ true }
     ensures { OnOk result (one_line (string_bytes out.new) ≡ true) }
 {
     let Some(place) = place else {
-        push_plain(
+        return push_plain(
             out,
             ",\"line\":null,\"column\":null,\"end\":null,\"offset\":null,\"length\":null",
-        )?;
-        return Ok(());
+        );
     };
-    push_number(alloc, out, ",\"line\":", place.start.line)?;
-    push_number(alloc, out, ",\"column\":", place.start.column)?;
-    push_number(alloc, out, ",\"end\":{\"line\":", place.end.line)?;
-    push_number(alloc, out, ",\"column\":", place.end.column)?;
-    push_number(alloc, out, "},\"offset\":", place.offset)?;
-    push_number(alloc, out, ",\"length\":", place.length)?;
-    Ok(())
+    write!(
+        out,
+        ",\"line\":{},\"column\":{},\"end\":{{\"line\":{},\"column\":{}}},\"offset\":{},\"length\":{}",
+        place.start.line,
+        place.start.column,
+        place.end.line,
+        place.end.column,
+        place.offset,
+        place.length,
+    )
 }
 
 /// Adds the places that belong to the fault.
-fn push_all_related(alloc: Global, out: &mut String, related: &[Related]) -> Result<(), AllocError>
+fn push_related(alloc: Global, out: &mut String, related: &[Related]) -> Result<(), AllocError>
     requires { one_line (string_bytes out.old) ≡ true }
     ensures { OnOk result (one_line (string_bytes out.new) ≡ true) }
 {
     push_plain(out, ",\"related\":[")?;
-    let mut is_first = true;
+    let mut head = "{\"path\":";
     for other in related {
-        push_comma(out, is_first)?;
-        push_related(alloc, out, other)?;
-        is_first = false;
+        push_text(alloc, out, head, &other.path)?;
+        push_start(out, other.start)?;
+        push_text(alloc, out, ",\"words\":", &other.words)?;
+        push_plain(out, "}")?;
+        head = ",{\"path\":";
     }
-    push_plain(out, "]")?;
-    Ok(())
+    push_plain(out, "]")
 }
 
-/// Adds a comma but before the first.
-fn push_comma(out: &mut String, is_first: bool) -> Result<(), AllocError>
+/// Adds where such a place begins.
+fn push_start(out: &mut String, start: Option<Position>) -> Result<(), AllocError>
     requires { one_line (string_bytes out.old) ≡ true }
     ensures { OnOk result (one_line (string_bytes out.new) ≡ true) }
 {
-    if !is_first {
-        push_plain(out, ",")?;
+    match start {
+        None => push_plain(out, ",\"line\":null,\"column\":null"),
+        Some(start) => { write!(out, ",\"line\":{},\"column\":{}", start.line, start.column) }
     }
-    Ok(())
-}
-
-/// Adds a place that belongs to the fault.
-fn push_related(alloc: Global, out: &mut String, related: &Related) -> Result<(), AllocError>
-    requires { one_line (string_bytes out.old) ≡ true }
-    ensures { OnOk result (one_line (string_bytes out.new) ≡ true) }
-{
-    push_text(alloc, out, "{\"path\":", &related.path)?;
-    push_start(alloc, out, related.start)?;
-    push_text(alloc, out, ",\"words\":", &related.words)?;
-    push_plain(out, "}")?;
-    Ok(())
-}
-
-/// Adds where it begins.
-fn push_start(alloc: Global, out: &mut String, start: Option<Position>) -> Result<(), AllocError>
-    requires { one_line (string_bytes out.old) ≡ true }
-    ensures { OnOk result (one_line (string_bytes out.new) ≡ true) }
-{
-    let Some(start) = start else {
-        push_plain(out, ",\"line\":null,\"column\":null")?;
-        return Ok(());
-    };
-    push_number(alloc, out, ",\"line\":", start.line)?;
-    push_number(alloc, out, ",\"column\":", start.column)?;
-    Ok(())
 }
 
 /// Adds the hint.
@@ -184,25 +126,22 @@ fn push_hint(alloc: Global, out: &mut String, hint: &Option<String>) -> Result<(
     ensures { OnOk result (one_line (string_bytes out.new) ≡ true) }
 {
     match hint {
-        None => push_plain(out, ",\"hint\":null")?,
-        Some(words) => push_text(alloc, out, ",\"hint\":", words)?,
+        None => push_plain(out, ",\"hint\":null"),
+        Some(words) => push_text(alloc, out, ",\"hint\":", words),
     }
-    Ok(())
 }
 
-/// Adds the data of the fault.
+/// Adds the data of the fault, and the end of the object.
 fn push_fields(alloc: Global, out: &mut String, fields: &[Field]) -> Result<(), AllocError>
     requires { one_line (string_bytes out.old) ≡ true }
     ensures { OnOk result (one_line (string_bytes out.new) ≡ true) }
 {
     push_plain(out, ",\"fields\":{")?;
-    let mut is_first = true;
+    let mut head = "";
     for field in fields {
-        push_comma(out, is_first)?;
-        push_text(alloc, out, "", field.name)?;
+        push_text(alloc, out, head, field.name)?;
         push_text(alloc, out, ":", &field.value)?;
-        is_first = false;
+        head = ",";
     }
-    push_plain(out, "}")?;
-    Ok(())
+    push_plain(out, "}}")
 }

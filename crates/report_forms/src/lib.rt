@@ -35,6 +35,5 @@ pub use lines::Lines;
 pub use noted::{Noted, related};
 pub use order::{Rank, order_of};
 pub use position::Position;
-pub use push_line::push_number;
 pub use showing::{is_control, shown};
 pub use source::{Source, path_at, place_at, source_at};

@@ -1,6 +1,6 @@
 //! The lines of a text.
 
-ghost use Rattle.std.specs.Prelude.{◌≡◌, ℕ, ◌+◌, ◌<◌, ◌≤◌, ◌↔◌, true, false, nat_le, List, length, drop, IfOk, IfSome, IfNone, IsSome};
+ghost use Rattle.std.specs.Prelude.{◌≡◌, ℕ, ◌+◌, ◌<◌, ◌≤◌, ◌↔◌, true, false, nat_le, List, length, IfOk, IfSome, IfNone, IsSome};
 ghost use Rattle.std.specs.List.Sorted.{IsPartitionedBy, IsPartitionPoint};
 ghost use Rattle.report_forms.specs.Ends.{ends_line, how_many};
 ghost use Rattle.report_forms.specs.Positions.{IsLineStart, IsPosition, IsFirstPlace, IsColumn, IsFirstInLine};
@@ -40,7 +40,13 @@ impl<'a> Lines<'a> {
     pub fn new(alloc: Global, text: &'a str) -> Result<Lines<'a>, AllocError>
         ensures { IfOk result (λ lines. lines ≡ text.now) }
     {
-        let starts = starts_of(alloc, text.as_bytes())?;
+        let bytes = text.as_bytes();
+        let mut starts: Vec<usize> = vec![in alloc; 0]?;
+        for last in 0..bytes.len() {
+            if ends_line(bytes, last) {
+                starts.push(last + 1)?;
+            }
+        }
         Ok(Lines { text, starts })
     }
 
@@ -57,7 +63,8 @@ impl<'a> Lines<'a> {
     {
         let text = self.text.as_bytes();
         let place = offset.min(text.len());
-        let (line, start) = self.line_of(place);
+        let line = self.starts.partition_point(|start| *start <= place);
+        let start = self.starts[line - 1];
         Position {
             line,
             column: characters_between(text, start, place) + 1,
@@ -79,7 +86,8 @@ impl<'a> Lines<'a> {
         ensures text { IfSome result (λ line. IsLineText self.now number line.now) }
     {
         let start = self.start_of(number)?;
-        Some(line_from(self.text, start))
+        let text = self.text();
+        Some(before_terminator(&text[start..]))
     }
 
     /// Where the line of this number begins.
@@ -91,16 +99,6 @@ impl<'a> Lines<'a> {
             return None;
         }
         Some(self.starts[number - 1])
-    }
-
-    /// The number of the line that the place is in, and where that line begins.
-    fn line_of(&self, place: usize) -> (usize, usize)
-        requires { place ≤ length self.now }
-        ensures number { result.0 ≡ 1 + how_many (ends_line self.now) 0 place }
-        ensures start { IsLineStart self.now place result.1 }
-    {
-        let line = count_up_to(&self.starts, place);
-        (line, self.starts[line - 1])
     }
 }
 
@@ -130,17 +128,8 @@ fn place_in_line(text: &[u8], start: usize, column: usize) -> Option<usize>
     }
 }
 
-/// The text from there up to the next line terminator.
-fn line_from(text: &str, start: usize) -> &str
-    requires within { start ≤ length text.now }
-    requires begins { IsLineStart text.now start start }
-    ensures { IsFirstLine (drop start text.now) result.now }
-{
-    before_terminator(&text[start..])
-}
-
 /// What stands before the first line terminator, or the whole text where there is none.
-fn before_terminator(text: &str) -> &str
+pub(crate) fn before_terminator(text: &str) -> &str
     ensures { IsFirstLine text.now result.now }
 {
     for (index, byte) in text.as_bytes().iter().enumerate() {
@@ -149,26 +138,4 @@ fn before_terminator(text: &str) -> &str
         }
     }
     text
-}
-
-/// How many of these places, which rise, are at or before this one.
-fn count_up_to(starts: &[usize], place: usize) -> usize
-    requires { IsPartitionedBy (λ y. nat_le y place) starts.now }
-    ensures bound { result ≤ length starts.now }
-    ensures point { IsPartitionPoint (λ y. nat_le y place ≡ true) (λ y. nat_le y place ≡ false) starts.now result }
-{
-    starts.partition_point(|start| *start <= place)
-}
-
-/// The places at which lines begin.
-fn starts_of(alloc: Global, text: &[u8]) -> Result<Vec<usize>, AllocError>
-    ensures { IfOk result (λ starts. starts.items ≡ starts_up_to text.now (length text.now)) }
-{
-    let mut starts: Vec<usize> = vec![in alloc; 0]?;
-    for last in 0..text.len() {
-        if ends_line(text, last) {
-            starts.push(last + 1)?;
-        }
-    }
-    Ok(starts)
 }

@@ -1,7 +1,7 @@
 //! Places that belong to a fault.
 
-ghost use Rattle.std.specs.Prelude.{◌≡◌, IfOk, OnOk};
-ghost use Rattle.report_forms.specs.Noted.{is_other, others, AreRelated, AddsOther, IsRelated};
+ghost use Rattle.std.specs.Prelude.{◌≡◌, IfOk};
+ghost use Rattle.report_forms.specs.Noted.{is_other, others, AreRelated, IsRelated};
 
 use crate::entry::Related;
 use crate::source::{Source, path_of, place_at};
@@ -16,7 +16,7 @@ pub struct Noted {
 }
 
 /// The places that belong to a fault in lines and columns, without its own and without those that are none.
-#[tactic(auto, using(crate::proofs::RelatedPlaces::related_more))]
+#[tactic(auto, using(crate::proofs::RelatedPlaces::one_more, crate::proofs::RelatedPlaces::none_more))]
 pub fn related(
     alloc: Global,
     sources: &[Source<'_>],
@@ -27,28 +27,13 @@ pub fn related(
 {
     let mut all = Vec::new(alloc);
     for one in noted {
-        push_related(alloc, &mut all, sources, own, *one)?;
+        if !is_other(own, one.place) {
+            continue;
+        }
+        let related = related_at(alloc, sources, *one)?;
+        all.push(related)?;
     }
     Ok(all)
-}
-
-/// Adds the place, if there is one that is not the fault's own.
-#[tactic(auto, using(crate::proofs::RelatedPlaces::adds_one, crate::proofs::RelatedPlaces::adds_none))]
-fn push_related(
-    alloc: Global,
-    all: &mut Vec<Related>,
-    sources: &[Source<'_>],
-    own: Option<SourceSpan>,
-    noted: Noted,
-) -> Result<(), AllocError>
-    ensures { OnOk result (AddsOther sources.now own noted all.old.items all.new.items) }
-{
-    if !is_other(own, noted.place) {
-        return Ok(());
-    }
-    let related = related_at(alloc, sources, noted)?;
-    all.push(related)?;
-    Ok(())
 }
 
 /// Whether there is a place, which is not the fault's own.
@@ -67,12 +52,10 @@ fn related_at(alloc: Global, sources: &[Source<'_>], noted: Noted) -> Result<Rel
     ensures { IfOk result (λ related. IsRelated sources.now noted related) }
 {
     let path = match noted.place {
-        None => String::new(alloc),
-        Some(span) => {
-            let path = path_of(sources, span);
-            String::from_str(alloc, path)?
-        }
+        None => "",
+        Some(span) => path_of(sources, span),
     };
+    let path = String::from_str(alloc, path)?;
     let words = String::from_str(alloc, noted.words)?;
     let start = match place_at(sources, noted.place) {
         None => None,

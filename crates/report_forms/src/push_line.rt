@@ -1,34 +1,27 @@
 //! A line of a form.
 
-ghost use Rattle.std.specs.Prelude.{◌≡◌, ◌++◌, ◌∷◌, [], ◌<◌, OnOk, string_bytes, decimal, replicate};
+ghost use Rattle.std.specs.Prelude.{◌≡◌, ◌++◌, ◌∷◌, [], ◌<◌, IfOk, OnOk, string_bytes, replicate};
 ghost use Rattle.report_forms.specs.Shown.{shown_text, HasOnlyLineFeeds};
 
 use crate::showing::shown;
 use std::alloc::{AllocError, Global};
 
-/// Adds a line: what is shown of the text, and a line feed.
+/// A line: what is shown of the text, and a line feed.
+pub(crate) fn shown_line(alloc: Global, text: &str) -> Result<String, AllocError>
+    ensures value { IfOk result (λ line. string_bytes line ≡ shown_text text.now ++ 10 ∷ []) }
+    ensures clean { IfOk result (λ line. HasOnlyLineFeeds (string_bytes line)) }
+{
+    let line = shown(alloc, text)?;
+    format!(in alloc; "{line}\n")
+}
+
+/// Adds such a line.
 pub(crate) fn push_line(alloc: Global, out: &mut String, text: &str) -> Result<(), AllocError>
     ensures value { OnOk result (string_bytes out.new ≡ string_bytes out.old ++ shown_text text.now ++ 10 ∷ []) }
     ensures clean { OnOk result (HasOnlyLineFeeds (string_bytes out.old) → HasOnlyLineFeeds (string_bytes out.new)) }
 {
-    let line = shown(alloc, text)?;
-    out.push_str(&line)?;
-    out.push('\n')?;
-    Ok(())
-}
-
-/// Adds a number after a head.
-pub fn push_number(
-    alloc: Global,
-    out: &mut String,
-    head: &str,
-    number: usize,
-) -> Result<(), AllocError>
-    ensures { OnOk result (string_bytes out.new ≡ string_bytes out.old ++ head.now ++ decimal number) }
-{
-    let number = number.to_string(alloc)?;
-    out.push_str(head)?;
-    out.push_str(&number)
+    let line = shown_line(alloc, text)?;
+    out.push_str(&line)
 }
 
 /// Adds a character of ASCII so many times.

@@ -1,12 +1,12 @@
 //! A fault in a line.
 
-ghost use Rattle.std.specs.Prelude.{◌≡◌, ◌++◌, ◌∷◌, [], OnOk, IfOk, string_bytes};
+ghost use Rattle.std.specs.Prelude.{◌≡◌, ◌++◌, ◌∷◌, [], IfOk, string_bytes};
 ghost use Rattle.report_forms.specs.Shown.{shown_text, HasOnlyLineFeeds};
-ghost use Rattle.report_forms.specs.Forms.{start_of, position_text, heading};
+ghost use Rattle.report_forms.specs.Forms.{position_text, heading};
 
 use crate::entry::Entry;
 use crate::position::Position;
-use crate::push_line::{push_line, push_number};
+use crate::push_line::shown_line;
 use std::alloc::{AllocError, Global};
 
 impl Entry {
@@ -16,46 +16,32 @@ impl Entry {
         ensures clean { IfOk result (λ text. HasOnlyLineFeeds (string_bytes text)) }
     {
         let heading = self.heading(alloc)?;
-        let mut out = String::new(alloc);
-        push_line(alloc, &mut out, &heading)?;
-        Ok(out)
+        shown_line(alloc, &heading)
     }
 
     /// The line, as its parts are.
     fn heading(&self, alloc: Global) -> Result<String, AllocError>
         ensures { IfOk result (λ text. string_bytes text ≡ heading self.now) }
     {
-        let mut out = String::from_str(alloc, &self.path)?;
-        push_position(alloc, &mut out, self.start())?;
-        out.push_str(": error[")?;
-        out.push_str(self.rule)?;
-        out.push_str("]: ")?;
-        out.push_str(&self.message)?;
-        Ok(out)
-    }
-
-    /// Where it begins.
-    fn start(&self) -> Option<Position>
-        ensures { result ≡ start_of self.now }
-    {
-        match self.place {
+        let start = match self.place {
             None => None,
             Some(place) => Some(place.start),
-        }
+        };
+        let place = located(alloc, &self.path, start)?;
+        format!(in alloc; "{place}: error[{}]: {}", self.rule, self.message)
     }
 }
 
-/// Adds a line and a column, each after a colon.
-pub(crate) fn push_position(
+/// A path, and after it a line and a column, each after a colon.
+pub(crate) fn located(
     alloc: Global,
-    out: &mut String,
+    path: &str,
     start: Option<Position>,
-) -> Result<(), AllocError>
-    ensures { OnOk result (string_bytes out.new ≡ string_bytes out.old ++ position_text start) }
+) -> Result<String, AllocError>
+    ensures { IfOk result (λ text. string_bytes text ≡ path.now ++ position_text start) }
 {
-    let Some(position) = start else {
-        return Ok(());
-    };
-    push_number(alloc, out, ":", position.line)?;
-    push_number(alloc, out, ":", position.column)
+    match start {
+        None => String::from_str(alloc, path),
+        Some(start) => format!(in alloc; "{path}:{}:{}", start.line, start.column),
+    }
 }

@@ -1,7 +1,7 @@
 //! Texts under the names that the caller has for them, and where places are in them.
 
 ghost use Rattle.std.specs.Prelude.{◌≡◌, IfSome, IfNone, option_map};
-ghost use Rattle.report_forms.specs.Places.{source_at, path_of, path_at, IsPlaceIn, IsPlaceAt};
+ghost use Rattle.report_forms.specs.Places.{source_at, path_of, path_at, IsPlaceAt};
 
 use crate::entry::Place;
 use crate::lines::Lines;
@@ -53,23 +53,16 @@ pub(crate) fn path_of<'a>(sources: &[Source<'a>], span: SourceSpan) -> &'a str
 pub fn place_at(sources: &[Source<'_>], place: Option<SourceSpan>) -> Option<Place>
     ensures { IsPlaceAt sources.now place result }
 {
-    match place {
-        None => None,
-        Some(span) => match source_at(sources, span) {
-            None => None,
-            Some(source) => Some(place_in(source.lines, span)),
-        },
-    }
-}
-
-/// The place in lines and columns.
-fn place_in(lines: &Lines<'_>, span: SourceSpan) -> Place
-    ensures { IsPlaceIn lines.now span result }
-{
-    Place {
+    let Some(span) = place else {
+        return None;
+    };
+    let Some(Source { lines, .. }) = source_at(sources, span) else {
+        return None;
+    };
+    Some(Place {
         start: lines.position(span.offset),
         end: lines.position(span.offset + span.length),
         offset: span.offset,
         length: span.length,
-    }
+    })
 }

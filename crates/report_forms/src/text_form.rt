@@ -2,11 +2,11 @@
 
 ghost use Rattle.std.specs.Prelude.{◌≡◌, ◌++◌, ◌∷◌, [], codes, OnOk, IfOk, string_bytes};
 ghost use Rattle.report_forms.specs.Shown.{shown_text, HasOnlyLineFeeds};
-ghost use Rattle.report_forms.specs.Forms.{width_of, numbered_line, marks, excerpt_text};
+ghost use Rattle.report_forms.specs.Forms.{width_of, marks, excerpt_text};
 
 use crate::entry::{Entry, Excerpt, Related};
 use crate::push_line::{push_line, push_times};
-use crate::short_form::push_position;
+use crate::short_form::located;
 use crate::showing::shown;
 use std::alloc::{AllocError, Global};
 use unicode_width::UnicodeWidthStr;
@@ -27,7 +27,7 @@ impl Entry {
             push_related(alloc, &mut out, related)?;
         }
         if let Some(hint) = &self.hint {
-            push_noted(alloc, &mut out, "help: ", hint)?;
+            push_noted(alloc, &mut out, "help", hint)?;
         }
         Ok(out)
     }
@@ -43,37 +43,29 @@ fn push_excerpt(
     ensures value { OnOk result (string_bytes out.new ≡ string_bytes out.old ++ excerpt_text number excerpt.now) }
     ensures clean { OnOk result (HasOnlyLineFeeds (string_bytes out.old) → HasOnlyLineFeeds (string_bytes out.new)) }
 {
-    let line = numbered_line(alloc, number, excerpt)?;
+    let number = number.to_string(alloc)?;
+    let Excerpt {
+        before,
+        marked,
+        after,
+    } = excerpt;
+    let line = format!(in alloc; "{number} | {before}{marked}{after}")?;
     push_line(alloc, out, &line)?;
-    let marks = marks(alloc, number, excerpt)?;
-    push_line(alloc, out, &marks)?;
-    Ok(())
+    let marks = marks(alloc, number.len(), excerpt)?;
+    push_line(alloc, out, &marks)
 }
 
-/// The line after its number.
-fn numbered_line(alloc: Global, number: usize, excerpt: &Excerpt) -> Result<String, AllocError>
-    ensures { IfOk result (λ text. string_bytes text ≡ numbered_line number excerpt.now) }
+/// The marks under the place, after a margin so wide.
+fn marks(alloc: Global, margin: usize, excerpt: &Excerpt) -> Result<String, AllocError>
+    ensures { IfOk result (λ text. string_bytes text ≡ marks margin excerpt.now) }
 {
-    let mut line = number.to_string(alloc)?;
-    line.push_str(" | ")?;
-    line.push_str(&excerpt.before)?;
-    line.push_str(&excerpt.marked)?;
-    line.push_str(&excerpt.after)?;
-    Ok(line)
-}
-
-/// The marks under the place.
-fn marks(alloc: Global, number: usize, excerpt: &Excerpt) -> Result<String, AllocError>
-    ensures { IfOk result (λ text. string_bytes text ≡ marks number excerpt.now) }
-{
-    let margin = number.to_string(alloc)?.len();
     let before = width(alloc, &excerpt.before)?;
-    let marked = width(alloc, &excerpt.marked)?;
+    let marked = width(alloc, &excerpt.marked)?.max(1);
     let mut marks = String::new(alloc);
     push_times(&mut marks, ' ', margin)?;
     marks.push_str(" | ")?;
     push_times(&mut marks, ' ', before)?;
-    push_times(&mut marks, '^', marked.max(1))?;
+    push_times(&mut marks, '^', marked)?;
     Ok(marks)
 }
 
@@ -89,19 +81,15 @@ fn width(alloc: Global, text: &str) -> Result<usize, AllocError>
 fn push_related(alloc: Global, out: &mut String, related: &Related) -> Result<(), AllocError>
     ensures { OnOk result (HasOnlyLineFeeds (string_bytes out.old) → HasOnlyLineFeeds (string_bytes out.new)) }
 {
-    let mut place = String::from_str(alloc, &related.path)?;
-    push_position(alloc, &mut place, related.start)?;
-    place.push_str(": ")?;
+    let place = located(alloc, &related.path, related.start)?;
     push_noted(alloc, out, &place, &related.words)
 }
 
 /// Adds a line that belongs to the fault.
 fn push_noted(alloc: Global, out: &mut String, head: &str, words: &str) -> Result<(), AllocError>
-    ensures value { OnOk result (string_bytes out.new ≡ string_bytes out.old ++ shown_text (codes "  = " ++ head.now ++ words.now) ++ 10 ∷ []) }
+    ensures value { OnOk result (string_bytes out.new ≡ string_bytes out.old ++ shown_text (codes "  = " ++ head.now ++ codes ": " ++ words.now) ++ 10 ∷ []) }
     ensures clean { OnOk result (HasOnlyLineFeeds (string_bytes out.old) → HasOnlyLineFeeds (string_bytes out.new)) }
 {
-    let mut line = String::from_str(alloc, "  = ")?;
-    line.push_str(head)?;
-    line.push_str(words)?;
+    let line = format!(in alloc; "  = {head}: {words}")?;
     push_line(alloc, out, &line)
 }

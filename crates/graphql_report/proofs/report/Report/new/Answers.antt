@@ -1,4 +1,4 @@
-use Rattle.std.proofs.Common.{◌≡◌, List, map, take_all, sym, ◌∙◌, ap, subst}
+use Rattle.std.proofs.Common.{List, map, take_all, sym, ◌∙◌, ap, subst}
 use Rattle.graphql_names.specs.Placed.{Place}
 use Rattle.graphql_faults.specs.declared.details.Details.{Details}
 use Rattle.graphql_faults.specs.DetailsView.{details_at, diagnostics_of}

@@ -1,6 +1,0 @@
-use Rattle.std.proofs.Common.{◌≡◌, true, string_bytes}
-use Rattle.report_forms.specs.Forms.{one_line}
-use Rattle.report_forms.proofs.json_form.push_all_related.Given as goal
-
-abbrev pub invariant-loop-other : goal.invariant-loop-other
-invariant-loop-other l = one_line (string_bytes l.out) ≡ true
