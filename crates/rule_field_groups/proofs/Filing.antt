@@ -1,7 +1,7 @@
 -- Groups of a list by names.
-use Rattle.std.proofs.Common.{◌≡◌, ◌⊎◌, ◌∙◌, ℕ, ◌+◌, Bool, true, false, ◌&&◌, ◌||◌, List, [], ◌∷◌, ◌++◌, map, Option, None, Some, Result, Ok, Err, Vec, Contains, refl, sym, ap, subst, inl, inr, cond, filter, length, true≢false, arith}
+use Rattle.std.proofs.Common.{◌≡◌, ◌⊎◌, ◌∙◌, ℕ, ◌+◌, Bool, true, false, ◌&&◌, List, [], ◌∷◌, ◌++◌, map, Option, None, Some, Result, Ok, Err, Vec, Contains, refl, sym, ap, subst, inl, inr, cond, filter, length, true≢false, arith}
 use Rattle.std.specs.Map.{lookup, set_value, keys_of}
-use Rattle.std.specs.List.{IsDistinct, sum, list_any}
+use Rattle.std.specs.List.{IsDistinct, sum}
 use Rattle.std.specs.Option.{option_map_or}
 use Rattle.std.specs.Result.{IfOk}
 use Rattle.std.specs.Str.{bytes_eq}

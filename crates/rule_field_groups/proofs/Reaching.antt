@@ -1,4 +1,4 @@
--- The fields that a set has through fragments are the own fields of the sets that spreads lead to.
+-- The fields that a source has through fragments are the own fields of the sources that spreads lead to.
 use Rattle.std.proofs.Common.{◌≡◌, ◌↔◌, ◌∙◌, ℕ, suc, List, refl, ap, sym, subst, inl, inr, Contains, true≢false}
 use Rattle.std.specs.Prelude.{Option, Some, None, is_some, option_map, option_to_list}
 use Rattle.schema_components.specs.Names.{Entries}
@@ -9,7 +9,7 @@ use Rattle.document_meaning.specs.MeantTree.{MeantSelection, MeantField, MeantSp
 use Rattle.rule_document_definitions.specs.Selected.{Position, InOperation, InFragment, SelectionAt, Standing, StandingField, stand, standing_in, field_there, as_field, fragment_named}
 use Rattle.rule_document_definitions.specs.Reached.{Closed, first, next, InFragmentOf}
 use Rattle.rule_document_definitions.specs.Contents.{content}
-use Rattle.rule_field_groups.specs.Own.{own_fields, spread_set, spread_sets, IsSpreadFrom}
+use Rattle.rule_field_groups.specs.Own.{Source, OfSet, OfFragment, own_fields, source_at, sources, or_bare, opened, IsSpreadFrom}
 use Rattle.rule_field_groups.specs.Laws.{HasField, HasOwnField}
 
 none_is : {A B : Type 0} (a : A) → None ≡ Some a → B
@@ -72,73 +72,81 @@ module _ {P : Type 0} where
       (x.0, (x.1.0, known content (as_field x.0) e is))
 
   module _ (d : MeantDocument P) where
-    -- ---- what a set spreads
+    -- ---- what a source spreads
 
     abbrev fragments : Entries (MeantFragment P)
     fragments = d.fragments
 
-    abbrev spread_of : Standing P → List (MeantSet P)
-    spread_of x = option_to_list (spread_set fragments x.it)
+    abbrev source_of : Standing P → List (Source P)
+    source_of x = option_to_list (source_at x.it)
 
-    -- what an inline fragment or a spread leads to stands in a set that is spread
+    -- what an inline fragment or a spread leads to stands in the set of the source
     leads_so : (at : Position) (m : MeantSelection P) (n : List ℕ) (y : Standing P) → InFragmentOf d (record { position = at; parent = n; it = m }) y
-        → (u : MeantSet P) × ((spread_set fragments m ≡ Some u) × ((r : Position) × Contains (standing_in r u) y))
+        → (u : Source P) × ((source_at m ≡ Some u) × ((r : Position) × Contains (standing_in r (opened fragments u)) y))
     leads_so at (MeantField p df h v) n y (inl c) = absurd (not_in_nil y c)
     leads_so at (MeantField p df h v) n y (inr (k, (is, more))) = none_is k is
     leads_so at (MeantSpread p m ds) n y (inl c) = absurd (not_in_nil y c)
     leads_so at (MeantSpread p m ds) n y (inr (k, (is, (f, (named, c))))) =
-        (f.set, (ap (option_map (λ (g : MeantFragment P). g.set)) (ap (fragment_named d) (some_is m.it k is) ∙ named), (InFragment f.name.it, c)))
-    leads_so at (MeantInline p co ds v) n y (inl c) = (v, (refl, (at, c)))
+        let here : opened fragments (OfFragment m.it) ≡ f.set = ap (λ o. or_bare (option_map (λ (g : MeantFragment P). g.set) o)) (ap (fragment_named d) (some_is m.it k is) ∙ named) in
+        (OfFragment m.it, (refl, (InFragment f.name.it, subst (λ v. Contains (standing_in (InFragment f.name.it) v) y) (sym here) c)))
+    leads_so at (MeantInline p co ds v) n y (inl c) = (OfSet v, (refl, (at, c)))
     leads_so at (MeantInline p co ds v) n y (inr (k, (is, more))) = none_is k is
 
-    so_leads : (at : Position) (m : MeantSelection P) (n : List ℕ) (u : MeantSet P) → spread_set fragments m ≡ Some u
-        → (r : Position) × ((y : Standing P) → Contains (standing_in r u) y → InFragmentOf d (record { position = at; parent = n; it = m }) y)
+    -- whatever is so of what stands in the fragment of a name
+    of_fragment : (n : List ℕ) (at : Position) (o : Option (MeantFragment P)) → fragment_named d n ≡ o → (R : Standing P → Type 0)
+        → ((f : MeantFragment P) → fragment_named d n ≡ Some f → (y : Standing P) → Contains (standing_in (InFragment f.name.it) f.set) y → R y)
+        → (r : Position) × ((y : Standing P) → Contains (standing_in r (or_bare (option_map (λ (g : MeantFragment P). g.set) o))) y → R y)
+    of_fragment n at None named R each = (at, λ y c. absurd (not_in_nil y c))
+    of_fragment n at (Some f) named R each = (InFragment f.name.it, λ y c. each f named y c)
+
+    so_leads : (at : Position) (m : MeantSelection P) (n : List ℕ) (u : Source P) → source_at m ≡ Some u
+        → (r : Position) × ((y : Standing P) → Contains (standing_in r (opened fragments u)) y → InFragmentOf d (record { position = at; parent = n; it = m }) y)
     so_leads at (MeantField p df h v) n u is = none_is u is
     so_leads at (MeantSpread p m ds) n u is =
-        let f = known (λ (g : MeantFragment P). g.set) (fragment_named d m.it) u is in
-        (InFragment f.0.name.it, λ y c. inr (m.it, (refl, (f.0, (f.1.0, subst (λ v. Contains (standing_in (InFragment f.0.name.it) v) y) (sym f.1.1) c)))))
-    so_leads at (MeantInline p co ds v) n u is = (at, λ y c. inl (subst (λ w. Contains (standing_in at w) y) (sym (some_is v u is)) c))
+        let f = of_fragment m.it at (fragment_named d m.it) refl (InFragmentOf d (record { position = at; parent = n; it = MeantSpread p m ds })) (λ f named y c. inr (m.it, (refl, (f, (named, c))))) in
+        (f.0, λ y c. f.1 y (subst (λ w. Contains (standing_in f.0 (opened fragments w)) y) (sym (some_is (OfFragment m.it) u is)) c))
+    so_leads at (MeantInline p co ds v) n u is = (at, λ y c. inl (subst (λ w. Contains (standing_in at (opened fragments w)) y) (sym (some_is (OfSet v) u is)) c))
 
     spreads_so : (at : Position) (s : MeantSet P) (x y : Standing P) → Contains (standing_in at s) x → InFragmentOf d x y
-        → (u : MeantSet P) × (Contains (spread_sets fragments s) u × ((r : Position) × Contains (standing_in r u) y))
+        → (u : Source P) × (Contains (sources s) u × ((r : Position) × Contains (standing_in r (opened fragments u)) y))
     spreads_so at s x y c leads =
         let z = moved at (InOperation None) s x c in
         let u = leads_so x.position x.it x.parent y leads in
-        (u.0, (to_all spread_of (standing_in (InOperation None) s) z.0 u.0 z.1.0 (to_option (spread_set fragments z.0.it) u.0 (ap (spread_set fragments) z.1.1.1 ∙ u.1.0)), u.1.1))
+        (u.0, (to_all source_of (standing_in (InOperation None) s) z.0 u.0 z.1.0 (to_option (source_at z.0.it) u.0 (ap source_at z.1.1.1 ∙ u.1.0)), u.1.1))
 
-    so_spreads : (at : Position) (s u : MeantSet P) → Contains (spread_sets fragments s) u
-        → (x : Standing P) × (Contains (standing_in at s) x × ((r : Position) × ((y : Standing P) → Contains (standing_in r u) y → InFragmentOf d x y)))
+    so_spreads : (at : Position) (s : MeantSet P) (u : Source P) → Contains (sources s) u
+        → (x : Standing P) × (Contains (standing_in at s) x × ((r : Position) × ((y : Standing P) → Contains (standing_in r (opened fragments u)) y → InFragmentOf d x y)))
     so_spreads at s u c =
-        let z = from_one spread_of (standing_in (InOperation None) s) u c in
+        let z = from_one source_of (standing_in (InOperation None) s) u c in
         let x = moved (InOperation None) at s z.0 z.1.0 in
-        (x.0, (x.1.0, so_leads x.0.position x.0.it x.0.parent u (ap (spread_set fragments) x.1.1.1 ∙ from_option (spread_set fragments z.0.it) u z.1.1)))
+        (x.0, (x.1.0, so_leads x.0.position x.0.it x.0.parent u (ap source_at x.1.1.1 ∙ from_option (source_at z.0.it) u z.1.1)))
 
     -- ---- through fragments
 
-    module _ (at : Position) (s : MeantSet P) where
+    module _ (at : Position) (a : Source P) where
       abbrev IsThere : Standing P → Type 0
-      IsThere = Closed (Contains (standing_in at s)) (InFragmentOf d)
+      IsThere = Closed (Contains (standing_in at (opened fragments a))) (InFragmentOf d)
 
-      comes : (x : Standing P) → IsThere x → (t : MeantSet P) × (IsSpreadFrom fragments s t × ((r : Position) × Contains (standing_in r t) x))
-      comes x (first c) = (s, (first refl, (at, c)))
+      comes : (x : Standing P) → IsThere x → (t : Source P) × (IsSpreadFrom fragments a t × ((r : Position) × Contains (standing_in r (opened fragments t)) x))
+      comes x (first c) = (a, (first refl, (at, c)))
       comes y (next {x} r leads) =
           let before = comes x r in
-          let u = spreads_so before.1.1.0 before.0 x y before.1.1.1 leads in
+          let u = spreads_so before.1.1.0 (opened fragments before.0) x y before.1.1.1 leads in
           (u.0, (next before.1.0 u.1.0, u.1.1))
 
-      all_there : (t : MeantSet P) → IsSpreadFrom fragments s t → (r : Position) × ((x : Standing P) → Contains (standing_in r t) x → IsThere x)
-      all_there t (first e) = (at, λ x c. first (subst (λ v. Contains (standing_in at v) x) e c))
+      all_there : (t : Source P) → IsSpreadFrom fragments a t → (r : Position) × ((x : Standing P) → Contains (standing_in r (opened fragments t)) x → IsThere x)
+      all_there t (first e) = (at, λ x c. first (subst (λ v. Contains (standing_in at (opened fragments v)) x) e c))
       all_there u (next {x = t} r spreads) =
           let before = all_there t r in
-          let z = so_spreads before.0 t u spreads in
+          let z = so_spreads before.0 (opened fragments t) u spreads in
           (z.1.1.0, λ y c. next (before.1 z.0 z.1.0) (z.1.1.1 y c))
 
-      pub through_spreads : (e : StandingField P) → HasField d at s e ↔ HasOwnField fragments s e
+      pub through_spreads : (e : StandingField P) → HasField d at (opened fragments a) e ↔ HasOwnField fragments a e
       through_spreads e = (
         λ h. let x = h.1.0 in
             let t = comes x.0 x.1.0 in
-            (t.0, (t.1.0, subst (Contains (own_fields t.0)) h.1.1 (own_so t.1.1.0 t.0 x.0 h.0 t.1.1.1 x.1.1))),
+            (t.0, (t.1.0, subst (Contains (own_fields (opened fragments t.0))) h.1.1 (own_so t.1.1.0 (opened fragments t.0) x.0 h.0 t.1.1.1 x.1.1))),
         λ h. let all = all_there h.0 h.1.0 in
-            let x = so_own all.0 h.0 e h.1.1 in
+            let x = so_own all.0 (opened fragments h.0) e h.1.1 in
             (x.1.1.0, ((x.0, (all.1 x.0 x.1.0, x.1.1.1.0)), x.1.1.1.1)),
       )

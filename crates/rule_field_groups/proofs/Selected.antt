@@ -1,5 +1,5 @@
 -- What the program finds in the selections of a set is what the set means.
-use Rattle.std.proofs.Common.{◌≡◌, ◌∙◌, ℕ, suc, ◌+◌, ◌<◌, List, [], ◌∷◌, ◌++◌, map, take, get_or, length, refl, sym, ap, subst, append-nil, append_assoc}
+use Rattle.std.proofs.Common.{◌≡◌, ◌∙◌, ℕ, suc, ◌+◌, ◌<◌, List, [], ◌∷◌, ◌++◌, take, get_or, length, refl, sym, ap, append-nil, append_assoc}
 use Rattle.std.specs.Prelude.{Option, Some, None, option_map, option_to_list, flat_map}
 use Rattle.std.specs.Map.{lookup}
 use Rattle.std.specs.Str.{bytes_eq}
@@ -9,9 +9,8 @@ use Rattle.graphql_names.specs.NameValue.{NameValue}
 use Rattle.graphql_names.specs.Node.{content}
 use Rattle.graphql_names.specs.Placed.{Place, Text, name_tree}
 use Rattle.graphql_names.specs.declared.node.Node.{Node}
-use Rattle.schema_components.specs.Names.{Entries}
 use Rattle.schema_types.specs.Addresses.{under}
-use Rattle.document_typed_selections.specs.TypedTree.{TypedSet, TypedSelection, typed_selections, typed_selection_tree, typed_set_tree}
+use Rattle.document_typed_selections.specs.TypedTree.{TypedSet, typed_selections, typed_selection_tree, typed_set_tree}
 use Rattle.document_typed_selections.specs.declared.selection.Selection.{Selection}
 use Rattle.document_typed_selections.specs.declared.selection.Selection.TheOpen.{Selection-F, Field as FieldOf, FragmentSpread as SpreadOf, InlineFragment as InlineOf}
 use Rattle.document_typed_selections.specs.declared.selection.Selection.TheViews.{out-Selection}
@@ -26,9 +25,8 @@ use Rattle.rule_document_definitions.specs.Selected.{InOperation, StandingField,
 use Rattle.rule_document_ground.specs.Fields.{meant_fragments}
 use Rattle.rule_document_ground.specs.Lent.{field_lent}
 use Rattle.rule_document_ground.proofs.Found.{meant_node, found_under}
-use Rattle.rule_field_groups.specs.Own.{own_fields, spread_set, spread_sets}
-use Rattle.rule_field_groups.specs.Laws.{meant_spread}
-use Rattle.rule_field_groups.specs.declared.own.SpreadSet.{SpreadSet}
+use Rattle.rule_field_groups.specs.Own.{Source, OfSet, OfFragment, own_fields, source_at, sources, source_meant, meant_sources}
+use Rattle.rule_field_groups.specs.declared.own.SelectionSource.{SelectionSource}
 
 abbrev Layer : Type 0
 Layer = Selection-F Selection Field InlineFragment SelectionSet
@@ -57,51 +55,46 @@ own_along ty i (s ∷ ss) = ap (λ l. own_part ty s ++ l) (own_along ty (suc i) 
 pub own_all : (s : SelectionSet) → flat_map (own_part (name_tree s.ty)) s.selections.items ≡ own_fields (meant_value s)
 own_all s = sym (ap (λ (t : TypedSet Place). own_fields (meant_of_set t)) (typed_set_tree_out s) ∙ own_along (name_tree s.ty) 0 s.selections.items)
 
--- ---- spreads
+-- ---- sources
 
-module _ {S : Type 0} (fragments : IndexMap NameValue (Node Fragment) S) where
-  abbrev pub spread_part : Selection → List (MeantSet Place)
-  spread_part x = option_to_list (spread_set (meant_fragments fragments) (meant (typed_selection_tree x)))
+abbrev pub source_part : Selection → List (Source Place)
+source_part x = option_to_list (source_at (meant (typed_selection_tree x)))
 
-  spread_along : (ty : List ℕ) (i : ℕ) (ss : List Selection) → flat_map (λ x. option_to_list (spread_set (meant_fragments fragments) x.it)) (stand (InOperation None) ty i (meant_of_all (typed_selections typed_selection_tree ss))) ≡ flat_map spread_part ss
-  spread_along ty i [] = refl
-  spread_along ty i (s ∷ ss) = ap (λ l. spread_part s ++ l) (spread_along ty (suc i) ss)
+source_along : (ty : List ℕ) (i : ℕ) (ss : List Selection) → flat_map (λ x. option_to_list (source_at x.it)) (stand (InOperation None) ty i (meant_of_all (typed_selections typed_selection_tree ss))) ≡ flat_map source_part ss
+source_along ty i [] = refl
+source_along ty i (s ∷ ss) = ap (λ l. source_part s ++ l) (source_along ty (suc i) ss)
 
-  pub spread_all : (s : SelectionSet) → flat_map spread_part s.selections.items ≡ spread_sets (meant_fragments fragments) (meant_value s)
-  spread_all s = sym (ap (λ (t : TypedSet Place). spread_sets (meant_fragments fragments) (meant_of_set t)) (typed_set_tree_out s) ∙ spread_along s.ty.text 0 s.selections.items)
+pub sources_all : (s : SelectionSet) → flat_map source_part s.selections.items ≡ sources (meant_value s)
+sources_all s = sym (ap (λ (t : TypedSet Place). sources (meant_of_set t)) (typed_set_tree_out s) ∙ source_along s.ty.text 0 s.selections.items)
 
-  -- the set of a fragment that is found
-  fragment_set : (k : NameValue) (o : Option (Node Fragment)) → lookup (λ (a : NameValue). bytes_eq k.text a.text) fragments.entries ≡ o
-      → option_map (λ (f : MeantFragment Place). f.set) (under k.text (meant_fragments fragments)) ≡ option_map (λ (f : Node Fragment). meant_value (content {A = Fragment} f).selection_set) o
-  fragment_set k None e = ap (option_map (λ (f : MeantFragment Place). f.set)) (sym (found_under fragments k) ∙ ap (option_map meant_node) e)
-  fragment_set k (Some f) e = ap (option_map (λ (f : MeantFragment Place). f.set)) (sym (found_under fragments k) ∙ ap (option_map meant_node) e)
+-- where the selections of a selection come from
+abbrev pub source_here : Selection → Option (Source Place)
+source_here x = source_at (meant (typed_selection_tree x))
 
-  -- the set to which a selection leads
-  abbrev pub spread_at : Selection → Option (MeantSet Place)
-  spread_at x = spread_set (meant_fragments fragments) (meant (typed_selection_tree x))
+at_layer : (s : Selection) (x : Layer) → out-Selection s ≡ x → source_here s ≡ source_at (meant (tree_here x))
+at_layer s x e = ap (λ t. source_at (meant t)) (typed_selection_tree_out s ∙ ap tree_here e)
 
-  at_layer : (s : Selection) (x : Layer) → out-Selection s ≡ x → spread_at s ≡ spread_set (meant_fragments fragments) (meant (tree_here x))
-  at_layer s x e = ap (λ t. spread_set (meant_fragments fragments) (meant t)) (typed_selection_tree_out s ∙ ap tree_here e)
+-- those of a field from nowhere
+pub field_part : (s : Selection) (n : Node Field) → out-Selection s ≡ FieldOf n → source_here s ≡ None
+field_part s n e = at_layer s (FieldOf n) e
 
-  -- a field leads nowhere
-  pub field_part : (s : Selection) (n : Node Field) → out-Selection s ≡ FieldOf n → spread_at s ≡ None
-  field_part s n e = at_layer s (FieldOf n) e
+-- those of a spread from the fragment of its name
+pub named_part : (s : Selection) (n : Node FragmentSpread) → out-Selection s ≡ SpreadOf n → source_here s ≡ Some (OfFragment (content {A = FragmentSpread} n).fragment_name.text)
+named_part s n e = at_layer s (SpreadOf n) e
 
-  -- a spread leads to the fragment of its name
-  pub named_part : (s : Selection) (n : Node FragmentSpread) (o : Option (Node Fragment)) → out-Selection s ≡ SpreadOf n
-      → lookup (λ (a : NameValue). bytes_eq (content {A = FragmentSpread} n).fragment_name.text a.text) fragments.entries ≡ o → spread_at s ≡ option_map (λ (f : Node Fragment). meant_value (content {A = Fragment} f).selection_set) o
-  named_part s n o e found = at_layer s (SpreadOf n) e ∙ fragment_set (content {A = FragmentSpread} n).fragment_name o found
-
-  -- the same as it is looked up
-  pub named_by : (s : Selection) (n : Node FragmentSpread) (here : FragmentSpread) (o : Option (Node Fragment)) → out-Selection s ≡ SpreadOf n → here ≡ content {A = FragmentSpread} n
-      → o ≡ lookup (λ (a : NameValue). bytes_eq here.fragment_name.text a.text) fragments.entries → option_map (λ (f : Node Fragment). meant_value (content {A = Fragment} f).selection_set) o ≡ spread_at s
-  named_by s n here o e is found =
-      sym (named_part s n o e (ap (λ (h : FragmentSpread). lookup (λ (a : NameValue). bytes_eq h.fragment_name.text a.text) fragments.entries) (sym is) ∙ sym found))
-
-  -- an inline fragment to its set
-  pub inline_part : (s : Selection) (n : Node InlineFragment) → out-Selection s ≡ InlineOf n → spread_at s ≡ Some (meant_value (content {A = InlineFragment} n).selection_set)
-  inline_part s n e = at_layer s (InlineOf n) e
+-- those of an inline fragment from its set
+pub inline_part : (s : Selection) (n : Node InlineFragment) → out-Selection s ≡ InlineOf n → source_here s ≡ Some (OfSet (meant_value (content {A = InlineFragment} n).selection_set))
+inline_part s n e = at_layer s (InlineOf n) e
 
 -- what is pushed
-pub spread_push : (old new : List SpreadSet) (set : SpreadSet) → new ≡ old ++ set ∷ [] → meant_spread new ≡ meant_spread old ++ meant_value set.set.now ∷ []
-spread_push old new set is = ap meant_spread is ∙ map-append (λ (s : SpreadSet). meant_value s.set.now) old (set ∷ [])
+pub source_push : (old new : List SelectionSource) (x : SelectionSource) → new ≡ old ++ x ∷ [] → meant_sources new ≡ meant_sources old ++ source_meant x ∷ []
+source_push old new x is = ap meant_sources is ∙ map-append source_meant old (x ∷ [])
+
+-- ---- the set of a fragment
+
+module _ {S : Type 0} (fragments : IndexMap NameValue (Node Fragment) S) where
+  -- as it is looked up
+  pub fragment_set : (k : NameValue) (o : Option (Node Fragment)) → o ≡ lookup (λ (a : NameValue). bytes_eq k.text a.text) fragments.entries
+      → option_map (λ (f : Node Fragment). meant_value (content {A = Fragment} f).selection_set) o ≡ option_map (λ (f : MeantFragment Place). f.set) (under k.text (meant_fragments fragments))
+  fragment_set k None e = sym (ap (option_map (λ (f : MeantFragment Place). f.set)) (sym (found_under fragments k) ∙ ap (option_map meant_node) (sym e)))
+  fragment_set k (Some f) e = sym (ap (option_map (λ (f : MeantFragment Place). f.set)) (sym (found_under fragments k) ∙ ap (option_map meant_node) (sym e)))

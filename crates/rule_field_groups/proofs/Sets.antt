@@ -1,6 +1,7 @@
 -- Sets of selections by what they say: those of a group, each once.
 use Rattle.std.proofs.Common.{◌≡◌, ◌⊎◌, ◌∙◌, ℕ, ◌+◌, ◌<◌, Bool, true, false, List, [], ◌∷◌, ◌++◌, length, get_or, take, Contains, refl, sym, ap, subst, append-nil, inl, inr, if◌then◌else◌, true≢false}
 use Rattle.std.specs.List.{list_any}
+use Rattle.std.proofs.lemmas.Slice.Eq.{bytes_eq-Decides}
 use Rattle.std.proofs.lemmas.List.{map-append}
 use Rattle.std.proofs.lemmas.List.Elements.{Contains-append_left, Contains-append_cases}
 use Rattle.indexmap.specs.IndexSet.{insert_key}
@@ -17,6 +18,10 @@ use Rattle.rule_document_definitions.proofs.Unplaced.{contains_map}
 use Rattle.rule_document_ground.specs.Fields.{field_of, fields_of}
 use Rattle.rule_document_ground.specs.declared.field_selection.FieldSelection.{FieldSelection}
 use Rattle.rule_field_groups.specs.contracts.below.SelectedSetPartialEq.TheImpl as selected
+use Rattle.rule_field_groups.specs.contracts.own.SelectionSourcePartialEq.TheImpl as source
+use Rattle.rule_field_groups.specs.declared.own.SelectionSource.{SelectionSource}
+use Rattle.rule_field_groups.specs.declared.own.SelectionSource.TheVariants as rust
+use Rattle.rule_field_groups.specs.Own.{OfSet, OfFragment, unplaced_source, source_meant}
 use Rattle.rule_field_groups.specs.Below.{meant_at, meant_sets, plain_sets, IsBare, AreSetsOf, NotesSet}
 use Rattle.rule_field_groups.proofs.Lists.{any_among, in_last, taken_more}
 
@@ -62,6 +67,19 @@ set_key_eq = selected.ghosts.eq
 
 pub same_sets : (a b : SelectedSet) → set_key_eq a b ≡ true → unplaced_set (meant_at a) ≡ unplaced_set (meant_at b)
 same_sets a b e = sym (set_of_plain (typed_set_tree a.set.now)) ∙ ap meant_plain_set ((set_eq-Decides a.set.now b.set.now).0 e) ∙ set_of_plain (typed_set_tree b.set.now)
+
+-- ---- equal sources
+
+abbrev pub source_eq : SelectionSource → SelectionSource → Bool
+source_eq = source.ghosts.eq
+
+pub same_sources : (a b : SelectionSource) → source_eq a b ≡ true → unplaced_source (source_meant a) ≡ unplaced_source (source_meant b)
+same_sources (rust.Set a) (rust.Set b) e = ap (λ s. OfSet s) (same_sets a b e)
+same_sources (rust.Fragment a) (rust.Fragment b) e = ap (λ n. OfFragment n) ((bytes_eq-Decides a.now.text b.now.text).0 e)
+same_sources (rust.Set a) (rust.Fragment b) e = absurd (true≢false (sym e))
+same_sources (rust.Fragment a) (rust.Set b) e = absurd (true≢false (sym e))
+
+-- ---- sets without selections
 
 pub bare_so : (t : TypedSet Place) → holds_none t ≡ true → IsBare (meant_of_set t)
 bare_so (typed_set ty no_typed) e = tt

@@ -1,18 +1,17 @@
--- Private: leads to `Merging.antt` of the rules' definitions. What is told of two fields as the program has it, and the set to which a selection leads.
+-- Private: leads to `Merging.antt` of the rules' definitions. What is told of two fields as the program has it.
 use Rattle.std.specs.Prelude.{Vec}
 use Rattle.std.specs.declared.alloc.Global.{Global}
 use Rattle.graphql_names.specs.Placed.{Place}
 use Rattle.graphql_schema.specs.SchemaOf.{schema_tree}
 use Rattle.fault_document_data.specs.declared.build_error.BuildError.{BuildError}
-use Rattle.document_typed_selections.specs.TypedTree.{typed_selection_tree, typed_set_tree}
+use Rattle.document_typed_selections.specs.TypedTree.{typed_selection_tree}
 use Rattle.document_typed_selections.specs.declared.selection.Selection.{Selection}
-use Rattle.document_meaning.specs.MeantTree.{MeantSelection, MeantSet, meant, meant_of_set}
+use Rattle.document_meaning.specs.MeantTree.{MeantSelection, meant}
 use Rattle.rule_definitions.specs.Judged.{Judged, judged}
 use Rattle.rule_document_definitions.specs.Merging.{SameShape, SameName}
 use Rattle.rule_document_definitions.specs.SameValues.{SameArguments}
 use Rattle.rule_document_definitions.specs.Selected.{StandingField}
 use Rattle.rule_field_groups.specs.Passes.{TypesConflict, NamesConflict, ArgumentsConflict, AddsUnless}
-use Rattle.rule_field_groups.specs.declared.own.SpreadSet.{SpreadSet}
 use Rattle.rule_field_groups.specs.declared.pass.Comparing.{Comparing}
 
 -- the schema that fields are typed under, as rules read it
@@ -34,9 +33,6 @@ AddsNames f g = AddsUnless (SameName f g) (λ b. NamesConflict b f g)
 abbrev pub AddsArguments : StandingField Place → StandingField Place → Breaches → Breaches → Type 0
 AddsArguments f g = AddsUnless (SameArguments f.head.arguments g.head.arguments) (λ b. ArgumentsConflict b f g)
 
--- what a selection means, and what a set means that is spread
+-- what a selection means
 abbrev pub selection_meant : Selection → MeantSelection Place
 selection_meant selection = meant (typed_selection_tree selection)
-
-abbrev pub set_meant : SpreadSet → MeantSet Place
-set_meant s = meant_of_set (typed_set_tree s.set.now)

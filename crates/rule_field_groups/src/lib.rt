@@ -9,13 +9,13 @@
 //! `check_key_group` adds what of the parts of a group does not agree (`AddsEach`), and counts how often shapes were compared
 //! (`specs/Compared.antt`); `merged_list` gives what sets select, each content once (`IsMerged` of `specs/Below.antt`), by one
 //! walk over all of them in which no fragment is walked twice (`set_walk.rt`), `lists_below` the lists of sets below a group
-//! (`AreListsBelow` of `specs/Under.antt`). `own_fields_of` and `spread_sets_of` give what a set selects itself and what it
-//! spreads (`specs/Own.antt`).
+//! (`AreListsBelow` of `specs/Under.antt`). A `SelectionSource` is a set, or a fragment by its name alone, so that a fragment
+//! that many sets spread is known without being read; `own_fields_of` and `sources_of` give what it selects itself and where
+//! more comes from (`specs/Own.antt`).
 //!
-//! The fields that a set has through fragments are the own fields of the sets that spreads lead to from it: of inline
+//! The fields that a source has through fragments are the own fields of the sources that spreads lead to from it: of inline
 //! fragments, which are spread where they stand, and of fragments (`laws::fields_through_spreads`). So fields are found by
-//! steps from set to set, and no set is scanned twice. Own fields and spread sets are the same without places
-//! (`proofs/Plain.antt`).
+//! steps from source to source. Own fields and sources are the same without places (`proofs/Plain.antt`).
 //!
 //! Begin with `groups.rt` and `conflicts.rt`, then `below.rt`, `set_walk.rt` and `own.rt`.
 #![tactic(auto)]
@@ -33,6 +33,6 @@ mod shapes;
 pub use below::{SelectedSet, lists_below, merged_list};
 pub use conflicts::{Breach, check_group, check_key_group};
 pub use groups::{KeyGroup, groups_of};
-pub use own::{SpreadSet, own_fields_of, spread_sets_of};
+pub use own::{SelectionSource, own_fields_of, sources_of};
 pub use pass::Pass;
 pub use rule_document_ground::FieldSelection;

@@ -1,5 +1,5 @@
 -- How often shapes are compared, and that the members of each list that is examined are last fields of chains.
-use Rattle.std.proofs.Common.{◌≡◌, ◌⊎◌, ◌∙◌, ℕ, ◌+◌, ◌*◌, ◌≤◌, None, List, [], ◌∷◌, ◌++◌, map, length, Contains, refl, sym, ap, subst, append_assoc, append-nil, arith, inl, inr}
+use Rattle.std.proofs.Common.{◌≡◌, ◌⊎◌, ◌∙◌, ℕ, ◌+◌, ◌≤◌, None, List, [], ◌∷◌, ◌++◌, map, length, Contains, refl, sym, ap, subst, append_assoc, append-nil, arith, inl, inr}
 use Rattle.std.specs.List.{sum}
 use Rattle.std.specs.List.Sorted.{IsPermutation}
 use Rattle.std.proofs.lemmas.List.{length-map}
@@ -73,11 +73,11 @@ differ_more lists list differ none i j a b h k same = elim (slice_get-push_cases
 still_within : (old new : Account) → new.spent ≡ old.spent → length old.met ≤ length new.met → IsWithin old → IsWithin new
 still_within old new e more within = omega (arith, e, more, within)
 
-pub pays_nothing : (list : List PlainField) (old new : Account) → new.lists ≡ old.lists → Meets list old new → new.spent ≡ old.spent → Pays list old new
-pays_nothing list old new is m e = record { lists = is; meets = m; spends = omega (arith, e); within = still_within old new e m.more }
+pub pays_nothing : (list : List PlainField) (old new : Account) → Meets list old new → new.spent ≡ old.spent → Pays list old new
+pays_nothing list old new m e = record { meets = m; spends = omega (arith, e); within = still_within old new e m.more }
 
-pub pays_all : (list : List PlainField) (old new : Account) → new.lists ≡ old.lists → Meets list old new → new.spent ≡ old.spent + length list → new.spent ≤ most_members (length new.met) → Pays list old new
-pays_all list old new is m e within = record { lists = is; meets = m; spends = omega (arith, e); within = λ h. within }
+pub pays_all : (list : List PlainField) (old new : Account) → Meets list old new → new.spent ≡ old.spent + length list → new.spent ≤ most_members (length new.met) → Pays list old new
+pays_all list old new m e within = record { meets = m; spends = omega (arith, e); within = λ h. within }
 
 -- ---- last fields of chains
 
@@ -191,8 +191,8 @@ module _ (d : MeantDocument Place) where
   }
 
   -- a list is asked for, and paid or not
-  pub grows_paying : (pass : Pass) (list : List PlainField) (old new : Account) → Pays list old new → Grows d (λ os. AreLast d os list) pass old new
-  grows_paying pass list old new p = no_lists pass list old new p.lists p.meets p.spends p.within
+  pub grows_paying : (pass : Pass) (list : List PlainField) (old new : Account) → new.lists ≡ old.lists → Pays list old new → Grows d (λ os. AreLast d os list) pass old new
+  grows_paying pass list old new is p = no_lists pass list old new is p.meets p.spends p.within
 
   -- a list is known, or memory is refused
   pub grows_meeting : (pass : Pass) (list : List PlainField) (old new : Account) → new.lists ≡ old.lists → OnlyMeets list old new → Grows d (λ os. AreLast d os list) pass old new
@@ -220,22 +220,13 @@ module _ (d : MeantDocument Place) where
   })
 
   -- a list that was paid before
-  pub grows_paid : (pass : Pass) (list : List FieldSelection) (kept : List PlainField) (before old mid new : Account) → Pays (contents_of list) before old → before.spent + length (contents_of list) ≤ old.spent
+  pub grows_paid : (pass : Pass) (list : List FieldSelection) (kept : List PlainField) (old mid new : Account) → Pays (contents_of list) old mid → old.spent + length (contents_of list) ≤ mid.spent
       → HasNoRepeat (contents_of list) → IsPermutation (contents_of list) kept
       → ((known : List PlainField) → Contains old.lists known → HasNoRepeat known → HasNoRepeat (contents_of list) → HaveSame known (contents_of list) → ⊥) → mid.lists ≡ old.lists ++ kept ∷ []
-      → OnlyMeets (contents_of list) old mid → mid.comparisons ≤ new.comparisons → new.comparisons ≤ mid.comparisons + compared pass list → new ≡ record mid { comparisons = new.comparisons }
-      → Grows d (λ os. AreLast d os (contents_of list)) pass before new
-  grows_paid pass list kept before old mid new p enough apart order none is (m, spent) more count e =
-      grows_one pass list kept before mid new apart order (λ known c. none known (subst (λ l. Contains l known) (sym p.lists) c)) (is ∙ ap (λ l. l ++ kept ∷ []) p.lists) both
-      (omega (arith, enough, spent, above_two_le (contents_of list))) (λ h. still_within old mid spent m.more (p.within h)) more count e
-    where
-      both : Meets (contents_of list) before mid
-      both = record {
-        only = λ x c. elim (m.only x c) [ inl a ↦ p.meets.only x a | inr b ↦ inr b ];
-        once = m.once;
-        more = omega (arith, m.more, p.meets.more);
-        same = m.same ∙ p.meets.same;
-      }
+      → mid.comparisons ≤ new.comparisons → new.comparisons ≤ mid.comparisons + compared pass list → new ≡ record mid { comparisons = new.comparisons }
+      → Grows d (λ os. AreLast d os (contents_of list)) pass old new
+  grows_paid pass list kept old mid new p enough apart order none is more count e =
+      grows_one pass list kept old mid new apart order none is p.meets (omega (arith, enough, above_two_le (contents_of list))) p.within more count e
 
   -- fields of one of two
   abbrev pub LastOfTwo : FieldSelection → FieldSelection → Premise

@@ -41,9 +41,11 @@ use Rattle.rule_field_groups.proofs.Lists.{taken_more}
 use Rattle.rule_merging.proofs.Bare.{IsIn, bare_selects, bare_plain}
 use Rattle.rule_number_lists.specs.NumberLists.{HaveSame}
 use Rattle.rule_number_lists.proofs.Standing.{same_sym}
-use Rattle.rule_merging.specs.Remembered.{Kept, nothing_kept, HasLooked, Expands}
+use Rattle.rule_field_groups.specs.Own.{Source, unplaced_source}
+use Rattle.rule_merging.specs.Remembered.{Kept, PlainSource, plain_sources, nothing_kept, HasLooked}
 use Rattle.rule_merging.specs.Pairs.{each_with}
-use Rattle.rule_merging.specs.Examined.{all_plain, with_sets, StandTogether, PlainOwn, PlainSelected, PlainSpreads, AreLookedAt, IsLeft, AllStand, PairsAreDone, AreSettled, AreUnderWay, HaveFields, IsFresh, GroupsExamined, ListExamined, SetsExamined, AreTwosOf, AllExamined}
+use Rattle.rule_merging.proofs.Remembering.{Expands}
+use Rattle.rule_merging.specs.Examined.{Sources, all_plain, StandTogether, PlainOwn, PlainSelected, PlainSpreads, AreLookedAt, IsLeft, AllStand, PairsAreDone, AreSettled, AreUnderWay, HaveFields, IsFresh, GroupsExamined, ListExamined, SetsExamined, AreTwosOf, AllExamined}
 
 -- ---- lists
 
@@ -148,10 +150,10 @@ swapped {X} a b x = (turn a b, turn b a)
     ]
 
 -- without places too
-pub same_plain : (xs ys : Sets) → HaveSame xs ys → HaveSame (plain_sets xs) (plain_sets ys)
+pub same_plain : (xs ys : Sources) → HaveSame xs ys → HaveSame (plain_sources xs) (plain_sources ys)
 same_plain xs ys same x = (
-  λ c. let v = contains_unmap unplaced_set xs x c in subst (Contains (plain_sets ys)) v.1.1 (contains_map unplaced_set ys v.0 ((same v.0).0 v.1.0)),
-  λ c. let v = contains_unmap unplaced_set ys x c in subst (Contains (plain_sets xs)) v.1.1 (contains_map unplaced_set xs v.0 ((same v.0).1 v.1.0)),
+  λ c. let v = contains_unmap unplaced_source xs x c in subst (Contains (plain_sources ys)) v.1.1 (contains_map unplaced_source ys v.0 ((same v.0).0 v.1.0)),
+  λ c. let v = contains_unmap unplaced_source ys x c in subst (Contains (plain_sources xs)) v.1.1 (contains_map unplaced_source xs v.0 ((same v.0).1 v.1.0)),
 )
 
 -- a list of what is nowhere
@@ -162,13 +164,13 @@ none_in (x ∷ xs) none = absurd (not_in_nil x (none x (Contains-first x xs x re
 pub no_twos : AreTwosOf [] []
 no_twos = record { within = λ two c. not_in_nil two c; covers = λ v w a. not_in_nil v a }
 
-pub twos_more : (front : Sets) (v : MeantSet Place) (twos : List Sets) → AreTwosOf front twos → AreTwosOf (front ++ v ∷ []) (twos ++ each_with (front ++ v ∷ []) v)
+pub twos_more : (front : Sources) (v : Source Place) (twos : List Sources) → AreTwosOf front twos → AreTwosOf (front ++ v ∷ []) (twos ++ each_with (front ++ v ∷ []) v)
 twos_more front v twos are = record {
   within = λ two c w k. elim (Contains-append_cases twos (each_with (front ++ v ∷ []) v) two c) [
     | inl a ↦ Contains-append_left front (v ∷ []) w (are.within two a w k)
     | inr b ↦
-        let u = contains_unmap (λ (x : MeantSet Place). x ∷ v ∷ []) (front ++ v ∷ []) two b in
-        elim (Contains-cons u.0 (v ∷ []) w (subst (λ (l : Sets). Contains l w) (sym u.1.1) k)) [
+        let u = contains_unmap (λ (x : Source Place). x ∷ v ∷ []) (front ++ v ∷ []) two b in
+        elim (Contains-cons u.0 (v ∷ []) w (subst (λ (l : Sources). Contains l w) (sym u.1.1) k)) [
           | inl e ↦ subst (Contains (front ++ v ∷ [])) e u.1.0
           | inr r ↦ subst (Contains (front ++ v ∷ [])) (sym (only v w r)) (in_last front v)
         ]
@@ -176,14 +178,14 @@ twos_more front v twos are = record {
   covers = λ x y a b. elim (Contains-append_cases front (v ∷ []) x a) [
     | inl i ↦ elim (Contains-append_cases front (v ∷ []) y b) [
       | inl j ↦ let two = are.covers x y i j in (two.0, (Contains-append_left twos (each_with (front ++ v ∷ []) v) two.0 two.1.0, two.1.1))
-      | inr j ↦ (x ∷ v ∷ [], (with_last x a, subst (λ (z : MeantSet Place). HaveSame (x ∷ v ∷ []) (x ∷ z ∷ [])) (sym (only v y j)) (λ z. (λ c. c, λ c. c))))
+      | inr j ↦ (x ∷ v ∷ [], (with_last x a, subst (λ (z : Source Place). HaveSame (x ∷ v ∷ []) (x ∷ z ∷ [])) (sym (only v y j)) (λ z. (λ c. c, λ c. c))))
     ]
-    | inr i ↦ (y ∷ v ∷ [], (with_last y b, subst (λ (z : MeantSet Place). HaveSame (y ∷ v ∷ []) (z ∷ y ∷ [])) (sym (only v x i)) (swapped y v)))
+    | inr i ↦ (y ∷ v ∷ [], (with_last y b, subst (λ (z : Source Place). HaveSame (y ∷ v ∷ []) (z ∷ y ∷ [])) (sym (only v x i)) (swapped y v)))
   ];
 }
   where
-    with_last : (x : MeantSet Place) → Contains (front ++ v ∷ []) x → Contains (twos ++ each_with (front ++ v ∷ []) v) (x ∷ v ∷ [])
-    with_last x a = Contains-append_right twos (each_with (front ++ v ∷ []) v) (x ∷ v ∷ []) (contains_map (λ (w : MeantSet Place). w ∷ v ∷ []) (front ++ v ∷ []) x a)
+    with_last : (x : Source Place) → Contains (front ++ v ∷ []) x → Contains (twos ++ each_with (front ++ v ∷ []) v) (x ∷ v ∷ [])
+    with_last x a = Contains-append_right twos (each_with (front ++ v ∷ []) v) (x ∷ v ∷ []) (contains_map (λ (w : Source Place). w ∷ v ∷ []) (front ++ v ∷ []) x a)
 
 module _ (pass : Pass) (s : Judged) (d : MeantDocument Place) where
   -- ---- groups
@@ -305,13 +307,13 @@ module _ (pass : Pass) (s : Judged) (d : MeantDocument Place) where
 
   -- ---- pairs that are done
 
-  abbrev pub DoneIn : Kept → PlainSet → PlainSet → Type 0
-  DoneIn kept a b = IsPairDone PlainOwn (PlainSpreads d) (Together pass s) (StandIn kept.lists) (AreLookedAt kept.looked) a b
+  abbrev pub DoneIn : Kept → PlainSource → PlainSource → Type 0
+  DoneIn kept a b = IsPairDone (PlainOwn d) (PlainSpreads d) (Together pass s) (StandIn kept.lists) (AreLookedAt kept.looked) a b
 
-  pub looked_more : (old new : List (List PlainSet)) → HasMore old new → (a b : PlainSet) → AreLookedAt old a b → AreLookedAt new a b
+  pub looked_more : (old new : List (List PlainSource)) → HasMore old new → (a b : PlainSource) → AreLookedAt old a b → AreLookedAt new a b
   looked_more old new more a b h = (h.0, (more h.0 h.1.0, h.1.1))
 
-  pub done_more : (old new : Kept) → HasMore old.lists new.lists → HasMore old.looked new.looked → (a b : PlainSet) → DoneIn old a b → DoneIn new a b
+  pub done_more : (old new : Kept) → HasMore old.lists new.lists → HasMore old.looked new.looked → (a b : PlainSource) → DoneIn old a b → DoneIn new a b
   done_more old new lists looked a b h = record {
     own = λ x y p q t. stand_more old.lists new.lists lists x y (h.own x y p q t);
     one = λ c k. looked_more old.looked new.looked looked c b (h.one c k);
@@ -319,7 +321,7 @@ module _ (pass : Pass) (s : Judged) (d : MeantDocument Place) where
   }
 
   -- with more lists
-  pub pairs_stay : (twos : List (List PlainSet)) (old : Kept) (lists : List (List PlainField)) → HasMore old.lists lists → PairsAreDone d pass s twos old → PairsAreDone d pass s twos (record old { lists = lists })
+  pub pairs_stay : (twos : List (List PlainSource)) (old : Kept) (lists : List (List PlainField)) → HasMore old.lists lists → PairsAreDone d pass s twos old → PairsAreDone d pass s twos (record old { lists = lists })
   pairs_stay twos old lists more ok a b h = elim (ok a b h) [ inl left ↦ inl left | inr done ↦ inr (done_more old (record old { lists = lists }) more (λ l c. c) a b done) ]
 
   -- ---- a list of fields
@@ -426,22 +428,23 @@ module _ (pass : Pass) (s : Judged) (d : MeantDocument Place) where
         subst (λ (k : Kept). AreUnderWay d pass s o [] (left ++ []) k × AllStand d pass s (all_plain (sets ∷ [])) k.lists) (sym is) (dropped_last sets old stand o left under, all_of_one sets old.lists stand);
   }
 
-  -- sets that were examined are remembered
-  pub then_looked : (sets : Sets) (kept : List PlainSet) (lists : List Sets) (old mid new : Kept) (added : List (Broken Place)) (next : List Sets) → Contains lists sets → HaveSame kept (plain_sets sets)
-      → SetsExamined pass s d lists old mid added next → new ≡ record mid { expanded = mid.expanded ++ kept ∷ [] } → SetsExamined pass s d lists old new added next
-  then_looked sets kept lists old mid new added next there same h is = record {
+  -- sets that were examined apart from those that were looked at before are put behind these
+  then_looked : (sets : Sets) (kept : List PlainSet) (old mid new : Kept) (added : List (Broken Place)) (next : List Sets) → HaveSame kept (plain_sets sets)
+      → SetsExamined pass s d (sets ∷ []) (record old { expanded = [] }) mid added next → new ≡ record mid { expanded = old.expanded ++ kept ∷ [] } → SetsExamined pass s d (sets ∷ []) old new added next
+  then_looked sets kept old mid new added next same h is = record {
     right = h.right;
     under = h.under;
     more = λ l c. subst (λ (k : Kept). Contains k.lists l) (sym is) (h.more l c);
     settled = λ e o left under.
-        let r = h.settled e o left under in
-        subst (λ (k : Kept). AreUnderWay d pass s o [] (left ++ all_plain next) k × AllStand d pass s (all_plain lists) k.lists) (sym is) (
+        let apart : AreUnderWay d pass s o [] (plain_sets sets ∷ left) (record old { expanded = [] }) = record { fields = under.fields; sets = λ vs c. not_in_nil vs c; pairs = under.pairs } in
+        let r = h.settled e o left apart in
+        subst (λ (k : Kept). AreUnderWay d pass s o [] (left ++ all_plain next) k × AllStand d pass s (all_plain (sets ∷ [])) k.lists) (sym is) (
           record {
             fields = r.0.fields;
-            sets = λ vs c. elim (Contains-append_cases mid.expanded (kept ∷ []) vs c) [
-              | inl a ↦ r.0.sets vs a
+            sets = λ vs c. elim (Contains-append_cases old.expanded (kept ∷ []) vs c) [
+              | inl a ↦ λ x y i j. together_more old.lists mid.lists h.more x y (under.sets vs a x y i j)
               | inr b ↦ subst (λ (l : List PlainSet). (x y : PlainField) → PlainSelected d l x → PlainSelected d l y → StandTogether pass s mid.lists x y) (sym (only kept vs b))
-                  (λ x y i j. r.1 (plain_sets sets) (contains_map plain_sets lists sets there) x y (selected_same kept (plain_sets sets) same x i) (selected_same kept (plain_sets sets) same y j))
+                  (λ x y i j. r.1 (plain_sets sets) (Contains-first (plain_sets sets) [] (plain_sets sets) refl) x y (selected_same kept (plain_sets sets) same x i) (selected_same kept (plain_sets sets) same y j))
             ];
             pairs = r.0.pairs;
           },
@@ -513,21 +516,11 @@ module _ (pass : Pass) (s : Judged) (d : MeantDocument Place) where
 
   -- ---- steps of the program
 
-  -- fields that some sets select are examined
-  pub fields_told : (sets : Sets) (list : List FieldSelection) (old mid new : Kept) (told later : List (Broken Place)) (next last : List Sets) → mid ≡ old → IsMergedIn d sets list
-      → (new.expanded ≡ mid.expanded) × ((vs : Sets) (looked : List (List PlainSet)) → IsMergedIn d vs list → SetsTold told later (with_sets looked mid) (with_sets looked new) next last (vs ∷ []))
-      → SetsTold told later old new next last (sets ∷ [])
-  fields_told sets list old mid new told later next last is merged (same, so) =
-      let r = so sets old.expanded merged in
-      let known : with_sets old.expanded new ≡ new = λ i. record new { expanded = sym (same ∙ ap (λ (k : Kept). k.expanded) is) i } in
-      subst (λ (k : Kept). SetsTold told later old k next last (sets ∷ [])) known (subst (λ (k : Kept). SetsTold told later k (with_sets old.expanded new) next last (sets ∷ [])) (ap (with_sets old.expanded) is) r)
-
-  -- before they are remembered
-  pub looked_then : (sets : Sets) (old mid new : Kept) (is_new : Bool) (told later : List (Broken Place)) (next last : List Sets) → Expands mid (plain_sets sets) is_new new
-      → SetsTold told later old mid next last (sets ∷ []) → SetsTold told later old new next last (sets ∷ [])
-  looked_then sets old mid new true told later next last (kept, (same, is)) h = told_so told later old new next last (sets ∷ []) (sets ∷ []) old mid
-      (λ added below k. then_looked sets kept (sets ∷ []) old mid new added below (Contains-first sets [] sets refl) same k is) h
-  looked_then sets old mid new false told later next last (there, is) h = subst (λ (k : Kept). SetsTold told later old k next last (sets ∷ [])) (sym is) h
+  -- sets that are new are remembered, once they are examined
+  pub looked_then : (sets : Sets) (old mid : Kept) (now : List (List PlainSet)) (told later : List (Broken Place)) (next last : List Sets) → Expands old (plain_sets sets) true (record old { expanded = now })
+      → SetsTold told later (record old { expanded = [] }) mid next last (sets ∷ []) → SetsTold told later old (record mid { expanded = now }) next last (sets ∷ [])
+  looked_then sets old mid now told later next last (kept, (same, is)) h = told_so told later old (record mid { expanded = now }) next last (sets ∷ []) (sets ∷ []) (record old { expanded = [] }) mid
+      (λ added below k. then_looked sets kept old mid (record mid { expanded = now }) added below same k (λ i. record mid { expanded = ap (λ (l : Kept). l.expanded) is i })) h
 
   -- ---- sets with no fields
 

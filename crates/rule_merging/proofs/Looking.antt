@@ -1,14 +1,12 @@
--- Pairs of sets that are looked at.
+-- Pairs of sources that are looked at.
 use Rattle.std.proofs.Common.{◌≡◌, ◌∙◌, true, false, List, [], ◌∷◌, ◌++◌, map, refl, sym, ap, subst, append_assoc, append-nil, inl, inr}
 use Rattle.std.proofs.lemmas.List.{map-append}
 use Rattle.std.proofs.lemmas.List.Elements.{Contains-append_left, Contains-append_right, Contains-append_cases}
 use Rattle.rule_definitions.proofs.Lists.{not_in_nil, only, Contains-first}
-use Rattle.rule_document_definitions.specs.PlainFields.{PlainSet}
 use Rattle.rule_number_lists.specs.NumberLists.{HaveSame}
-use Rattle.rule_field_groups.specs.Below.{plain_sets}
 use Rattle.rule_merging.specs.declared.remembered.Pair.{Pair}
-use Rattle.rule_merging.specs.Remembered.{Kept, HasLooked, LooksAt, two_of}
-use Rattle.rule_merging.specs.Examined.{Sets}
+use Rattle.rule_merging.specs.Remembered.{Kept, PlainSource, plain_sources, HasLooked, LooksAt, two_of}
+use Rattle.rule_merging.specs.Examined.{Sources}
 use Rattle.rule_merging.specs.Pairs.{Looks}
 
 -- nothing is looked at
@@ -24,8 +22,8 @@ looks_none old = record {
   has = λ two c. absurd (not_in_nil two c);
 }
 
--- two sets that were not looked at before
-pub looks_new : (two : Sets) (old mid new : Kept) → LooksAt old (plain_sets two) true mid → new ≡ record mid { pairs = mid.pairs ++ two ∷ [] } → Looks (two ∷ []) old new
+-- two that were not looked at before
+pub looks_new : (two : Sources) (old mid new : Kept) → LooksAt old (plain_sources two) true mid → new ≡ record mid { pairs = mid.pairs ++ two ∷ [] } → Looks (two ∷ []) old new
 looks_new two old mid new (kept, (same, at)) is = subst (Looks (two ∷ []) old) (sym (is ∙ ap (λ (k : Kept). record k { pairs = k.pairs ++ two ∷ [] }) at)) (record {
   lists = refl;
   expanded = refl;
@@ -35,13 +33,13 @@ looks_new two old mid new (kept, (same, at)) is = subst (Looks (two ∷ []) old)
   keeps = λ k c. Contains-append_left old.looked (kept ∷ []) k c;
   fresh = λ k c. elim (Contains-append_cases old.looked (kept ∷ []) k c) [
     | inl a ↦ inl a
-    | inr b ↦ inr (two, (Contains-first two [] two refl, subst (λ (l : List PlainSet). HaveSame l (plain_sets two)) (sym (only kept k b)) same))
+    | inr b ↦ inr (two, (Contains-first two [] two refl, subst (λ (l : List PlainSource). HaveSame l (plain_sources two)) (sym (only kept k b)) same))
   ];
-  has = λ t c. (kept, (Contains-append_right old.looked (kept ∷ []) kept (Contains-first kept [] kept refl), subst (λ (l : Sets). HaveSame kept (plain_sets l)) (sym (only two t c)) same));
+  has = λ t c. (kept, (Contains-append_right old.looked (kept ∷ []) kept (Contains-first kept [] kept refl), subst (λ (l : Sources). HaveSame kept (plain_sources l)) (sym (only two t c)) same));
 })
 
 -- or were
-pub looks_known : (two : Sets) (old new : Kept) → LooksAt old (plain_sets two) false new → Looks (two ∷ []) old new
+pub looks_known : (two : Sources) (old new : Kept) → LooksAt old (plain_sources two) false new → Looks (two ∷ []) old new
 looks_known two old new (has, is) = subst (Looks (two ∷ []) old) (sym is) (record {
   lists = refl;
   expanded = refl;
@@ -50,11 +48,11 @@ looks_known two old new (has, is) = subst (Looks (two ∷ []) old) (sym is) (rec
   within = λ t c. absurd (not_in_nil t c);
   keeps = λ k c. c;
   fresh = λ k c. inl c;
-  has = λ t c. subst (λ (l : Sets). HasLooked old.looked (plain_sets l)) (sym (only two t c)) has;
+  has = λ t c. subst (λ (l : Sources). HasLooked old.looked (plain_sources l)) (sym (only two t c)) has;
 })
 
 -- one after the other
-pub looks_both : (w w' : List Sets) (old mid new : Kept) → Looks w old mid → Looks w' mid new → Looks (w ++ w') old new
+pub looks_both : (w w' : List Sources) (old mid new : Kept) → Looks w old mid → Looks w' mid new → Looks (w ++ w') old new
 looks_both w w' old mid new first then' = record {
   lists = then'.lists ∙ first.lists;
   expanded = then'.expanded ∙ first.expanded;

@@ -1,4 +1,4 @@
--- A pair of sets is looked at: their own fields are compared, and what each spreads is looked at with the other.
+-- A pair of sources is looked at: their own fields are compared, and what each spreads is looked at with the other.
 use Rattle.std.proofs.Common.{◌≡◌, ◌⊎◌, ◌∙◌, ℕ, ◌+◌, ◌<◌, ◌≤◌, None, List, [], ◌∷◌, ◌++◌, drop, length, get_or, Contains, refl, sym, ap, subst, append_assoc, append-nil, arith, inl, inr}
 use Rattle.std.proofs.lemmas.List.{map-append, drop-append-le, drop_all}
 use Rattle.std.proofs.lemmas.List.Elements.{Contains-append_left, Contains-append_right, Contains-append_cases}
@@ -24,13 +24,13 @@ use Rattle.rule_number_lists.specs.NumberLists.{HaveSame}
 use Rattle.rule_number_lists.proofs.Standing.{same_trans, same_sym}
 use Rattle.rule_document_definitions.specs.PlainFields.{PlainField, PlainSet, PlainBelow, PlainStarts, IsSelected}
 use Rattle.rule_document_definitions.specs.Settled.{StandIn, IsUnderWay}
-use Rattle.rule_field_groups.specs.Own.{own_fields, spread_sets, IsSpreadFrom}
+use Rattle.rule_field_groups.specs.Own.{Source, OfSet, own_fields, sources, unplaced_source, opened, IsSpreadFrom}
 use Rattle.rule_field_groups.specs.Laws.{HasField}
 use Rattle.rule_field_groups.proofs.Reaching.{through_spreads}
-use Rattle.rule_field_groups.proofs.Plain.{own_plain, spread_plain}
+use Rattle.rule_field_groups.proofs.Plain.{own_of_source, sources_of_source}
 use Rattle.rule_field_groups.proofs.PairedFacts.{pairs_stand}
-use Rattle.rule_merging.specs.Remembered.{Kept}
-use Rattle.rule_merging.specs.Examined.{Sets, all_plain, with_each, StandTogether, PlainOwn, PlainSelected, PlainSpreads, AreLookedAt, IsLeft, PairsAreDone, AreUnderWay, TellsIn, ComeFrom, SelectsAsMuch, SetsExamined, PairExamined, PairsExamined, AreTwosOf}
+use Rattle.rule_merging.specs.Remembered.{Kept, PlainSource, plain_sources}
+use Rattle.rule_merging.specs.Examined.{Sets, Sources, of_sets, opened_here, all_opened, plain_pairs, all_plain, with_each, StandTogether, PlainOwn, PlainSelected, PlainSpreads, AreLookedAt, IsLeft, PairsAreDone, AreUnderWay, TellsIn, ComeFrom, SelectsAsMuch, SetsExamined, PairExamined, PairsExamined, AreTwosOf}
 use Rattle.rule_merging.specs.Counted.{IsLast, AreListed}
 use Rattle.rule_merging.specs.Pairs.{Looks, LooksAtTwos, each_with}
 use Rattle.rule_merging.specs.Twos.{are_of, both_of, FieldsPaired}
@@ -62,32 +62,51 @@ together_turned Selections s f g (t, inl e) = (sym t, inl (sym e))
 together_turned Selections s f g (t, inr (inl e)) = (sym t, inr (inr e))
 together_turned Selections s f g (t, inr (inr e)) = (sym t, inr (inl e))
 
+-- ---- sources that are sets
+
+-- what stands in one of the twos of some sets is one of these
+pub of_sources : (d : MeantDocument Place) (sets : Sets) (twos : List Sources) → AreTwosOf (of_sets sets) twos → (two : Sources) → Contains twos two → (w : MeantSet Place) → Contains (opened_here d two) w → Contains sets w
+of_sources d sets twos are two c w k =
+    let v = contains_unmap (opened d.fragments) two w k in
+    let u = contains_unmap (λ (x : MeantSet Place). OfSet x) sets v.0 (are.within two c v.0 v.1.0) in
+    subst (Contains sets) (ap (opened d.fragments) u.1.1 ∙ v.1.1) u.1.0
+
 module _ (pass : Pass) (s : Judged) (d : MeantDocument Place) where
-  -- ---- fields of the two sets
+  -- ---- fields of the two sources
+
+  -- the set of a source, and where more comes from
+  abbrev set_in : Source Place → MeantSet Place
+  set_in = opened d.fragments
+
+  abbrev more_of : Source Place → Sources
+  more_of a = sources (set_in a)
 
   -- an own field is selected
-  own_selected : (a : MeantSet Place) (f : StandingField Place) → Contains (own_fields a) f → HasField d (InOperation None) a f
+  own_selected : (a : Source Place) (f : StandingField Place) → Contains (own_fields (set_in a)) f → HasField d (InOperation None) (set_in a) f
   own_selected a f c = (through_spreads d (InOperation None) a f).1 (a, (starts_here refl, c))
 
-  -- what a set that is spread has, the set has
-  spread_before : (a v t : MeantSet Place) → Contains (spread_sets d.fragments a) v → IsSpreadFrom d.fragments v t → IsSpreadFrom d.fragments a t
-  spread_before a v t c (starts_here e) = leads_on (starts_here refl) (subst (Contains (spread_sets d.fragments a)) (sym e) c)
+  -- what a source that is spread has, the source has
+  spread_before : (a v t : Source Place) → Contains (more_of a) v → IsSpreadFrom d.fragments v t → IsSpreadFrom d.fragments a t
+  spread_before a v t c (starts_here e) = leads_on (starts_here refl) (subst (Contains (more_of a)) (sym e) c)
   spread_before a v t c (leads_on {x} r step) = leads_on (spread_before a v x c r) step
 
-  spread_selected : (a v : MeantSet Place) (x : StandingField Place) → Contains (spread_sets d.fragments a) v → HasField d (InOperation None) v x → HasField d (InOperation None) a x
+  spread_selected : (a v : Source Place) (x : StandingField Place) → Contains (more_of a) v → HasField d (InOperation None) (set_in v) x → HasField d (InOperation None) (set_in a) x
   spread_selected a v x c h =
       let own = (through_spreads d (InOperation None) v x).0 h in
       (through_spreads d (InOperation None) a x).1 (own.0, (spread_before a v own.0 c own.1.0, own.1.1))
 
-  module _ (a b : MeantSet Place) (ones others : List FieldSelection) (is_own : fields_of ones ≡ own_fields a) (is_own_too : fields_of others ≡ own_fields b) where
+  module _ (a b : Source Place) (ones others : List FieldSelection) (is_own : fields_of ones ≡ own_fields (set_in a)) (is_own_too : fields_of others ≡ own_fields (set_in b)) where
+    abbrev pair : Sources
+    pair = a ∷ b ∷ []
+
     abbrev two : Sets
-    two = a ∷ b ∷ []
+    two = set_in a ∷ set_in b ∷ []
 
     from_one : (p : FieldSelection) → Contains ones p → IsSelected d two (field_of p)
-    from_one p c = (a, (Contains-first a (b ∷ []) a refl, own_selected a (field_of p) (subst (λ l. Contains l (field_of p)) is_own (contains_map field_of ones p c))))
+    from_one p c = (set_in a, (Contains-first (set_in a) (set_in b ∷ []) (set_in a) refl, own_selected a (field_of p) (subst (λ l. Contains l (field_of p)) is_own (contains_map field_of ones p c))))
 
     from_other : (q : FieldSelection) → Contains others q → IsSelected d two (field_of q)
-    from_other q c = (b, (Contains-rest a (b ∷ []) b (Contains-first b [] b refl), own_selected b (field_of q) (subst (λ l. Contains l (field_of q)) is_own_too (contains_map field_of others q c))))
+    from_other q c = (set_in b, (Contains-rest (set_in a) (set_in b ∷ []) (set_in b) (Contains-first (set_in b) [] (set_in b) refl), own_selected b (field_of q) (subst (λ l. Contains l (field_of q)) is_own_too (contains_map field_of others q c))))
 
     -- two fields that go together, of the one set and of the other
     both_selected : (p q : FieldSelection) → are_of ones others p q → (f : StandingField Place) → Contains (both_of p q) f → IsSelected d two f
@@ -101,24 +120,24 @@ module _ (pass : Pass) (s : Judged) (d : MeantDocument Place) where
     pair_listed os listed p q (c, e) = (listed two (Contains-first two [] two refl) (field_of p) (from_one p c), listed two (Contains-first two [] two refl) (field_of q) (from_other q e))
 
     -- an own field without places is that of a selection
-    own_of : (c : MeantSet Place) (list : List FieldSelection) → fields_of list ≡ own_fields c → (x : PlainField) → PlainOwn (unplaced_set c) x → (p : FieldSelection) × (Contains list p × (content_of p ≡ x))
+    own_of : (c : Source Place) (list : List FieldSelection) → fields_of list ≡ own_fields (set_in c) → (x : PlainField) → PlainOwn d (unplaced_source c) x → (p : FieldSelection) × (Contains list p × (content_of p ≡ x))
     own_of c list is x h =
-        let f = contains_unmap unplaced_content (own_fields c) x (subst (λ l. Contains l x) (own_plain c) h) in
+        let f = contains_unmap unplaced_content (own_fields (set_in c)) x (subst (λ l. Contains l x) (own_of_source d.fragments c) h) in
         let p = contains_unmap field_of list f.0 (subst (λ l. Contains l f.0) (sym is) f.1.0) in
         (p.0, (p.1.0, ap unplaced_content p.1.1 ∙ f.1.1))
 
-    spread_of : (c : MeantSet Place) (v : PlainSet) → PlainSpreads d (unplaced_set c) v → (w : MeantSet Place) × (Contains (spread_sets d.fragments c) w × (unplaced_set w ≡ v))
-    spread_of c v h = contains_unmap unplaced_set (spread_sets d.fragments c) v (subst (λ l. Contains l v) (spread_plain d.fragments c) h)
+    spread_of : (c : Source Place) (v : PlainSource) → PlainSpreads d (unplaced_source c) v → (w : Source Place) × (Contains (more_of c) w × (unplaced_source w ≡ v))
+    spread_of c v h = contains_unmap unplaced_source (more_of c) v (subst (λ l. Contains l v) (sources_of_source d.fragments c) h)
 
-    of_two : (p q v : MeantSet Place) → Contains (spread_sets d.fragments p) v → (x : StandingField Place) → IsSelected d (v ∷ q ∷ []) x → IsSelected d (p ∷ q ∷ []) x
-    of_two p q v spread x (w, (k, sel)) = elim (Contains-cons v (q ∷ []) w k) [
-      | inl e ↦ (p, (Contains-first p (q ∷ []) p refl, spread_selected p v x spread (subst (λ u. HasField d (InOperation None) u x) (sym e) sel)))
-      | inr r ↦ (w, (Contains-rest p (q ∷ []) w r, sel))
+    of_two : (p q v : Source Place) → Contains (more_of p) v → (x : StandingField Place) → IsSelected d (opened_here d (v ∷ q ∷ [])) x → IsSelected d (opened_here d (p ∷ q ∷ [])) x
+    of_two p q v spread x (w, (k, sel)) = elim (Contains-cons (set_in v) (set_in q ∷ []) w k) [
+      | inl e ↦ (set_in p, (Contains-first (set_in p) (set_in q ∷ []) (set_in p) refl, spread_selected p v x spread (subst (λ u. HasField d (InOperation None) u x) (sym e) sel)))
+      | inr r ↦ (w, (Contains-rest (set_in p) (set_in q ∷ []) w r, sel))
     ]
 
     module _ (old mid new : Kept) (added : List (Broken Place)) (next : List Sets) (paired : FieldsPaired pass s d (are_of ones others) old mid added next)
-        (looks : Looks (each_with (spread_sets d.fragments a) b ++ with_each a (spread_sets d.fragments b)) mid new) where
-      stand_own : added ≡ [] → (x y : PlainField) → PlainOwn (unplaced_set a) x → PlainOwn (unplaced_set b) y → Together pass s x y → StandIn new.lists x y
+        (looks : Looks (each_with (more_of a) b ++ with_each a (more_of b)) mid new) where
+      stand_own : added ≡ [] → (x y : PlainField) → PlainOwn d (unplaced_source a) x → PlainOwn d (unplaced_source b) y → Together pass s x y → StandIn new.lists x y
       stand_own none x y p q t =
           let m = own_of a ones is_own x p in
           let n = own_of b others is_own_too y q in
@@ -126,31 +145,31 @@ module _ (pass : Pass) (s : Judged) (d : MeantDocument Place) where
           let stand = paired.stand none m.0 n.0 ((m.1.0, n.1.0), together_up pass s (field_of m.0) (field_of n.0) go) in
           subst (λ (ls : List (List PlainField)). StandIn ls x y) (sym looks.lists) (subst (λ v. StandIn mid.lists v y) m.1.1 (subst (StandIn mid.lists (content_of m.0)) n.1.1 stand))
 
-      looked_one : (v : PlainSet) → PlainSpreads d (unplaced_set a) v → AreLookedAt new.looked v (unplaced_set b)
+      looked_one : (v : PlainSource) → PlainSpreads d (unplaced_source a) v → AreLookedAt new.looked v (unplaced_source b)
       looked_one v h =
           let w = spread_of a v h in
-          let pair = w.0 ∷ b ∷ [] in
-          subst (λ u. AreLookedAt new.looked u (unplaced_set b)) w.1.1
-          (looks.has pair (Contains-append_left (each_with (spread_sets d.fragments a) b) (with_each a (spread_sets d.fragments b)) pair (contains_map (λ (u : MeantSet Place). u ∷ b ∷ []) (spread_sets d.fragments a) w.0 w.1.0)))
+          let part = w.0 ∷ b ∷ [] in
+          subst (λ u. AreLookedAt new.looked u (unplaced_source b)) w.1.1
+          (looks.has part (Contains-append_left (each_with (more_of a) b) (with_each a (more_of b)) part (contains_map (λ (u : Source Place). u ∷ b ∷ []) (more_of a) w.0 w.1.0)))
 
-      looked_other : (v : PlainSet) → PlainSpreads d (unplaced_set b) v → AreLookedAt new.looked (unplaced_set a) v
+      looked_other : (v : PlainSource) → PlainSpreads d (unplaced_source b) v → AreLookedAt new.looked (unplaced_source a) v
       looked_other v h =
           let w = spread_of b v h in
-          let pair = a ∷ w.0 ∷ [] in
-          subst (AreLookedAt new.looked (unplaced_set a)) w.1.1
-          (looks.has pair (Contains-append_right (each_with (spread_sets d.fragments a) b) (with_each a (spread_sets d.fragments b)) pair (contains_map (λ (u : MeantSet Place). a ∷ u ∷ []) (spread_sets d.fragments b) w.0 w.1.0)))
+          let part = a ∷ w.0 ∷ [] in
+          subst (AreLookedAt new.looked (unplaced_source a)) w.1.1
+          (looks.has part (Contains-append_right (each_with (more_of a) b) (with_each a (more_of b)) part (contains_map (λ (u : Source Place). a ∷ u ∷ []) (more_of b) w.0 w.1.0)))
 
-      turned : (u v : PlainSet) → AreLookedAt new.looked u v → AreLookedAt new.looked v u
+      turned : (u v : PlainSource) → AreLookedAt new.looked u v → AreLookedAt new.looked v u
       turned u v (known, (there, same)) = (known, (there, same_trans known (u ∷ v ∷ []) (v ∷ u ∷ []) same (swapped u v)))
 
-      done : added ≡ [] → DoneIn pass s d new (unplaced_set a) (unplaced_set b)
+      done : added ≡ [] → DoneIn pass s d new (unplaced_source a) (unplaced_source b)
       done none = record { own = stand_own none; one = looked_one; other = looked_other }
 
-      done_turned : added ≡ [] → DoneIn pass s d new (unplaced_set b) (unplaced_set a)
+      done_turned : added ≡ [] → DoneIn pass s d new (unplaced_source b) (unplaced_source a)
       done_turned none = record {
         own = λ x y p q t. let h = stand_own none y x q p (together_turned pass s x y t) in (h.0, (h.1.0, (h.1.1.1, h.1.1.0)));
-        one = λ v h. turned (unplaced_set a) v (looked_other v h);
-        other = λ v h. turned v (unplaced_set b) (looked_one v h);
+        one = λ v h. turned (unplaced_source a) v (looked_other v h);
+        other = λ v h. turned v (unplaced_source b) (looked_one v h);
       }
 
       lists_more : HasMore old.lists new.lists
@@ -160,38 +179,38 @@ module _ (pass : Pass) (s : Judged) (d : MeantDocument Place) where
       looked_same = ap (λ (k : Kept). k.looked) paired.same
 
       looked_on : HasMore old.looked new.looked
-      looked_on k c = looks.keeps k (subst (λ (ls : List (List PlainSet)). Contains ls k) (sym looked_same) c)
+      looked_on k c = looks.keeps k (subst (λ (ls : List (List PlainSource)). Contains ls k) (sym looked_same) c)
 
       -- the pair that was left is done
-      pair_on : added ≡ [] → (twos : List (List PlainSet)) → (u v : PlainSet) → AreLookedAt (plain_sets two ∷ twos) u v → AreLookedAt (twos ++ all_plain looks.pairs) u v ⊎ DoneIn pass s d new u v
-      pair_on none twos u v (known, (there, same)) = elim (Contains-cons (plain_sets two) twos known there) [
-        | inl e ↦ inr (elim (two_same (unplaced_set a) (unplaced_set b) u v (subst (λ (l : List PlainSet). HaveSame l (u ∷ v ∷ [])) (sym e) same)) [
-          | inl (p, q) ↦ subst (λ x. DoneIn pass s d new x v) p (subst (DoneIn pass s d new (unplaced_set a)) q (done none))
-          | inr (p, q) ↦ subst (λ x. DoneIn pass s d new x v) q (subst (DoneIn pass s d new (unplaced_set b)) p (done_turned none))
+      pair_on : added ≡ [] → (twos : List (List PlainSource)) → (u v : PlainSource) → AreLookedAt (plain_sources pair ∷ twos) u v → AreLookedAt (twos ++ plain_pairs looks.pairs) u v ⊎ DoneIn pass s d new u v
+      pair_on none twos u v (known, (there, same)) = elim (Contains-cons (plain_sources pair) twos known there) [
+        | inl e ↦ inr (elim (two_same (unplaced_source a) (unplaced_source b) u v (subst (λ (l : List PlainSource). HaveSame l (u ∷ v ∷ [])) (sym e) same)) [
+          | inl (p, q) ↦ subst (λ x. DoneIn pass s d new x v) p (subst (DoneIn pass s d new (unplaced_source a)) q (done none))
+          | inr (p, q) ↦ subst (λ x. DoneIn pass s d new x v) q (subst (DoneIn pass s d new (unplaced_source b)) p (done_turned none))
         ])
-        | inr r ↦ inl (known, (Contains-append_left twos (all_plain looks.pairs) known r, same))
+        | inr r ↦ inl (known, (Contains-append_left twos (plain_pairs looks.pairs) known r, same))
       ]
 
       -- each pair that was looked at is done, or it is left
-      pairs_on : added ≡ [] → (twos : List (List PlainSet)) → PairsAreDone d pass s (plain_sets two ∷ twos) old → PairsAreDone d pass s (twos ++ all_plain looks.pairs) new
+      pairs_on : added ≡ [] → (twos : List (List PlainSource)) → PairsAreDone d pass s (plain_sources pair ∷ twos) old → PairsAreDone d pass s (twos ++ plain_pairs looks.pairs) new
       pairs_on none twos ok u v (known, (there, same)) = elim (looks.fresh known there) [
-        | inl was ↦ elim (ok u v (known, (subst (λ (ls : List (List PlainSet)). Contains ls known) looked_same was, same))) [
+        | inl was ↦ elim (ok u v (known, (subst (λ (ls : List (List PlainSource)). Contains ls known) looked_same was, same))) [
           | inl left ↦ pair_on none twos u v left
           | inr is ↦ inr (done_more pass s d old new lists_more looked_on u v is)
         ]
-        | inr (t, (c, alike)) ↦ inl (plain_sets t, (Contains-append_right twos (all_plain looks.pairs) (plain_sets t) (contains_map plain_sets looks.pairs t c), same_trans (plain_sets t) known (u ∷ v ∷ []) (same_sym known (plain_sets t) alike) same))
+        | inr (t, (c, alike)) ↦ inl (plain_sources t, (Contains-append_right twos (plain_pairs looks.pairs) (plain_sources t) (contains_map plain_sources looks.pairs t c), same_trans (plain_sources t) known (u ∷ v ∷ []) (same_sym known (plain_sources t) alike) same))
       ]
 
-      within_part : (part : Sets) → Contains (each_with (spread_sets d.fragments a) b ++ with_each a (spread_sets d.fragments b)) part → (x : StandingField Place) → IsSelected d part x → IsSelected d two x
-      within_part part c x h = elim (Contains-append_cases (each_with (spread_sets d.fragments a) b) (with_each a (spread_sets d.fragments b)) part c) [
-        | inl i ↦ let v = contains_unmap (λ (u : MeantSet Place). u ∷ b ∷ []) (spread_sets d.fragments a) part i in of_two a b v.0 v.1.0 x (subst (λ (l : Sets). IsSelected d l x) (sym v.1.1) h)
-        | inr i ↦ let v = contains_unmap (λ (u : MeantSet Place). a ∷ u ∷ []) (spread_sets d.fragments b) part i in
-            let turn = subst (λ (l : Sets). IsSelected d l x) (sym v.1.1) h in
-            let k = of_two b a v.0 v.1.0 x (turn.0, ((swapped a v.0 turn.0).0 turn.1.0, turn.1.1)) in
-            (k.0, ((swapped b a k.0).0 k.1.0, k.1.1))
+      within_part : (part : Sources) → Contains (each_with (more_of a) b ++ with_each a (more_of b)) part → (x : StandingField Place) → IsSelected d (opened_here d part) x → IsSelected d two x
+      within_part part c x h = elim (Contains-append_cases (each_with (more_of a) b) (with_each a (more_of b)) part c) [
+        | inl i ↦ let v = contains_unmap (λ (u : Source Place). u ∷ b ∷ []) (more_of a) part i in of_two a b v.0 v.1.0 x (subst (λ (l : Sources). IsSelected d (opened_here d l) x) (sym v.1.1) h)
+        | inr i ↦ let v = contains_unmap (λ (u : Source Place). a ∷ u ∷ []) (more_of b) part i in
+            let turn = subst (λ (l : Sources). IsSelected d (opened_here d l) x) (sym v.1.1) h in
+            let k = of_two b a v.0 v.1.0 x (turn.0, ((swapped (set_in a) (set_in v.0) turn.0).0 turn.1.0, turn.1.1)) in
+            (k.0, ((swapped (set_in b) (set_in a) k.0).0 k.1.0, k.1.1))
       ]
 
-      pub pair_examined : PairExamined pass s d two old new added next
+      pub pair_examined : PairExamined pass s d pair old new added next
       pair_examined = record {
         right = λ fault c.
             let t = paired.right fault c in
@@ -241,7 +260,7 @@ module _ (pass : Pass) (s : Judged) (d : MeantDocument Place) where
   one_comes lists next u = (u.0, (Contains-first u.0 [] u.0 refl, u.1.1))
 
   -- whichever order pairs are left in
-  under_as : (o : MeantOperation Place) (twos twos' left : List (List PlainSet)) (kept : Kept) → HasMore twos twos' → AreUnderWay d pass s o twos left kept → AreUnderWay d pass s o twos' left kept
+  under_as : (o : MeantOperation Place) (twos twos' : List (List PlainSource)) (left : List (List PlainSet)) (kept : Kept) → HasMore twos twos' → AreUnderWay d pass s o twos left kept → AreUnderWay d pass s o twos' left kept
   under_as o twos twos' left kept on under = record {
     fields = under.fields;
     sets = under.sets;
@@ -255,47 +274,47 @@ module _ (pass : Pass) (s : Judged) (d : MeantDocument Place) where
     more = λ l c. c;
     looks = λ l c. c;
     within = λ part c. (part, (c, λ x h. h));
-    settled = λ e o left under. subst (λ l. AreUnderWay d pass s o (all_plain old.pairs) l old) (sym (append-nil left)) under;
+    settled = λ e o left under. subst (λ l. AreUnderWay d pass s o (plain_pairs old.pairs) l old) (sym (append-nil left)) under;
   }
 
   -- one more of them
-  module _ (n : ℕ) (old mid new : Kept) (added more : List (Broken Place)) (next below : List Sets) (two : Sets) (within : n < length mid.pairs) (is : two ≡ get_or mid.pairs n two)
+  module _ (n : ℕ) (old mid new : Kept) (added more : List (Broken Place)) (next below : List Sets) (two : Sources) (within : n < length mid.pairs) (is : two ≡ get_or mid.pairs n two)
       (so_far : PairsExamined pass s d n old mid added next) (one : PairExamined pass s d two mid new more below) where
     there : Contains mid.pairs two
     there = (n, within, sym is)
 
-    from : (part : Sets) → SelectsAsMuch d two part → (sets : Sets) × (Contains old.pairs sets × SelectsAsMuch d sets part)
+    from : (part : Sources) → SelectsAsMuch d (opened_here d two) (opened_here d part) → (sets : Sources) × (Contains old.pairs sets × SelectsAsMuch d (opened_here d sets) (opened_here d part))
     from part wide = let f = so_far.within two there in (f.0, (f.1.0, λ x h. f.1.1 x (wide x h)))
 
     pub one_more : PairsExamined pass s d (n + 1) old new (added ++ more) (next ++ below)
     one_more = record {
       right = λ fault c. elim (Contains-append_cases added more fault c) [
         | inl a ↦ so_far.right fault a
-        | inr b ↦ let f = from two (λ x h. h) in tells_wider f.0 two old.pairs f.1.0 f.1.1 fault (one.right fault b)
+        | inr b ↦ let f = from two (λ x h. h) in tells_wider (opened_here d f.0) (opened_here d two) (all_opened d old.pairs) (contains_map (opened_here d) old.pairs f.0 f.1.0) f.1.1 fault (one.right fault b)
       ];
       under = λ sets c. elim (Contains-append_cases next below sets c) [
         | inl a ↦ so_far.under sets a
-        | inr b ↦ let f = from two (λ x h. h) in come_wider f.0 two old.pairs f.1.0 f.1.1 sets (one.under sets b)
+        | inr b ↦ let f = from two (λ x h. h) in come_wider (opened_here d f.0) (opened_here d two) (all_opened d old.pairs) (contains_map (opened_here d) old.pairs f.0 f.1.0) f.1.1 sets (one.under sets b)
       ];
       more = λ l c. one.more l (so_far.more l c);
       looks = λ l c. one.looks l (so_far.looks l c);
-      within = λ part c. elim (Contains-append_cases mid.pairs one.pairs part (subst (λ (l : List Sets). Contains l part) one.is_pairs c)) [
+      within = λ part c. elim (Contains-append_cases mid.pairs one.pairs part (subst (λ (l : List Sources). Contains l part) one.is_pairs c)) [
         | inl a ↦ so_far.within part a
         | inr b ↦ from part (one.within part b)
       ];
       settled = λ e o left under.
           let half = so_far.settled (left_empty added more e) o left under in
-          let rest = all_plain (drop (n + 1) mid.pairs) in
-          let last = one.settled (right_empty added more e) o rest (left ++ all_plain next) (subst (λ (l : List Sets). AreUnderWay d pass s o (all_plain l) (left ++ all_plain next) mid) (drop_first mid.pairs n two within is) half) in
-          subst (λ l. AreUnderWay d pass s o (all_plain (drop (n + 1) new.pairs)) l new) (append_assoc left (all_plain next) (all_plain below) ∙ ap (λ l. left ++ l) (sym (map-append plain_sets next below)))
+          let rest = plain_pairs (drop (n + 1) mid.pairs) in
+          let last = one.settled (right_empty added more e) o rest (left ++ all_plain next) (subst (λ (l : List Sources). AreUnderWay d pass s o (plain_pairs l) (left ++ all_plain next) mid) (drop_first mid.pairs n two within is) half) in
+          subst (λ l. AreUnderWay d pass s o (plain_pairs (drop (n + 1) new.pairs)) l new) (append_assoc left (all_plain next) (all_plain below) ∙ ap (λ l. left ++ l) (sym (map-append plain_sets next below)))
           (subst (λ t. AreUnderWay d pass s o t ((left ++ all_plain next) ++ all_plain below) new) (sym left_over) last);
     }
       where
-        left_over : all_plain (drop (n + 1) new.pairs) ≡ all_plain (drop (n + 1) mid.pairs) ++ all_plain one.pairs
-        left_over = ap all_plain (ap (drop (n + 1)) one.is_pairs ∙ drop-append-le (n + 1) mid.pairs one.pairs (omega (arith, within))) ∙ map-append plain_sets (drop (n + 1) mid.pairs) one.pairs
+        left_over : plain_pairs (drop (n + 1) new.pairs) ≡ plain_pairs (drop (n + 1) mid.pairs) ++ plain_pairs one.pairs
+        left_over = ap plain_pairs (ap (drop (n + 1)) one.is_pairs ∙ drop-append-le (n + 1) mid.pairs one.pairs (omega (arith, within))) ∙ map-append plain_sources (drop (n + 1) mid.pairs) one.pairs
 
   -- the same of breaches and lists as they stand before and after
-  pub pairs_step : (n : ℕ) (old mid new : Kept) (told half last : List (Broken Place)) (next between later : List Sets) (two : Sets) → n < length mid.pairs → two ≡ get_or mid.pairs n two
+  pub pairs_step : (n : ℕ) (old mid new : Kept) (told half last : List (Broken Place)) (next between later : List Sets) (two : Sources) → n < length mid.pairs → two ≡ get_or mid.pairs n two
       → ((added : List (Broken Place)) × ((below : List Sets) × ((half ≡ told ++ added) × ((between ≡ next ++ below) × PairsExamined pass s d n old mid added below))))
       → ((added : List (Broken Place)) × ((below : List Sets) × ((last ≡ half ++ added) × ((later ≡ between ++ below) × PairExamined pass s d two mid new added below))))
       → (added : List (Broken Place)) × ((below : List Sets) × ((last ≡ told ++ added) × ((later ≡ next ++ below) × PairsExamined pass s d (n + 1) old new added below)))
@@ -312,35 +331,38 @@ module _ (pass : Pass) (s : Judged) (d : MeantDocument Place) where
 
   -- ---- sets by their pairs
 
-  -- where pairs are done, fields that go together stand, of which two sets that were looked at select the one each
-  looked_stand : (kept : Kept) → PairsAreDone d pass s [] kept → (a b : PlainSet) → AreLookedAt kept.looked a b
-      → (x y : PlainField) → HasField (unplaced_document d) (InOperation None) a x → HasField (unplaced_document d) (InOperation None) b y → StandTogether pass s kept.lists x y
+  -- where pairs are done, fields that go together stand, of which two sources that were looked at select the one each
+  looked_stand : (kept : Kept) → PairsAreDone d pass s [] kept → (a b : PlainSource) → AreLookedAt kept.looked a b → (x y : PlainField) → HasField (unplaced_document d) (InOperation None) (opened (unplaced_document d).fragments a) x
+      → HasField (unplaced_document d) (InOperation None) (opened (unplaced_document d).fragments b) y → StandTogether pass s kept.lists x y
   looked_stand kept done a b looked x y p q t =
-      let stands = pairs_stand PlainOwn (PlainSpreads d) (Together pass s) (StandIn kept.lists) (AreLookedAt kept.looked) (AreLookedAt []) done a b x y looked
+      let stands = pairs_stand (PlainOwn d) (PlainSpreads d) (Together pass s) (StandIn kept.lists) (AreLookedAt kept.looked) (AreLookedAt []) done a b x y looked
       ((through_spreads (unplaced_document d) (InOperation None) a x).0 p) ((through_spreads (unplaced_document d) (InOperation None) b y).0 q) t in
       elim stands [ inl stand ↦ stand | inr (u, (v, (none, both))) ↦ not_in_nil none.0 none.1.0 ]
 
-  module _ (sets : Sets) (twos : List Sets) (are : AreTwosOf sets twos) (old mid new : Kept) (looks : Looks twos (record old { pairs = [] }) mid)
+  module _ (sets : Sets) (twos : List Sources) (are : AreTwosOf (of_sets sets) twos) (old mid new : Kept) (looks : Looks twos (record old { pairs = [] }) mid)
       (n : ℕ) (added : List (Broken Place)) (next : List Sets) (all : added ≡ [] → length new.pairs ≤ n) (pairs : PairsExamined pass s d n mid new added next) where
     -- each pair is of these sets
-    of_sets : (two : Sets) → Contains mid.pairs two → SelectsAsMuch d sets two
-    of_sets two c x h = (h.0, (are.within two (looks.within two (subst (λ (l : List Sets). Contains l two) looks.is_pairs c)) h.0 h.1.0, h.1.1))
+    of_all : (part : Sets) → Contains (all_opened d mid.pairs) part → SelectsAsMuch d sets part
+    of_all part c x h =
+        let two = contains_unmap (opened_here d) mid.pairs part c in
+        (h.0, (of_sources d sets twos are two.0 (looks.within two.0 (subst (λ (l : List Sources). Contains l two.0) looks.is_pairs two.1.0)) h.0 (subst (λ (l : Sets). Contains l h.0) (sym two.1.1) h.1.0), h.1.1))
 
     -- any two of the sets were looked at together
-    looked_two : (v w : MeantSet Place) → Contains sets v → Contains sets w → AreLookedAt new.looked (unplaced_set v) (unplaced_set w)
+    looked_two : (v w : MeantSet Place) → Contains sets v → Contains sets w → AreLookedAt new.looked (OfSet (unplaced_set v)) (OfSet (unplaced_set w))
     looked_two v w a b =
-        let two = are.covers v w a b in
+        let two = are.covers (OfSet v) (OfSet w) (contains_map (λ (u : MeantSet Place). OfSet u) sets v a) (contains_map (λ (u : MeantSet Place). OfSet u) sets w b) in
         let known = looks.has two.0 two.1.0 in
-        (known.0, (pairs.looks known.0 known.1.0, same_trans known.0 (plain_sets two.0) (plain_sets (v ∷ w ∷ [])) known.1.1 (same_plain two.0 (v ∷ w ∷ []) two.1.1)))
+        (known.0, (pairs.looks known.0 known.1.0, same_trans known.0 (plain_sources two.0) (plain_sources (OfSet v ∷ OfSet w ∷ [])) known.1.1 (same_plain two.0 (OfSet v ∷ OfSet w ∷ []) two.1.1)))
 
     sets_stand : PairsAreDone d pass s [] new → SetsStand pass s d sets new.lists
     sets_stand done x y (p, (a, i)) (q, (b, j)) =
         let v = contains_unmap unplaced_set sets p a in
         let w = contains_unmap unplaced_set sets q b in
-        looked_stand new done p q (subst (λ (k : PlainSet). AreLookedAt new.looked k q) v.1.1 (subst (AreLookedAt new.looked (unplaced_set v.0)) w.1.1 (looked_two v.0 w.0 v.1.0 w.1.0))) x y i j
+        looked_stand new done (OfSet p) (OfSet q)
+        (subst (λ (k : PlainSet). AreLookedAt new.looked (OfSet k) (OfSet q)) v.1.1 (subst (λ (k : PlainSet). AreLookedAt new.looked (OfSet (unplaced_set v.0)) (OfSet k)) w.1.1 (looked_two v.0 w.0 v.1.0 w.1.0))) x y i j
 
     -- with the pairs that are left
-    with_pairs : (o : MeantOperation Place) (left : List (List PlainSet)) → AreUnderWay d pass s o [] left old → AreUnderWay d pass s o (all_plain mid.pairs) left mid
+    with_pairs : (o : MeantOperation Place) (left : List (List PlainSet)) → AreUnderWay d pass s o [] left old → AreUnderWay d pass s o (plain_pairs mid.pairs) left mid
     with_pairs o left under = record {
       fields = subst (λ (ls : List (List PlainField)). IsUnderWay (PlainBelow d) (Together pass s) (Agree pass s) (PlainStarts d o) (IsLeft d left) (StandTogether pass s ls)) (sym looks.lists) under.fields;
       sets = λ vs c. subst (λ (ls : List (List PlainField)). (x y : PlainField) → PlainSelected d vs x → PlainSelected d vs y → StandTogether pass s ls x y) (sym looks.lists)
@@ -350,25 +372,25 @@ module _ (pass : Pass) (s : Judged) (d : MeantDocument Place) where
           | inl none ↦ not_in_nil none.0 none.1.0
           | inr is ↦ inr (done_more pass s d old mid (λ l c. subst (λ (ls : List (List PlainField)). Contains ls l) (sym looks.lists) c) looks.keeps a b is)
         ]
-        | inr (t, (c, alike)) ↦ inl (plain_sets t, (contains_map plain_sets mid.pairs t (subst (λ (l : List Sets). Contains l t) (sym looks.is_pairs) c), same_trans (plain_sets t) h.0 (a ∷ b ∷ []) (same_sym h.0 (plain_sets t) alike) h.1.1))
+        | inr (t, (c, alike)) ↦ inl (plain_sources t, (contains_map plain_sources mid.pairs t (subst (λ (l : List Sources). Contains l t) (sym looks.is_pairs) c), same_trans (plain_sources t) h.0 (a ∷ b ∷ []) (same_sym h.0 (plain_sources t) alike) h.1.1))
       ];
     }
 
     pub sets_by_pairs : SetsExamined pass s d (sets ∷ []) old new added next
     sets_by_pairs = record {
-      right = λ fault c. let t = pairs.right fault c in tells_wider sets t.0 (sets ∷ []) (Contains-first sets [] sets refl) (of_sets t.0 t.1.0) fault (one_tells mid.pairs fault t);
-      under = λ vs c. let u = pairs.under vs c in come_wider sets u.0 (sets ∷ []) (Contains-first sets [] sets refl) (of_sets u.0 u.1.0) vs (one_comes mid.pairs vs u);
+      right = λ fault c. let t = pairs.right fault c in tells_wider sets t.0 (sets ∷ []) (Contains-first sets [] sets refl) (of_all t.0 t.1.0) fault (one_tells (all_opened d mid.pairs) fault t);
+      under = λ vs c. let u = pairs.under vs c in come_wider sets u.0 (sets ∷ []) (Contains-first sets [] sets refl) (of_all u.0 u.1.0) vs (one_comes (all_opened d mid.pairs) vs u);
       more = λ l c. pairs.more l (subst (λ (ls : List (List PlainField)). Contains ls l) (sym looks.lists) c);
       settled = λ e o left under.
           let half = pairs.settled e o (plain_sets sets ∷ left) (with_pairs o (plain_sets sets ∷ left) under) in
           let whole : AreUnderWay d pass s o [] (plain_sets sets ∷ (left ++ all_plain next)) new =
-          subst (λ (l : List Sets). AreUnderWay d pass s o (all_plain l) (plain_sets sets ∷ (left ++ all_plain next)) new) (drop_all n new.pairs (all e)) half in
+          subst (λ (l : List Sources). AreUnderWay d pass s o (plain_pairs l) (plain_sets sets ∷ (left ++ all_plain next)) new) (drop_all n new.pairs (all e)) half in
           let stand = sets_stand whole.pairs in
           (dropped pass s d sets new stand o (left ++ all_plain next) whole, all_of_one pass s d sets new.lists stand);
     }
 
   -- the same of breaches and lists as they stand before and after
-  pub twos_told : (sets : Sets) (old mid new : Kept) (told later : List (Broken Place)) (next last : List Sets) → LooksAtTwos sets old mid
+  pub twos_told : (sets : Sets) (old mid new : Kept) (told later : List (Broken Place)) (next last : List Sets) → LooksAtTwos (of_sets sets) old mid
       → (n : ℕ) × ((later ≡ told → length new.pairs ≤ n) × ((added : List (Broken Place)) × ((below : List Sets) × ((later ≡ told ++ added) × ((last ≡ next ++ below) × PairsExamined pass s d n mid new added below)))))
       → (added : List (Broken Place)) × ((below : List Sets) × ((later ≡ told ++ added) × ((last ≡ next ++ below) × SetsExamined pass s d (sets ∷ []) old new added below)))
   twos_told sets old mid new told later next last (twos, (are, looks)) (n, (all, (a, (k, (is, (lies, h)))))) =

@@ -1,7 +1,7 @@
 -- Lists that are remembered: what stands at the numbers that are kept.
-use Rattle.std.proofs.Common.{◌≡◌, ◌⊎◌, ◌∙◌, ℕ, ◌<◌, ◌≤◌, Bool, true, false, List, [], ◌∷◌, map, length, get_or, slice_get, Some, Contains, true≢false, refl, sym, ap, subst, length-append, arith, inl, inr}
+use Rattle.std.proofs.Common.{◌≡◌, ◌++◌, ◌⊎◌, ◌∙◌, ℕ, ◌<◌, ◌≤◌, Bool, true, false, List, [], ◌∷◌, map, length, get_or, slice_get, Some, Contains, true≢false, refl, sym, ap, subst, length-append, arith, inl, inr}
+use Rattle.std.specs.Prelude.{Result, Ok, Err, OnErr}
 use Rattle.std.specs.List.{IsDistinct}
-use Rattle.std.specs.List.Sorted.{IsPermutation}
 use Rattle.std.proofs.lemmas.Bool.{cases_eq, cases_lt}
 use Rattle.std.proofs.lemmas.List.{map-append, length-map}
 use Rattle.std.proofs.lemmas.Map.Keys.{apart_from_distinct}
@@ -9,8 +9,8 @@ use Rattle.std.proofs.lemmas.Option.{slice_get_within, get_or_from_slice_get}
 use Rattle.rule_cycle_search.specs.Paths.{HasNoRepeat}
 use Rattle.rule_cycle_search.proofs.Lists.{mapped_some, slice_get-map}
 use Rattle.rule_number_lists.specs.Numbered.{AreNumbersIn, Grows, AddsOnly, AreWithin, at_places}
-use Rattle.rule_number_lists.specs.NumberLists.{Keeps}
-use Rattle.rule_number_lists.proofs.Standing.{in_map, of_map, AllWithin, HasSame, Notes, NoneSame, all_stay, kept_same, notes, none_same, numbered_so, of_table, same_sym, same_order}
+use Rattle.rule_number_lists.specs.NumberLists.{HaveSame, Keeps}
+use Rattle.rule_number_lists.proofs.Standing.{in_map, of_map, AllWithin, Notes, NoneSame, all_stay, notes, none_same, numbered_so, of_table, same_sym, same_order}
 use Rattle.document_meaning.specs.Unplaced.{unplaced_set}
 use Rattle.rule_field_groups.specs.in_ground.Fields.{content_of}
 use Rattle.rule_field_groups.specs.in_ground.declared.field_selection.FieldSelection.{FieldSelection}
@@ -18,9 +18,16 @@ use Rattle.rule_field_groups.proofs.in_ground.ContentEquality.{selection_eq, sel
 use Rattle.rule_field_groups.specs.declared.below.SelectedSet.{SelectedSet}
 use Rattle.rule_document_definitions.specs.PlainFields.{PlainField, PlainSet}
 use Rattle.rule_field_groups.specs.Below.{contents_of, meant_at, meant_sets, plain_sets}
-use Rattle.rule_field_groups.proofs.Sets.{set_key_eq, same_sets}
+use Rattle.rule_field_groups.proofs.Sets.{set_key_eq, same_sets, source_eq, same_sources}
+use Rattle.rule_field_groups.specs.Own.{unplaced_source, source_meant, meant_sources}
+use Rattle.rule_field_groups.specs.declared.own.SelectionSource.{SelectionSource}
 use Rattle.rule_merging.specs.Counted.{Account, Meets}
-use Rattle.rule_merging.specs.Remembered.{Kept, Remembers, HasLooked, Expands, LooksAt}
+use Rattle.rule_merging.specs.Remembered.{Kept, PlainSource, plain_sources, Remembers, HasLooked, LooksAt}
+
+-- what is so is so where a call fails
+pub where_err : {T E X : Type 0} (r : Result T E) → X → OnErr r X
+where_err (Ok y) h = tt
+where_err (Err y) h = h
 
 -- ---- what items of a table say
 
@@ -52,13 +59,6 @@ module _ {T X : Type 0} (eq : T → T → Bool) (content : T → X) (sound : (a 
     where
       longer : (l : List ℕ) → Contains lists l → AreWithin new l
       longer l c n k = let h = all l c n k in let e = ap length grown.1 in omega (arith, h, e, length-append old grown.0)
-
-  -- one that stands there
-  pub said_same : (old new : List T) (lists : List (List ℕ)) (list : List T) (numbers kept : List ℕ) → Grows old new → AllWithin old lists → AreNumbersIn eq new list numbers → Contains lists kept → IsPermutation numbers kept
-      → HasSame (map (at_places (map content old)) lists) (map content list)
-  said_same old new lists list numbers kept grown all are there order =
-      subst (λ ls. HasSame ls (map content list)) (said_still old new lists grown all)
-      (subst (HasSame (map (at_places (map content new)) lists)) (numbered_so eq content sound new list numbers are) (kept_same (map content new) lists numbers kept there order))
 
   -- where equal items alone say the same, and no two are equal, none says the same as another
   pub said_apart : ((a b : T) → content a ≡ content b → eq a b ≡ true) → (table : List T) → IsDistinct eq table → HasNoRepeat (map content table)
@@ -136,6 +136,11 @@ lists_still old new lists now grown all is =
 
 -- ---- lists of sets
 
+-- a list of sets is put last, in some order; where it is not new, one with the same members stood there
+abbrev pub Expands : Kept → List PlainSet → Bool → Kept → Type 0
+Expands old sets true new = (kept : List PlainSet) × (HaveSame kept sets × (new ≡ record old { expanded = old.expanded ++ kept ∷ [] }))
+Expands old sets false new = HasLooked old.expanded sets × (new ≡ old)
+
 abbrev plain_of : SelectedSet → PlainSet
 plain_of s = unplaced_set (meant_at s)
 
@@ -165,26 +170,33 @@ module _ (base : Kept) where
   expands old new lists now sets numbers is_new grown all are keeps =
       expands_from (map (at_places (plain_sets (meant_sets old))) lists) (map (at_places (plain_sets (meant_sets new))) now) (plain_sets (meant_sets sets)) is_new (sets_noted old new lists now sets numbers is_new grown all are keeps)
 
-  -- two that are looked at
-  abbrev pairs_with : List (List PlainSet) → Kept
+-- ---- pairs of sources
+
+abbrev plain_source : SelectionSource → PlainSource
+plain_source x = unplaced_source (source_meant x)
+
+sources_said : (xs : List SelectionSource) → map plain_source xs ≡ plain_sources (meant_sources xs)
+sources_said [] = refl
+sources_said (x ∷ xs) = ap (λ l. plain_source x ∷ l) (sources_said xs)
+
+sources_noted : (old new : List SelectionSource) (lists now : List (List ℕ)) (xs : List SelectionSource) (numbers : List ℕ) (is_new : Bool) → Grows old new → AllWithin old lists → AreNumbersIn source_eq new xs numbers
+    → Keeps lists numbers is_new now → Notes (map (at_places (plain_sources (meant_sources old))) lists) (plain_sources (meant_sources xs)) is_new (map (at_places (plain_sources (meant_sources new))) now)
+sources_noted old new lists now xs numbers is_new grown all are keeps =
+    subst (λ t. Notes (map (at_places t) lists) (plain_sources (meant_sources xs)) is_new (map (at_places (plain_sources (meant_sources new))) now)) (sources_said old)
+    (subst (λ t. Notes (map (at_places (map plain_source old)) lists) (plain_sources (meant_sources xs)) is_new (map (at_places t) now)) (sources_said new)
+    (subst (λ l. Notes (map (at_places (map plain_source old)) lists) l is_new (map (at_places (map plain_source new)) now)) (sources_said xs)
+    (said_notes source_eq plain_source same_sources old new lists now xs numbers is_new grown all are keeps)))
+
+module _ (base : Kept) where
+  abbrev pairs_with : List (List PlainSource) → Kept
   pairs_with ls = record base { looked = ls }
 
-  looks_from : (old new : List (List PlainSet)) (sets : List PlainSet) (is_new : Bool) → Notes old sets is_new new → LooksAt (pairs_with old) sets is_new (pairs_with new)
-  looks_from old new sets true (kept, (order, is)) = (kept, (same_sym sets kept (same_order sets kept order), ap pairs_with is))
-  looks_from old new sets false (known, is) = (known, ap pairs_with is)
+  looks_from : (old new : List (List PlainSource)) (two : List PlainSource) (is_new : Bool) → Notes old two is_new new → LooksAt (pairs_with old) two is_new (pairs_with new)
+  looks_from old new two true (kept, (order, is)) = (kept, (same_sym two kept (same_order two kept order), ap pairs_with is))
+  looks_from old new two false (known, is) = (known, ap pairs_with is)
 
-  pub looks : (old new : List SelectedSet) (lists now : List (List ℕ)) (sets : List SelectedSet) (numbers : List ℕ) (is_new : Bool) → Grows old new → AllWithin old lists → AreNumbersIn set_key_eq new sets numbers
-      → Keeps lists numbers is_new now → LooksAt (record base { looked = map (at_places (plain_sets (meant_sets old))) lists }) (plain_sets (meant_sets sets)) is_new
-      (record base { looked = map (at_places (plain_sets (meant_sets new))) now })
-  looks old new lists now sets numbers is_new grown all are keeps =
-      looks_from (map (at_places (plain_sets (meant_sets old))) lists) (map (at_places (plain_sets (meant_sets new))) now) (plain_sets (meant_sets sets)) is_new (sets_noted old new lists now sets numbers is_new grown all are keeps)
-
-pub sets_still : (old new : List SelectedSet) (lists now : List (List ℕ)) → Grows old new → AllWithin old lists → now ≡ lists → map (at_places (plain_sets (meant_sets new))) now ≡ map (at_places (plain_sets (meant_sets old))) lists
-sets_still old new lists now grown all is =
-    ap (map (at_places (plain_sets (meant_sets new)))) is ∙ ap (λ t. map (at_places t) lists) (sym (sets_said new)) ∙ said_still set_key_eq plain_of same_sets old new lists grown all ∙ ap (λ t. map (at_places t) lists) (sets_said old)
-
-pub has_looked : (old new : List SelectedSet) (lists : List (List ℕ)) (sets : List SelectedSet) (numbers kept : List ℕ) → Grows old new → AllWithin old lists → AreNumbersIn set_key_eq new sets numbers → Contains lists kept
-    → IsPermutation numbers kept → HasLooked (map (at_places (plain_sets (meant_sets old))) lists) (plain_sets (meant_sets sets))
-has_looked old new lists sets numbers kept grown all are there order =
-    subst (λ t. HasLooked (map (at_places t) lists) (plain_sets (meant_sets sets))) (sets_said old)
-    (subst (HasLooked (map (at_places (map plain_of old)) lists)) (sets_said sets) (said_same set_key_eq plain_of same_sets old new lists sets numbers kept grown all are there order))
+  pub looks : (old new : List SelectionSource) (lists now : List (List ℕ)) (xs : List SelectionSource) (numbers : List ℕ) (is_new : Bool) → Grows old new → AllWithin old lists → AreNumbersIn source_eq new xs numbers
+      → Keeps lists numbers is_new now → LooksAt (record base { looked = map (at_places (plain_sources (meant_sources old))) lists }) (plain_sources (meant_sources xs)) is_new
+      (record base { looked = map (at_places (plain_sources (meant_sources new))) now })
+  looks old new lists now xs numbers is_new grown all are keeps =
+      looks_from (map (at_places (plain_sources (meant_sources old))) lists) (map (at_places (plain_sources (meant_sources new))) now) (plain_sources (meant_sources xs)) is_new (sources_noted old new lists now xs numbers is_new grown all are keeps)

@@ -1,15 +1,15 @@
 -- The last field of a chain of an operation of a document is written in it.
-use Rattle.std.proofs.Common.{◌≡◌, ℕ, List, [], ◌∷◌, ◌++◌, flat_map, Option, Some, Contains, refl, sym, ap, subst, inl, inr}
+use Rattle.std.proofs.Common.{◌≡◌, ℕ, List, [], ◌∷◌, ◌++◌, flat_map, Option, Some, Contains, sym, ap, subst, inl, inr}
 use Rattle.std.specs.List.{cons_option}
 use Rattle.std.specs.Option.{option_map}
 use Rattle.std.proofs.lemmas.List.Elements.{Contains-append_left, Contains-append_right}
 use Rattle.graphql_names.specs.Placed.{Place}
-use Rattle.document_meaning.specs.MeantTree.{MeantSet, MeantOperation, MeantFragment, MeantDocument}
+use Rattle.document_meaning.specs.MeantTree.{MeantOperation, MeantFragment, MeantDocument}
 use Rattle.rule_definitions.proofs.Lists.{Contains-first}
 use Rattle.rule_definitions.proofs.Lookups.{under_given}
 use Rattle.rule_cycle_search.proofs.Lists.{given_in}
-use Rattle.rule_document_definitions.specs.Selected.{Position, InOperation, InFragment, Standing, StandingField, as_field, standing_in, all_in, operations, operation_name, fragments, fragment_named, all_selections}
-use Rattle.rule_document_definitions.specs.Reached.{Closed, first, next, InFragmentOf, Reached, IsFieldOf}
+use Rattle.rule_document_definitions.specs.Selected.{InOperation, Standing, StandingField, as_field, standing_in, all_in, operations, operation_name, fragments, all_selections}
+use Rattle.rule_document_definitions.specs.Reached.{Closed, first, next, InFragmentOf, Reached}
 use Rattle.rule_document_definitions.specs.Chains.{Chain}
 use Rattle.rule_document_definitions.specs.Contents.{unplaced_content}
 use Rattle.rule_document_definitions.specs.PlainFields.{PlainField}

@@ -54,9 +54,8 @@ pub record Meets (list : List PlainField) (old new : Account) : Type 0 where
 abbrev pub OnlyMeets : List PlainField → Account → Account → Type 0
 OnlyMeets list old new = Meets list old new × (new.spent ≡ old.spent)
 
--- a list is paid, or not
+-- a list is asked to pay, whether it is paid or not
 pub record Pays (list : List PlainField) (old new : Account) : Type 0 where
-  pub lists : new.lists ≡ old.lists
   pub meets : Meets list old new
   pub spends : old.spent ≤ new.spent
   pub within : IsWithin old → IsWithin new

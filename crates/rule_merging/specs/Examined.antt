@@ -19,14 +19,14 @@ use Rattle.rule_field_groups.specs.in_ground.declared.field_selection.FieldSelec
 use Rattle.rule_document_definitions.specs.PlainFields.{PlainField, PlainSet, PlainBelow, PlainStarts, IsSelected}
 use Rattle.rule_document_definitions.specs.Settled.{StandIn, StandWhere, StartsStand, IsSettledIn, IsUnderWay}
 use Rattle.rule_field_groups.specs.Paired.{ArePairsDone}
-use Rattle.rule_field_groups.specs.Own.{own_fields, spread_sets}
+use Rattle.rule_field_groups.specs.Own.{Source, OfSet, own_fields, sources, opened}
 use Rattle.rule_field_groups.specs.Passes.{Together, Agree, Conflict}
 pub use Rattle.rule_field_groups.specs.Under.{Sets, all_sets, sets_in, AreOf, IsAmong, HaveBoth}
-use Rattle.rule_field_groups.specs.Below.{contents_of, plain_sets, IsMergedIn}
+use Rattle.rule_field_groups.specs.Below.{plain_sets}
 use Rattle.rule_field_groups.specs.declared.pass.Pass.{Pass}
 use Rattle.rule_number_lists.specs.NumberLists.{HaveSame}
-use Rattle.rule_merging.specs.Remembered.{Kept, HasLooked, account_of, kept_of}
-use Rattle.rule_merging.specs.Counted.{Account, Pays, IsPaidIf, AreLast, AreListed, Grows}
+use Rattle.rule_merging.specs.Remembered.{Kept, PlainSource, plain_sources, HasLooked, account_of, kept_of}
+use Rattle.rule_merging.specs.Counted.{AreListed, Grows}
 use Rattle.rule_merging.specs.declared.remembered.Remembered.{Remembered}
 use Rattle.rule_merging.specs.declared.examination.Examination.{Examination}
 
@@ -44,22 +44,29 @@ Breaches = Vec (Place × BuildError) Global
 abbrev pub all_plain : List Sets → List (List PlainSet)
 all_plain lists = map plain_sets lists
 
--- a set with each of the others
-abbrev pub with_each : MeantSet Place → Sets → List Sets
-with_each v sets = map (λ w. v ∷ w ∷ []) sets
+-- where selections come from: from sets, as they are written
+abbrev pub Sources : Type 0
+Sources = List (Source Place)
+
+abbrev pub of_sets : Sets → Sources
+of_sets sets = map OfSet sets
+
+-- without places
+abbrev pub plain_pairs : List Sources → List (List PlainSource)
+plain_pairs twos = map plain_sources twos
+
+-- a source with each of the others
+abbrev pub with_each : Source Place → Sources → List Sources
+with_each v xs = map (λ w. v ∷ w ∷ []) xs
 
 -- fields that go together stand in one of the lists
 abbrev pub StandTogether : Pass → Judged → List (List PlainField) → PlainField → PlainField → Type 0
 StandTogether pass s lists = StandWhere (Together pass s) lists
 
--- ---- pairs of sets
+-- ---- pairs of sources
 
--- what a set has itself, without places
-abbrev pub PlainOwn : PlainSet → PlainField → Type 0
-PlainOwn a x = Contains (own_fields a) x
-
--- two sets are among these pairs
-abbrev pub AreLookedAt : List (List PlainSet) → PlainSet → PlainSet → Type 0
+-- two sources are among these pairs
+abbrev pub AreLookedAt : List (List PlainSource) → PlainSource → PlainSource → Type 0
 AreLookedAt looked a b = HasLooked looked (a ∷ b ∷ [])
 
 module _ (d : MeantDocument Place) where
@@ -75,13 +82,23 @@ module _ (d : MeantDocument Place) where
   abbrev pub AllStand : Pass → Judged → List (List PlainSet) → List (List PlainField) → Type 0
   AllStand pass s looked lists = (sets : List PlainSet) → Contains looked sets → (x y : PlainField) → PlainSelected sets x → PlainSelected sets y → StandTogether pass s lists x y
 
-  -- what a set spreads itself, without places
-  abbrev pub PlainSpreads : PlainSet → PlainSet → Type 0
-  PlainSpreads a b = Contains (spread_sets (unplaced_document d).fragments a) b
+  -- the sets of sources, in the document
+  abbrev pub opened_here : Sources → Sets
+  opened_here xs = map (opened d.fragments) xs
+
+  abbrev pub all_opened : List Sources → List Sets
+  all_opened twos = map opened_here twos
+
+  -- what a source has itself, and where more comes from, without places
+  abbrev pub PlainOwn : PlainSource → PlainField → Type 0
+  PlainOwn a x = Contains (own_fields (opened (unplaced_document d).fragments a)) x
+
+  abbrev pub PlainSpreads : PlainSource → PlainSource → Type 0
+  PlainSpreads a b = Contains (sources (opened (unplaced_document d).fragments a)) b
 
   -- of each pair that was looked at own fields stand in one of the lists, and what the one spreads was looked at with the other; or it is
   -- one of these that are left
-  abbrev pub PairsAreDone : Pass → Judged → List (List PlainSet) → Kept → Type 0
+  abbrev pub PairsAreDone : Pass → Judged → List (List PlainSource) → Kept → Type 0
   PairsAreDone pass s twos kept = ArePairsDone PlainOwn PlainSpreads (Together pass s) (StandIn kept.lists) (AreLookedAt kept.looked) (AreLookedAt twos)
 
   -- fields that go together are settled, what sets select that were looked at stands in the lists, and pairs are done
@@ -91,7 +108,7 @@ module _ (d : MeantDocument Place) where
     pub pairs : PairsAreDone pass s [] kept
 
   -- the same while pairs and lists of sets are left, with what starts
-  pub record AreUnderWay (pass : Pass) (s : Judged) (o : MeantOperation Place) (twos left : List (List PlainSet)) (kept : Kept) : Type 0 where
+  pub record AreUnderWay (pass : Pass) (s : Judged) (o : MeantOperation Place) (twos : List (List PlainSource)) (left : List (List PlainSet)) (kept : Kept) : Type 0 where
     pub fields : IsUnderWay (PlainBelow d) (Together pass s) (Agree pass s) (PlainStarts d o) (IsLeft left) (StandTogether pass s kept.lists)
     pub sets : AllStand pass s kept.expanded kept.lists
     pub pairs : PairsAreDone pass s twos kept
@@ -161,31 +178,31 @@ module _ (pass : Pass) (s : Judged) (d : MeantDocument Place) where
     pub settled : added ≡ [] → (o : MeantOperation Place) (left : List (List PlainSet))
         → AreUnderWay d pass s o [] (all_plain lists ++ left) old → AreUnderWay d pass s o [] (left ++ all_plain next) new × AllStand d pass s (all_plain lists) new.lists
 
-  -- ---- pairs of sets
+  -- ---- pairs of sources
 
   -- a pair is looked at: what each spreads is a pair with the other, and below fields of the two that go together are lists of sets
-  pub record PairExamined (two : Sets) (old new : Kept) (added : List (Broken Place)) (next : List Sets) : Type 0 where
-    pub right : (fault : Broken Place) → Contains added fault → TellsIn (two ∷ []) fault
-    pub under : (sets : Sets) → Contains next sets → ComeFrom (two ∷ []) sets
+  pub record PairExamined (two : Sources) (old new : Kept) (added : List (Broken Place)) (next : List Sets) : Type 0 where
+    pub right : (fault : Broken Place) → Contains added fault → TellsIn (opened_here d two ∷ []) fault
+    pub under : (sets : Sets) → Contains next sets → ComeFrom (opened_here d two ∷ []) sets
     pub more : (list : List PlainField) → Contains old.lists list → Contains new.lists list
-    pub looks : (known : List PlainSet) → Contains old.looked known → Contains new.looked known
-    pub pairs : List Sets
+    pub looks : (known : List PlainSource) → Contains old.looked known → Contains new.looked known
+    pub pairs : List Sources
     pub is_pairs : new.pairs ≡ old.pairs ++ pairs
-    pub within : (part : Sets) → Contains pairs part → SelectsAsMuch d two part
+    pub within : (part : Sources) → Contains pairs part → SelectsAsMuch d (opened_here d two) (opened_here d part)
     -- where nothing is told, whatever else is left
-    pub settled : added ≡ [] → (o : MeantOperation Place) (twos left : List (List PlainSet))
-        → AreUnderWay d pass s o (plain_sets two ∷ twos) left old → AreUnderWay d pass s o (twos ++ all_plain pairs) (left ++ all_plain next) new
+    pub settled : added ≡ [] → (o : MeantOperation Place) (twos : List (List PlainSource)) (left : List (List PlainSet))
+        → AreUnderWay d pass s o (plain_sources two ∷ twos) left old → AreUnderWay d pass s o (twos ++ plain_pairs pairs) (left ++ all_plain next) new
 
   -- the same of the first pairs
   pub record PairsExamined (n : ℕ) (old new : Kept) (added : List (Broken Place)) (next : List Sets) : Type 0 where
-    pub right : (fault : Broken Place) → Contains added fault → TellsIn old.pairs fault
-    pub under : (sets : Sets) → Contains next sets → ComeFrom old.pairs sets
+    pub right : (fault : Broken Place) → Contains added fault → TellsIn (all_opened d old.pairs) fault
+    pub under : (sets : Sets) → Contains next sets → ComeFrom (all_opened d old.pairs) sets
     pub more : (list : List PlainField) → Contains old.lists list → Contains new.lists list
-    pub looks : (known : List PlainSet) → Contains old.looked known → Contains new.looked known
-    pub within : (part : Sets) → Contains new.pairs part → (two : Sets) × (Contains old.pairs two × SelectsAsMuch d two part)
+    pub looks : (known : List PlainSource) → Contains old.looked known → Contains new.looked known
+    pub within : (part : Sources) → Contains new.pairs part → (two : Sources) × (Contains old.pairs two × SelectsAsMuch d (opened_here d two) (opened_here d part))
     -- where nothing is told, whatever else is left
     pub settled : added ≡ [] → (o : MeantOperation Place) (left : List (List PlainSet))
-        → AreUnderWay d pass s o (all_plain old.pairs) left old → AreUnderWay d pass s o (all_plain (drop n new.pairs)) (left ++ all_plain next) new
+        → AreUnderWay d pass s o (plain_pairs old.pairs) left old → AreUnderWay d pass s o (plain_pairs (drop n new.pairs)) (left ++ all_plain next) new
 
   -- ---- all
 
@@ -209,12 +226,12 @@ abbrev pub ExaminesSets : Examination → List Sets → Kept → Kept → Breach
 ExaminesSets e lists examined examined' old new next next' = (added : List (Broken Place)) × ((below : List Sets) × ((brokens_of new ≡ brokens_of old ++ added) × ((next' ≡ next ++ below)
     × SetsExamined e.pass (schema_of e) (document_of e) lists examined examined' added below)))
 
--- lists of two of these sets, and any two of them are one of the lists
-pub record AreTwosOf (sets : Sets) (twos : List Sets) : Type 0 where
-  pub within : (two : Sets) → Contains twos two → (v : MeantSet Place) → Contains two v → Contains sets v
-  pub covers : (v w : MeantSet Place) → Contains sets v → Contains sets w → (two : Sets) × (Contains twos two × HaveSame two (v ∷ w ∷ []))
+-- lists of two of these sources, and any two of them are one of the lists
+pub record AreTwosOf (xs : Sources) (twos : List Sources) : Type 0 where
+  pub within : (two : Sources) → Contains twos two → (v : Source Place) → Contains two v → Contains xs v
+  pub covers : (v w : Source Place) → Contains xs v → Contains xs w → (two : Sources) × (Contains twos two × HaveSame two (v ∷ w ∷ []))
 
-abbrev pub ExaminesPair : Examination → Sets → Kept → Kept → Breaches → Breaches → List Sets → List Sets → Type 0
+abbrev pub ExaminesPair : Examination → Sources → Kept → Kept → Breaches → Breaches → List Sets → List Sets → Type 0
 ExaminesPair e two examined examined' old new next next' = (added : List (Broken Place)) × ((below : List Sets) × ((brokens_of new ≡ brokens_of old ++ added) × ((next' ≡ next ++ below)
     × PairExamined e.pass (schema_of e) (document_of e) two examined examined' added below)))
 
@@ -226,14 +243,6 @@ ExaminesFirst e n examined examined' old new next next' = (added : List (Broken 
 abbrev pub ExaminesPairs : Examination → Kept → Kept → Breaches → Breaches → List Sets → List Sets → Type 0
 ExaminesPairs e examined examined' old new next next' = (n : ℕ) × ((brokens_of new ≡ brokens_of old → length examined'.pairs ≤ n) × ExaminesFirst e n examined examined' old new next next')
 
--- whichever sets select the fields, and whichever were looked at
-abbrev pub with_sets : List (List PlainSet) → Kept → Kept
-with_sets looked kept = record kept { expanded = looked }
-
-abbrev pub ExaminesFields : Examination → List FieldSelection → Kept → Kept → Breaches → Breaches → List Sets → List Sets → Type 0
-ExaminesFields e list examined examined' old new next next' = (examined'.expanded ≡ examined.expanded) × ((sets : Sets) (looked : List (List PlainSet)) → IsMergedIn (document_of e) sets list
-    → ExaminesSets e (sets ∷ []) (with_sets looked examined) (with_sets looked examined') old new next next')
-
 abbrev pub ExaminesAll : Examination → MeantSet Place → Kept → Kept → Breaches → Breaches → Bool → Type 0
 ExaminesAll e start examined examined' old new left = (o : MeantOperation Place) → o.set ≡ start
     → (added : List (Broken Place)) × ((brokens_of new ≡ brokens_of old ++ added) × AllExamined e.pass (schema_of e) (document_of e) o examined examined' added left)
@@ -242,11 +251,9 @@ ExaminesAll e start examined examined' old new left = (o : MeantOperation Place)
 abbrev pub GrowsOver : Examination → List Sets → Remembered → Remembered → Type 0
 GrowsOver e lists old new = Grows (document_of e) (λ os. AreListed (document_of e) os lists) e.pass (account_of old) (account_of new)
 
--- the same of the pairs
-abbrev pub GrowsHere : Examination → Remembered → Remembered → Type 0
-GrowsHere e old new = GrowsOver e (kept_of old).pairs old new
+-- the same of two sources, and of the pairs
+abbrev pub GrowsOverTwo : Examination → Sources → Remembered → Remembered → Type 0
+GrowsOverTwo e two old new = GrowsOver e (opened_here (document_of e) two ∷ []) old new
 
--- and of one list of fields, which was paid before
-abbrev pub GrowsBy : Examination → List FieldSelection → Remembered → Remembered → Type 0
-GrowsBy e list old new = (before : Account) → Pays (contents_of list) before (account_of old) → IsPaidIf true (contents_of list) before (account_of old)
-    → Grows (document_of e) (λ os. AreLast (document_of e) os (contents_of list)) e.pass before (account_of new)
+abbrev pub GrowsHere : Examination → Remembered → Remembered → Type 0
+GrowsHere e old new = GrowsOver e (all_opened (document_of e) (kept_of old).pairs) old new

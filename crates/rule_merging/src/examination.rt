@@ -4,9 +4,8 @@ ghost use Rattle.rule_field_groups.specs.in_ground.Fields.{fields_of};
 ghost use Rattle.rule_field_groups.specs.Compared.{compared};
 ghost use Rattle.rule_field_groups.specs.KeyGroups.{parts_of, compared_in};
 ghost use Rattle.rule_field_groups.specs.Under.{sets_in};
-ghost use Rattle.rule_field_groups.specs.Below.{contents_of, meant_at, meant_sets};
-ghost use Rattle.rule_cycle_search.specs.Paths.{HasNoRepeat};
-ghost use Rattle.rule_merging.specs.Examined.{document_of, HaveFields, ExaminesGroups, ExaminesList, ExaminesFields, GrowsOver, GrowsBy};
+ghost use Rattle.rule_field_groups.specs.Below.{meant_at, meant_sets};
+ghost use Rattle.rule_merging.specs.Examined.{document_of, HaveFields, ExaminesGroups, ExaminesList, GrowsOver};
 ghost use Rattle.rule_merging.specs.OfProgram.{Comes, ExaminesLevel, ExaminesFrom, ExaminesThese};
 
 use crate::remembered::Remembered;
@@ -16,6 +15,7 @@ use rule_field_groups::{
     Breach, FieldSelection, KeyGroup, Pass, SelectedSet, check_key_group, groups_of, lists_below,
     merged_list,
 };
+use rule_number_lists::ListMemory;
 use std::alloc::{AllocError, Global};
 use std::mem::replace;
 
@@ -82,24 +82,8 @@ impl<'doc> Examination<'doc> {
         Ok(())
     }
 
-    /// Examines a list, unless it has no fields, or one with the same contents was examined before.
-    fn examine_fields(
-        &self,
-        list: &[FieldSelection<'doc>],
-        examined: &mut Remembered<'doc>,
-        breaches: &mut Vec<Breach>,
-    ) -> Result<(), AllocError>
-        ensures examined { OnOk result (Comes (ExaminesFields self.now list.now) examined.old examined.new breaches.old breaches.new) }
-        ensures counted { HasNoRepeat (contents_of list.now) → GrowsBy self.now list.now examined.old examined.new }
-    {
-        if !examined.remember(list)? {
-            return Ok(());
-        }
-        let comparisons = &mut examined.comparisons;
-        self.examine_list(list, &mut examined.next, breaches, comparisons)
-    }
-
-    /// Examines what some sets select: all of it, or where that is not paid, what each two of them select.
+    /// Examines what some sets select: all of it, unless a list with the same contents was examined before; or where that is not
+    /// paid, what each two of them select.
     fn examine_paid(
         &self,
         sets: &[SelectedSet<'doc>],
@@ -110,10 +94,14 @@ impl<'doc> Examination<'doc> {
         ensures counted { GrowsOver self.now (meant_sets sets.now ∷ []) examined.old examined.new }
     {
         let list = merged_list(*breaches.allocator(), &self.document.fragments, sets)?;
-        if !examined.pays(&list)? {
-            return self.examine_twos(sets, examined, breaches);
+        match examined.remember_paid(&list)? {
+            None => self.examine_twos(sets, examined, breaches),
+            Some(false) => Ok(()),
+            Some(true) => {
+                let comparisons = &mut examined.comparisons;
+                self.examine_list(&list, &mut examined.next, breaches, comparisons)
+            }
         }
-        self.examine_fields(&list, examined, breaches)
     }
 
     /// Examines what some sets select, unless this was looked at before. What is skipped is remembered by its pairs alone.
@@ -129,12 +117,13 @@ impl<'doc> Examination<'doc> {
         if examined.skips(sets) {
             return self.examine_twos(sets, examined, breaches);
         }
-        let is_known = examined.has_expanded(sets)?;
-        if is_known {
-            return Ok(());
+        // the lists are apart while this one is examined: it is theirs only when what it selects stands
+        let none = ListMemory::new(*breaches.allocator());
+        let mut expanded = replace(&mut examined.expanded, none);
+        if expanded.remember(sets)? {
+            self.examine_paid(sets, examined, breaches)?;
         }
-        self.examine_paid(sets, examined, breaches)?;
-        examined.expand(sets)?;
+        examined.expanded = expanded;
         Ok(())
     }
 

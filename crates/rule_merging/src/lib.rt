@@ -4,7 +4,7 @@
 //! level by level. How a list is grouped, and what is told of a group, is of `rule_field_groups`. Sets that were looked at
 //! together are not looked at again, nor is a list whose contents were examined before. Where lists are not paid by fields that
 //! are new (`budget.rt`), their sets are looked at in pairs (`pairs.rt`, `twos.rt`), each pair once: own fields of the two are
-//! compared, and a spread is a step in one of the two alone. Where fields go together, lists of their sets are left for the
+//! compared, and a spread is a step in one of the two alone, to the fragment by its name. Where fields go together, lists of their sets are left for the
 //! next level.
 //!
 //! For the layers above: a `FieldsInSetCanMerge` tells a list of faults what does not merge in an operation (`MergerTold` of

@@ -1,31 +1,33 @@
 //! What was examined.
-ghost use Rattle.std.specs.Prelude.{◌≡◌, ◌∷◌, [], IsTrue, IfOk, OnErr};
-ghost use Rattle.rule_field_groups.specs.Below.{contents_of, meant_at, meant_sets, plain_sets};
+ghost use Rattle.std.specs.Prelude.{◌≡◌, ◌∷◌, [], is_some, IfOk, OnErr};
+ghost use Rattle.rule_field_groups.specs.Below.{contents_of};
+ghost use Rattle.rule_field_groups.specs.Own.{source_meant};
 ghost use Rattle.rule_field_groups.specs.Under.{sets_in};
 ghost use Rattle.rule_merging.specs.Counted.{OnlyMeets, Pays, IsPaidIf, no_account};
-ghost use Rattle.rule_merging.specs.Remembered.{kept_of, account_of, beside_of, nothing_kept, HasLooked, Remembers, Expands, LooksAt};
+ghost use Rattle.rule_merging.specs.Remembered.{kept_of, account_of, beside_of, nothing_kept, plain_sources, Remembers, RemembersPaid, LooksAt};
 
 use crate::budget::spent_with;
-use rule_field_groups::{FieldSelection, SelectedSet};
+use rule_field_groups::{FieldSelection, SelectedSet, SelectionSource};
 use rule_number_lists::ListMemory;
 use std::alloc::{AllocError, Global};
 
-/// Two sets that are looked at together: the fields of the one with those of the other.
+/// Two sets or fragments that are looked at together: the fields of the one with those of the other.
 #[derive(Clone, Copy)]
 pub(crate) struct Pair<'doc> {
-    pub(crate) one: SelectedSet<'doc>,
-    pub(crate) other: SelectedSet<'doc>,
+    pub(crate) one: SelectionSource<'doc>,
+    pub(crate) other: SelectionSource<'doc>,
 }
 
 /// The contents of the lists of fields that were examined, each once, and of the lists of sets that were looked at: fields that
 /// these select and that go together are in lists that were examined. A list is known by which contents it has, in whatever
-/// order; so is a pair of sets.
+/// order; so is a pair, in which a fragment is known by its name: many pairs have one large fragment.
 #[derive(Drop)]
 pub(crate) struct Remembered<'doc> {
     lists: ListMemory<FieldSelection<'doc>>,
-    expanded: ListMemory<SelectedSet<'doc>>,
+    /// The lists of sets that were looked at.
+    pub(crate) expanded: ListMemory<SelectedSet<'doc>>,
     /// The pairs that were looked at, or are left.
-    looked: ListMemory<SelectedSet<'doc>>,
+    looked: ListMemory<SelectionSource<'doc>>,
     /// Of these the ones that came last, in turn.
     pub(crate) pairs: Vec<Pair<'doc>>,
     /// The lists of sets that are left for the next level.
@@ -66,30 +68,13 @@ impl<'doc> Remembered<'doc> {
         self.lists.remember(list)
     }
 
-    /// Remembers a list of sets. Whether it was not remembered before is given: one with the same contents.
-    pub(crate) fn expand(&mut self, sets: &[SelectedSet<'doc>]) -> Result<bool, AllocError>
-        ensures expands { IfOk result (λ is_new. Expands (kept_of self.old) (plain_sets (meant_sets sets.now)) is_new (kept_of self.new)) }
-        ensures beside { beside_of self.new ≡ beside_of self.old }
-    {
-        self.expanded.remember(sets)
-    }
-
-    /// Whether a list of sets is remembered: one with the same contents.
-    pub(crate) fn has_expanded(&mut self, sets: &[SelectedSet<'doc>]) -> Result<bool, AllocError>
-        ensures known { IfOk result (λ is_known. IsTrue is_known → HasLooked (kept_of self.old).expanded (plain_sets (meant_sets sets.now))) }
-        ensures same { kept_of self.new ≡ kept_of self.old }
-        ensures beside { beside_of self.new ≡ beside_of self.old }
-    {
-        self.expanded.contains(sets)
-    }
-
-    /// Notes that two sets are looked at together. Whether they were not noted before is given: sets with the same contents.
+    /// Notes that two are looked at together. Whether they were not noted before is given: two with the same contents.
     pub(crate) fn look(
         &mut self,
-        one: SelectedSet<'doc>,
-        other: SelectedSet<'doc>,
+        one: SelectionSource<'doc>,
+        other: SelectionSource<'doc>,
     ) -> Result<bool, AllocError>
-        ensures looks { IfOk result (λ is_new. LooksAt (kept_of self.old) (plain_sets (meant_at one.entry ∷ meant_at other.entry ∷ [])) is_new (kept_of self.new)) }
+        ensures looks { IfOk result (λ is_new. LooksAt (kept_of self.old) (plain_sources (source_meant one.entry ∷ source_meant other.entry ∷ [])) is_new (kept_of self.new)) }
         ensures beside { beside_of self.new ≡ beside_of self.old }
     {
         self.looked.remember(&[one, other])
@@ -109,22 +94,28 @@ impl<'doc> Remembered<'doc> {
         self.is_spent && sets.len() == 2
     }
 
-    /// Whether a list may be examined: what it costs is paid by fields that are new.
-    pub(crate) fn pays(&mut self, list: &[FieldSelection<'doc>]) -> Result<bool, AllocError>
-        ensures kept { kept_of self.new ≡ kept_of self.old }
+    /// Remembers a list of fields, if it may be examined: what it costs is paid by fields that are new. Whether it was not
+    /// remembered before is given: one with the same contents; or nothing, where it is not paid.
+    pub(crate) fn remember_paid(
+        &mut self,
+        list: &[FieldSelection<'doc>],
+    ) -> Result<Option<bool>, AllocError>
+        ensures remembers { IfOk result (λ is_new. RemembersPaid (kept_of self.old) (contents_of list.now) is_new (kept_of self.new)) }
+        ensures refused { OnErr result (kept_of self.new ≡ kept_of self.old) }
         ensures pays { Pays (contents_of list.now) (account_of self.old) (account_of self.new) }
-        ensures paid { IfOk result (λ is_paid. IsPaidIf is_paid (contents_of list.now) (account_of self.old) (account_of self.new)) }
+        ensures paid { IfOk result (λ is_new. IsPaidIf (is_some is_new) (contents_of list.now) (account_of self.old) (account_of self.new)) }
         ensures next { sets_in self.new.next ≡ sets_in self.old.next }
     {
-        let fields = self.lists.note(list)?;
-        match spent_with(self.spent, list.len(), fields) {
+        let numbers = self.lists.numbers(list)?;
+        match spent_with(self.spent, list.len(), self.lists.len()) {
             None => {
                 self.is_spent = true;
-                Ok(false)
+                Ok(None)
             }
             Some(spent) => {
                 self.spent = spent;
-                Ok(true)
+                let is_new = self.lists.remember_numbers(numbers)?;
+                Ok(Some(is_new))
             }
         }
     }

@@ -1,16 +1,16 @@
-//! The examination of two sets that are looked at together.
+//! The examination of two sets or fragments that are looked at together.
 ghost use Rattle.std.specs.Prelude.{◌≡◌, ◌<◌, ◌∷◌, [], length, IsTrue, OnOk, IfOk};
 ghost use Rattle.std.specs.Str.{bytes_eq};
 ghost use Rattle.rule_field_groups.specs.Grouped.{key_of};
 ghost use Rattle.rule_field_groups.specs.Below.{meant_sets};
 ghost use Rattle.rule_merging.specs.Remembered.{two_of};
 ghost use Rattle.rule_merging.specs.Twos.{are_two, are_of, IsListOf, GrowsByTwo};
-ghost use Rattle.rule_merging.specs.Examined.{ExaminesPair, ExaminesPairs, GrowsOver, GrowsHere};
+ghost use Rattle.rule_merging.specs.Examined.{ExaminesPair, ExaminesPairs, GrowsOver, GrowsOverTwo, GrowsHere};
 ghost use Rattle.rule_merging.specs.OfProgram.{Comes, ExaminesThese, PairsOf};
 
 use crate::examination::Examination;
 use crate::remembered::{Pair, Remembered};
-use rule_field_groups::{Breach, FieldSelection, SelectedSet, own_fields_of, spread_sets_of};
+use rule_field_groups::{Breach, FieldSelection, SelectedSet, own_fields_of, sources_of};
 use std::alloc::{AllocError, Global};
 
 /// Whether two fields are answered under one key.
@@ -105,7 +105,7 @@ impl<'doc> Examination<'doc> {
         Ok(())
     }
 
-    /// Compares the own fields of two sets, and looks at what each of the two spreads with the other.
+    /// Compares the own fields of the two, and looks at what each of them spreads with the other.
     fn examine_pair(
         &self,
         pair: Pair<'doc>,
@@ -113,16 +113,17 @@ impl<'doc> Examination<'doc> {
         breaches: &mut Vec<Breach>,
     ) -> Result<(), AllocError>
         ensures examined { OnOk result (Comes (ExaminesPair self.now (two_of pair.entry)) examined.old examined.new breaches.old breaches.new) }
-        ensures counted { GrowsOver self.now (two_of pair.entry ∷ []) examined.old examined.new }
+        ensures counted { GrowsOverTwo self.now (two_of pair.entry) examined.old examined.new }
     {
         let alloc = *breaches.allocator();
+        let fragments = &self.document.fragments;
         let Pair { one, other } = pair;
-        let ones = own_fields_of(alloc, one.set)?;
-        let others = own_fields_of(alloc, other.set)?;
+        let ones = own_fields_of(alloc, one, fragments)?;
+        let others = own_fields_of(alloc, other, fragments)?;
         self.examine_each(&ones, &others, examined, breaches)?;
-        let spreads = spread_sets_of(alloc, one.set, &self.document.fragments)?;
+        let spreads = sources_of(alloc, one, fragments)?;
         examined.look_at_each(&spreads, other)?;
-        let spreads = spread_sets_of(alloc, other.set, &self.document.fragments)?;
+        let spreads = sources_of(alloc, other, fragments)?;
         examined.look_before_each(one, &spreads)
     }
 

@@ -1,6 +1,5 @@
 -- Lists of items that are remembered by the numbers of what these are equal to.
-use Rattle.std.specs.Prelude.{ℕ, Bool, List, Contains}
-use Rattle.std.specs.List.Sorted.{IsPermutation}
+use Rattle.std.specs.Prelude.{ℕ, Bool, List}
 use Rattle.rule_number_lists.specs.Numbered.{AreNumbersIn}
 use Rattle.rule_number_lists.specs.NumberLists.{lists_kept, Keeps}
 use Rattle.std.specs.declared.cmp.PartialEq as eq
@@ -18,7 +17,3 @@ module _ {T : Type 0} {by : eq.Ghosts T} {hashed : hash.Ghosts T} where
   -- the list of the numbers of these items is kept
   abbrev pub Remembers : (T → T → Bool) → ListMemory T by hashed → List T → Bool → ListMemory T by hashed → Type 0
   Remembers same old list is_new new = (numbers : List ℕ) × (AreNumbersIn same (items_of new) list numbers × Keeps (numbers_kept old) numbers is_new (numbers_kept new))
-
-  -- it stands there, in some order
-  abbrev pub HasList : (T → T → Bool) → ListMemory T by hashed → List T → Type 0
-  HasList same m list = (numbers : List ℕ) × (AreNumbersIn same (items_of m) list numbers × ((kept : List ℕ) × (Contains (numbers_kept m) kept × IsPermutation numbers kept)))

@@ -1,5 +1,5 @@
 //! Lists of numbers that are remembered.
-ghost use Rattle.std.specs.Prelude.{◌≡◌, ℕ, List, [], IfOk, OnErr, IsTrue, IsPermutation, Contains, Vec};
+ghost use Rattle.std.specs.Prelude.{◌≡◌, ℕ, [], IfOk, OnErr, IsPermutation, Contains, Vec};
 ghost use Rattle.std.specs.Global.{Global};
 ghost use Rattle.std.specs.List.Sorted.{IsNonDecreasing};
 ghost use Rattle.std.proofs.Props.{props};
@@ -38,14 +38,6 @@ impl NumberLists {
     {
         let numbers = in_order(numbers);
         Ok(self.lists.insert(numbers)?)
-    }
-
-    /// Whether a list is remembered, in whatever order.
-    pub fn contains(&self, numbers: Vec<usize>) -> bool
-        ensures { IsTrue result → ((kept : List ℕ) × (Contains (lists_kept self.now) kept × IsPermutation numbers.items kept)) }
-    {
-        let numbers = in_order(numbers);
-        self.lists.contains(&numbers)
     }
 }
 

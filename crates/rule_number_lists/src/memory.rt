@@ -1,5 +1,5 @@
 //! Lists of items that are remembered.
-ghost use Rattle.std.specs.Prelude.{◌≡◌, [], ℕ, List, length, Contains, IsTrue, IfOk, OnErr};
+ghost use Rattle.std.specs.Prelude.{◌≡◌, [], ℕ, List, length, Contains, IfOk, OnErr};
 ghost use Rattle.std.proofs.Props.{props};
 ghost use Rattle.rule_number_lists.specs.Numbered.{AreWithin};
 ghost use Rattle.rule_number_lists.specs.NumberLists.{lists_kept};
@@ -25,8 +25,9 @@ impl<T: Eq + Hash + Copy> Drop for ListMemory<T> {
 
 impl<T: Eq + Hash + Copy> ListMemory<T> {
     ghost use Rattle.indexmap.specs.IndexSet.{IsUnique};
-    ghost use Rattle.rule_number_lists.specs.Numbered.{Grows, AddsOnly};
-    ghost use Rattle.rule_number_lists.specs.ListMemory.{items_of, numbers_kept, Remembers, HasList};
+    ghost use Rattle.rule_number_lists.specs.Numbered.{AreNumbersIn, Grows, AddsOnly};
+    ghost use Rattle.rule_number_lists.specs.NumberLists.{Keeps};
+    ghost use Rattle.rule_number_lists.specs.ListMemory.{items_of, numbers_kept, Remembers};
 
     /// None.
     pub fn new(alloc: Global) -> ListMemory<T>
@@ -39,6 +40,35 @@ impl<T: Eq + Hash + Copy> ListMemory<T> {
         }
     }
 
+    /// How many items have numbers.
+    pub fn len(&self) -> usize
+        ensures { result ≡ length (items_of self.now) }
+    {
+        self.items.len()
+    }
+
+    /// The numbers of these items, which have one from now on.
+    pub fn numbers(&mut self, items: &[T]) -> Result<Vec<usize>, AllocError>
+        ensures numbers { IfOk result (λ numbers. AreNumbersIn T.eq (items_of self.new) items.now numbers.items) }
+        ensures grown { Grows (items_of self.old) (items_of self.new) }
+        ensures only { AddsOnly (items_of self.old) items.now (items_of self.new) }
+        ensures unique { IsUnique T.eq self.new.items }
+        ensures lists { numbers_kept self.new ≡ numbers_kept self.old }
+    {
+        let alloc = *self.items.allocator();
+        numbers_of(alloc, &mut self.items, items)
+    }
+
+    /// Remembers the list of which these are the numbers. Whether it was not remembered before is given, in whatever order.
+    pub fn remember_numbers(&mut self, numbers: Vec<usize>) -> Result<bool, AllocError>
+        requires within { AreWithin (items_of self.old) numbers.items }
+        ensures keeps { IfOk result (λ is_new. Keeps (numbers_kept self.old) numbers.items is_new (numbers_kept self.new)) }
+        ensures refused { OnErr result (numbers_kept self.new ≡ numbers_kept self.old) }
+        ensures items { self.new.items ≡ self.old.items }
+    {
+        self.lists.remember(numbers)
+    }
+
     /// Remembers a list. Whether it was not remembered before is given, in whatever order.
     pub fn remember(&mut self, list: &[T]) -> Result<bool, AllocError>
         ensures remembers { IfOk result (λ is_new. Remembers T.eq self.old list.now is_new self.new) }
@@ -47,32 +77,7 @@ impl<T: Eq + Hash + Copy> ListMemory<T> {
         ensures unique { IsUnique T.eq self.new.items }
         ensures refused { OnErr result (numbers_kept self.new ≡ numbers_kept self.old) }
     {
-        let alloc = *self.items.allocator();
-        let numbers = numbers_of(alloc, &mut self.items, list)?;
-        self.lists.remember(numbers)
-    }
-
-    /// Whether a list is remembered, in whatever order. Its items have numbers from now on.
-    pub fn contains(&mut self, list: &[T]) -> Result<bool, AllocError>
-        ensures known { IfOk result (λ is_known. IsTrue is_known → HasList T.eq self.new list.now) }
-        ensures grown { Grows (items_of self.old) (items_of self.new) }
-        ensures lists { numbers_kept self.new ≡ numbers_kept self.old }
-    {
-        let alloc = *self.items.allocator();
-        let numbers = numbers_of(alloc, &mut self.items, list)?;
-        Ok(self.lists.contains(numbers))
-    }
-
-    /// Gives each of these items a number. How many items have one now is given.
-    pub fn note(&mut self, items: &[T]) -> Result<usize, AllocError>
-        ensures count { IfOk result (λ count. count ≡ length (items_of self.new)) }
-        ensures grown { Grows (items_of self.old) (items_of self.new) }
-        ensures only { AddsOnly (items_of self.old) items.now (items_of self.new) }
-        ensures unique { IsUnique T.eq self.new.items }
-        ensures lists { numbers_kept self.new ≡ numbers_kept self.old }
-    {
-        let alloc = *self.items.allocator();
-        numbers_of(alloc, &mut self.items, items)?;
-        Ok(self.items.len())
+        let numbers = self.numbers(list)?;
+        self.remember_numbers(numbers)
     }
 }

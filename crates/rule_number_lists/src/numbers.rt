@@ -18,8 +18,8 @@ pub fn numbers_of<T: Eq + Hash + Copy>(
     ensures only { AddsOnly table.old.keys items.now table.new.keys }
     ensures unique { IsUnique T.eq table.new }
 {
-    let mut numbers = Vec::new(alloc);
     table.len();
+    let mut numbers = Vec::with_capacity(alloc, items.len())?;
     for item in items {
         let (number, _) = table.insert_full(*item)?;
         numbers.push(number)?;

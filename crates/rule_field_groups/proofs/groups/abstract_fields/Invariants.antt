@@ -1,4 +1,4 @@
-use Rattle.std.proofs.Common.{◌≡◌, not, filter, take}
+use Rattle.std.proofs.Common.{◌≡◌, filter, take}
 use Rattle.graphql_schema.specs.SchemaOf.{schema_tree}
 use Rattle.rule_definitions.specs.Judged.{judged}
 use Rattle.rule_field_groups.specs.KeyGroups.{is_shared}

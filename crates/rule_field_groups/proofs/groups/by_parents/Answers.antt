@@ -1,4 +1,4 @@
-use Rattle.std.proofs.Common.{◌≡◌, ◌∙◌, not, filter, map, length, ap, sym, subst, List}
+use Rattle.std.proofs.Common.{◌∙◌, not, filter, map, length, ap, sym, subst, List}
 use Rattle.std.specs.List.{sum}
 use Rattle.graphql_schema.specs.SchemaOf.{schema_tree}
 use Rattle.rule_definitions.specs.Judged.{judged}

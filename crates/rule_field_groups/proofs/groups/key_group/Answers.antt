@@ -1,5 +1,4 @@
-use Rattle.std.proofs.Common.{◌≡◌, ◌≤◌, [], ◌∷◌, map, length, ap, sym, subst, ◌∙◌}
-use Rattle.std.specs.List.{sum}
+use Rattle.std.proofs.Common.{◌≤◌, [], ◌∷◌, length, ap, sym, subst, ◌∙◌}
 use Rattle.std.proofs.lemmas.Result.{IfOk-weaker}
 use Rattle.graphql_schema.specs.SchemaOf.{schema_tree}
 use Rattle.rule_definitions.specs.Judged.{judged}
@@ -7,7 +6,7 @@ use Rattle.rule_field_groups.specs.declared.groups.KeyGroup.{KeyGroup}
 use Rattle.rule_field_groups.specs.declared.pass.Pass.{Pass}
 use Rattle.rule_field_groups.specs.Compared.{compared}
 use Rattle.rule_field_groups.specs.Grouped.{ArePartsOf}
-use Rattle.rule_field_groups.specs.KeyGroups.{own_lists, with_own, parts_of, lists_in_group, compared_in, IsByParents, ArePartsFor}
+use Rattle.rule_field_groups.specs.KeyGroups.{own_lists, with_own, parts_of, compared_in, IsByParents, ArePartsFor}
 use Rattle.rule_field_groups.proofs.Sharing.{parent_groups, ordered_parts, whole_ordered, shapes_in, selections_in, shapes_once}
 use Rattle.rule_field_groups.proofs.groups.key_group.Goals as goal
 

@@ -5,7 +5,7 @@ use Rattle.rule_number_lists.proofs.numbers.numbers_of.Goals as goal
 
 pub loop-item-init : goal.loop-item-init
 loop-item-init g c = record {
-  numbers = subst (λ ns. AreNumbersIn g.T.PartialEq.eq c.args.table.now.keys [] ns) (sym c.new-numbers.ensures.items) tt;
+  numbers = subst (λ ns. AreNumbersIn g.T.PartialEq.eq c.args.table.now.keys [] ns) (sym c.in_ok-numbers.ensures.items) tt;
   grown = grows_not c.args.table.now.keys;
   only = adds_same c.args.table.now.keys c.args.table.now.keys c.args.items.now refl;
   unique = c.len.ensures.unique;

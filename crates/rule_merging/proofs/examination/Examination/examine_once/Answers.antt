@@ -1,82 +1,62 @@
-use Rattle.std.proofs.Common.{◌∙◌, ◌∷◌, [], ap, sym, subst, append-nil}
+use Rattle.std.proofs.Common.{◌∙◌, ◌∷◌, [], true, false, map, ap, sym, subst, append-nil}
+use Rattle.rule_number_lists.specs.Numbered.{at_places}
+use Rattle.rule_number_lists.specs.ListMemory.{items_of, numbers_kept}
 use Rattle.rule_field_groups.specs.in_ground.Broken.{brokens_of}
-use Rattle.rule_field_groups.specs.Below.{meant_sets}
-use Rattle.rule_merging.specs.Counted.{AreListed}
-use Rattle.rule_merging.specs.Remembered.{Kept, Beside, account_of, kept_of}
-use Rattle.rule_merging.specs.Examined.{sets_in, schema_of, document_of, ExaminesSets}
-use Rattle.rule_merging.proofs.Examining.{known_sets, looked_then}
-use Rattle.rule_merging.proofs.Counting.{Premise, grows_same, grows_on}
+use Rattle.rule_field_groups.specs.Below.{meant_sets, plain_sets}
+use Rattle.rule_merging.specs.Counted.{AreListed, Grows}
+use Rattle.rule_merging.specs.Remembered.{account_of, kept_of}
+use Rattle.rule_merging.specs.Examined.{sets_in, schema_of, document_of}
+use Rattle.rule_merging.specs.declared.remembered.Remembered.{Remembered}
+use Rattle.rule_merging.proofs.Examining.{SetsTold, known_sets, looked_then}
+use Rattle.rule_merging.proofs.Remembering.{Expands, expands}
+use Rattle.rule_merging.proofs.Counting.{Premise, grows_same}
+use Rattle.rule_merging.proofs.examination.Examination.examine_once.Goals.{then-branch+in_ok-examine_paid, else-branch}
 use Rattle.rule_merging.proofs.examination.Examination.examine_once.Goals as goal
-
-pub returns-in_err-is_known-clause-counted : goal.returns-in_err-is_known-clause-counted
-returns-in_err-is_known-clause-counted c =
-    let d = document_of c.args.self.now in
-    grows_same d (λ os. AreListed d os (meant_sets c.args.sets.now ∷ [])) c.args.self.now.pass (account_of c.args.examined.now) (account_of c.has_expanded.new.self) (ap (λ (b : Beside). b.account) c.in_err-is_known.ensures.beside)
-
-pub returns-then-is_known-clause-examined : goal.returns-then-is_known-clause-examined
-returns-then-is_known-clause-examined c =
-    let e = c.args.self.now in
-    let old = kept_of c.args.examined.now in
-    let new = kept_of c.has_expanded.new.self in
-    let sets = meant_sets c.args.sets.now in (
-      [],
-      (
-        [],
-        (
-          sym (append-nil (brokens_of c.args.breaches.now)),
-          (
-            ap (λ (b : Beside). b.next) c.in_ok-is_known.ensures.beside ∙ sym (append-nil (sets_in c.args.examined.now.next)),
-            known_sets e.pass (schema_of e) (document_of e) sets old new (c.in_ok-is_known.ensures.known c.if-is_known.true) c.in_ok-is_known.ensures.same,
-          ),
-        ),
-      ),
-    )
-
-pub returns-then-is_known-clause-counted : goal.returns-then-is_known-clause-counted
-returns-then-is_known-clause-counted c =
-    let d = document_of c.args.self.now in
-    grows_same d (λ os. AreListed d os (meant_sets c.args.sets.now ∷ [])) c.args.self.now.pass (account_of c.args.examined.now) (account_of c.has_expanded.new.self) (ap (λ (b : Beside). b.account) c.in_ok-is_known.ensures.beside)
-
-pub returns-in_err-examine_paid-clause-counted : goal.returns-in_err-examine_paid-clause-counted
-returns-in_err-examine_paid-clause-counted c =
-    let e = c.args.self.now in
-    let d = document_of e in
-    grows_on d (λ os. AreListed d os (meant_sets c.args.sets.now ∷ [])) e.pass (account_of c.args.examined.now) (account_of c.has_expanded.new.self) (account_of c.examine_paid.new.examined)
-    (grows_same d (λ os. AreListed d os (meant_sets c.args.sets.now ∷ [])) e.pass (account_of c.args.examined.now) (account_of c.has_expanded.new.self) (ap (λ (b : Beside). b.account) c.in_ok-is_known.ensures.beside))
-    c.in_err-examine_paid.ensures.counted
-
-pub returns-in_err-expand-clause-counted : goal.returns-in_err-expand-clause-counted
-returns-in_err-expand-clause-counted c =
-    let e = c.args.self.now in
-    let d = document_of e in
-    let Given : Premise d = λ os. AreListed d os (meant_sets c.args.sets.now ∷ []) in
-    grows_on d Given e.pass (account_of c.args.examined.now) (account_of c.examine_paid.new.examined) (account_of c.expand.new.self)
-    (grows_on d Given e.pass (account_of c.args.examined.now) (account_of c.has_expanded.new.self) (account_of c.examine_paid.new.examined)
-    (grows_same d Given e.pass (account_of c.args.examined.now) (account_of c.has_expanded.new.self) (ap (λ (b : Beside). b.account) c.in_ok-is_known.ensures.beside))
-    c.in_ok-examine_paid.ensures.counted)
-    (grows_same d Given e.pass (account_of c.examine_paid.new.examined) (account_of c.expand.new.self) (ap (λ (b : Beside). b.account) c.in_err-expand.ensures.beside))
 
 pub returns-clause-examined : goal.returns-clause-examined
 returns-clause-examined c =
     let e = c.args.self.now in
+    let s = schema_of e in
+    let d = document_of e in
     let sets = meant_sets c.args.sets.now in
-    let old = kept_of c.has_expanded.new.self in
-    let new = kept_of c.examine_paid.new.examined in
+    let base = kept_of c.args.examined.now in
+    let told = brokens_of c.args.breaches.now in
     let next = sets_in c.args.examined.now.next in
-    let last = sets_in c.expand.new.self.next in
-    looked_then e.pass (schema_of e) (document_of e) sets (kept_of c.args.examined.now) new (kept_of c.expand.new.self) c.in_ok-expand.field-0
-    (brokens_of c.args.breaches.now) (brokens_of c.examine_paid.new.breaches) next last c.in_ok-expand.ensures.expands
-    (subst (λ (k : Kept). ExaminesSets e (sets ∷ []) k new c.args.breaches.now c.examine_paid.new.breaches next last) c.in_ok-is_known.ensures.same
-    (subst (λ n. ExaminesSets e (sets ∷ []) old new c.args.breaches.now c.examine_paid.new.breaches n last) (ap (λ (b : Beside). b.next) c.in_ok-is_known.ensures.beside)
-    (subst (λ n. ExaminesSets e (sets ∷ []) old new c.args.breaches.now c.examine_paid.new.breaches (sets_in c.has_expanded.new.self.next) n) (sym (ap (λ (b : Beside). b.next) c.in_ok-expand.ensures.beside)) c.in_ok-examine_paid.ensures.examined)))
+    let taken = c.replace-expanded.result in
+    let now = c.remember.new.self in
+    let at_now = map (at_places (plain_sets (meant_sets (items_of now)))) (numbers_kept now) in
+    let is_new = c.in_ok-remember.field-0 in
+    let r = c.in_ok-remember.ensures.remembers in
+    let here : Expands base (plain_sets sets) is_new (record base { expanded = at_now }) =
+    subst (λ m. Expands (record base { expanded = map (at_places (plain_sets (meant_sets (items_of m)))) (numbers_kept m) }) (plain_sets sets) is_new (record base { expanded = at_now })) c.replace-expanded.ensures.value
+    (expands base (items_of taken) (items_of now) (numbers_kept taken) (numbers_kept now) c.args.sets.now r.0 is_new c.in_ok-remember.ensures.grown taken.within r.1.0 r.1.1) in
+    elim c.if-branch.branch [
+      | then-branch+in_ok-examine_paid w ↦
+          let mid = kept_of w.examine_paid.new.examined in
+          let later = brokens_of w.examine_paid.new.breaches in
+          let last = sets_in w.examine_paid.new.examined.next in
+          let fresh : Expands base (plain_sets sets) true (record base { expanded = at_now }) = subst (λ b. Expands base (plain_sets sets) b (record base { expanded = at_now })) w.if-branch.true here in
+          let none = ap (λ m. map (at_places (plain_sets (meant_sets (items_of m)))) (numbers_kept m)) c.replace-expanded.ensures.after
+          ∙ ap (map (at_places (plain_sets (meant_sets (items_of c.new-none.result))))) c.new-none.ensures.lists in
+          let apart : SetsTold e.pass s d told later (record base { expanded = [] }) mid next last (sets ∷ []) =
+          subst (λ ls. SetsTold e.pass s d told later (record base { expanded = ls }) mid next last (sets ∷ [])) none w.in_ok-examine_paid.ensures.examined in
+          subst (λ b. SetsTold e.pass s d told (brokens_of b) base (record (kept_of c.if-branch.examined) { expanded = at_now }) next (sets_in c.if-branch.examined.next) (sets ∷ [])) (sym w.breaches-is)
+          (subst (λ (x : Remembered). SetsTold e.pass s d told later base (record (kept_of x) { expanded = at_now }) next (sets_in x.next) (sets ∷ [])) (sym w.examined-is)
+          (looked_then e.pass s d sets base mid at_now told later next last fresh apart))
+      | else-branch w ↦
+          let known : Expands base (plain_sets sets) false (record base { expanded = at_now }) = subst (λ b. Expands base (plain_sets sets) b (record base { expanded = at_now })) w.if-branch.false here in
+          subst (λ b. SetsTold e.pass s d told (brokens_of b) base (record (kept_of c.if-branch.examined) { expanded = at_now }) next (sets_in c.if-branch.examined.next) (sets ∷ [])) (sym w.breaches-is)
+          (subst (λ (x : Remembered). SetsTold e.pass s d told told base (record (kept_of x) { expanded = at_now }) next (sets_in x.next) (sets ∷ [])) (sym w.examined-is)
+          ([], ([], (sym (append-nil told), (sym (append-nil next), known_sets e.pass s d sets base (record base { expanded = at_now }) known.0 known.1)))))
+    ]
 
 pub returns-clause-counted : goal.returns-clause-counted
 returns-clause-counted c =
     let e = c.args.self.now in
     let d = document_of e in
     let Given : Premise d = λ os. AreListed d os (meant_sets c.args.sets.now ∷ []) in
-    grows_on d Given e.pass (account_of c.args.examined.now) (account_of c.examine_paid.new.examined) (account_of c.expand.new.self)
-    (grows_on d Given e.pass (account_of c.args.examined.now) (account_of c.has_expanded.new.self) (account_of c.examine_paid.new.examined)
-    (grows_same d Given e.pass (account_of c.args.examined.now) (account_of c.has_expanded.new.self) (ap (λ (b : Beside). b.account) c.in_ok-is_known.ensures.beside))
-    c.in_ok-examine_paid.ensures.counted)
-    (grows_same d Given e.pass (account_of c.examine_paid.new.examined) (account_of c.expand.new.self) (ap (λ (b : Beside). b.account) c.in_ok-expand.ensures.beside))
+    let old = account_of c.args.examined.now in
+    elim c.if-branch.branch [
+      | then-branch+in_ok-examine_paid w ↦ subst (λ (x : Remembered). Grows d Given e.pass old (account_of x)) (sym w.examined-is) w.in_ok-examine_paid.ensures.counted
+      | else-branch w ↦ grows_same d Given e.pass old (account_of c.if-branch.examined) (ap account_of w.examined-is)
+    ]

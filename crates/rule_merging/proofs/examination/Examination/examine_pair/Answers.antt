@@ -1,9 +1,7 @@
 use Rattle.std.proofs.Common.{◌∙◌, ap, subst}
 use Rattle.std.proofs.lemmas.Result.{on_ok_weaker}
 use Rattle.rule_field_groups.specs.in_ground.Fields.{fields_of}
-use Rattle.rule_field_groups.specs.Below.{meant_at}
-use Rattle.rule_field_groups.specs.Own.{spread_sets}
-use Rattle.rule_field_groups.specs.Laws.{meant_spread}
+use Rattle.rule_field_groups.specs.Own.{opened, sources, source_meant, meant_sources}
 use Rattle.rule_merging.specs.Remembered.{Beside, account_of, kept_of}
 use Rattle.rule_merging.specs.Examined.{with_each, schema_of, document_of}
 use Rattle.rule_merging.specs.Pairs.{Looks, each_with}
@@ -22,7 +20,7 @@ pub returns-in_err-examine_each-clause-counted : goal.returns-in_err-examine_eac
 returns-in_err-examine_each-clause-counted c =
     let e = c.args.self.now in
     let d = document_of e in
-    grows_given d _ _ (λ os. pair_listed e.pass (schema_of e) d (meant_at c.args.pair.one) (meant_at c.args.pair.other) c.deref.result.now c.deref-2.result.now
+    grows_given d _ _ (λ os. pair_listed e.pass (schema_of e) d (source_meant c.args.pair.one) (source_meant c.args.pair.other) c.deref.result.now c.deref-2.result.now
     (ap fields_of c.deref.ensures.value ∙ c.in_ok-ones.ensures) (ap fields_of c.deref-2.ensures.value ∙ c.in_ok-others.ensures) os)
     e.pass (account_of c.args.examined.now) (account_of c.examine_each.new.examined) c.in_err-examine_each.ensures.counted
 
@@ -30,7 +28,7 @@ pub returns-in_err-spreads-clause-counted : goal.returns-in_err-spreads-clause-c
 returns-in_err-spreads-clause-counted c =
     let e = c.args.self.now in
     let d = document_of e in
-    grows_given d _ _ (λ os. pair_listed e.pass (schema_of e) d (meant_at c.args.pair.one) (meant_at c.args.pair.other) c.deref.result.now c.deref-2.result.now
+    grows_given d _ _ (λ os. pair_listed e.pass (schema_of e) d (source_meant c.args.pair.one) (source_meant c.args.pair.other) c.deref.result.now c.deref-2.result.now
     (ap fields_of c.deref.ensures.value ∙ c.in_ok-ones.ensures) (ap fields_of c.deref-2.ensures.value ∙ c.in_ok-others.ensures) os)
     e.pass (account_of c.args.examined.now) (account_of c.examine_each.new.examined) c.in_ok-examine_each.ensures.counted
 
@@ -39,7 +37,7 @@ returns-in_err-look_at_each-clause-counted c =
     let e = c.args.self.now in
     let d = document_of e in
     grows_on d _ e.pass (account_of c.args.examined.now) (account_of c.examine_each.new.examined) (account_of c.look_at_each.new.self)
-    (grows_given d _ _ (λ os. pair_listed e.pass (schema_of e) d (meant_at c.args.pair.one) (meant_at c.args.pair.other) c.deref.result.now c.deref-2.result.now
+    (grows_given d _ _ (λ os. pair_listed e.pass (schema_of e) d (source_meant c.args.pair.one) (source_meant c.args.pair.other) c.deref.result.now c.deref-2.result.now
     (ap fields_of c.deref.ensures.value ∙ c.in_ok-ones.ensures) (ap fields_of c.deref-2.ensures.value ∙ c.in_ok-others.ensures) os)
     e.pass (account_of c.args.examined.now) (account_of c.examine_each.new.examined) c.in_ok-examine_each.ensures.counted)
     (grows_same d _ e.pass (account_of c.examine_each.new.examined) (account_of c.look_at_each.new.self) (ap (λ (b : Beside). b.account) c.in_err-look_at_each.ensures.beside))
@@ -49,7 +47,7 @@ returns-in_err-spreads-2-clause-counted c =
     let e = c.args.self.now in
     let d = document_of e in
     grows_on d _ e.pass (account_of c.args.examined.now) (account_of c.examine_each.new.examined) (account_of c.look_at_each.new.self)
-    (grows_given d _ _ (λ os. pair_listed e.pass (schema_of e) d (meant_at c.args.pair.one) (meant_at c.args.pair.other) c.deref.result.now c.deref-2.result.now
+    (grows_given d _ _ (λ os. pair_listed e.pass (schema_of e) d (source_meant c.args.pair.one) (source_meant c.args.pair.other) c.deref.result.now c.deref-2.result.now
     (ap fields_of c.deref.ensures.value ∙ c.in_ok-ones.ensures) (ap fields_of c.deref-2.ensures.value ∙ c.in_ok-others.ensures) os)
     e.pass (account_of c.args.examined.now) (account_of c.examine_each.new.examined) c.in_ok-examine_each.ensures.counted)
     (grows_same d _ e.pass (account_of c.examine_each.new.examined) (account_of c.look_at_each.new.self) (ap (λ (b : Beside). b.account) c.in_ok-look_at_each.ensures.beside))
@@ -59,8 +57,8 @@ returns-clause-examined c =
     let e = c.args.self.now in
     let s = schema_of e in
     let d = document_of e in
-    let a = meant_at c.args.pair.one in
-    let b = meant_at c.args.pair.other in
+    let a = source_meant c.args.pair.one in
+    let b = source_meant c.args.pair.other in
     let ones = c.deref.result.now in
     let others = c.deref-2.result.now in
     let old = kept_of c.args.examined.now in
@@ -68,11 +66,11 @@ returns-clause-examined c =
     let half = kept_of c.look_at_each.new.self in
     let new = kept_of c.look_before_each.new.self in
     let paired = c.in_ok-examine_each.ensures.examined in
-    let vs = spread_sets d.fragments a in
-    let ws = spread_sets d.fragments b in
-    let one : Looks (each_with vs b) mid half = subst (λ l. Looks (each_with l b) mid half) (ap meant_spread c.deref-3.ensures.value ∙ c.in_ok-spreads.ensures) c.in_ok-look_at_each.ensures.looks in
+    let vs = sources (opened d.fragments a) in
+    let ws = sources (opened d.fragments b) in
+    let one : Looks (each_with vs b) mid half = subst (λ l. Looks (each_with l b) mid half) (ap meant_sources c.deref-3.ensures.value ∙ c.in_ok-spreads.ensures) c.in_ok-look_at_each.ensures.looks in
     on_ok_weaker c.look_before_each.result
-    (λ h. let other : Looks (with_each a ws) half new = subst (λ l. Looks (with_each a l) half new) (ap meant_spread c.deref-4.ensures.value ∙ c.in_ok-spreads-2.ensures) h in (
+    (λ h. let other : Looks (with_each a ws) half new = subst (λ l. Looks (with_each a l) half new) (ap meant_sources c.deref-4.ensures.value ∙ c.in_ok-spreads-2.ensures) h in (
       paired.0,
       (
         paired.1.0,
@@ -93,7 +91,7 @@ returns-clause-counted c =
     let e = c.args.self.now in
     let d = document_of e in
     grows_on d _ e.pass (account_of c.args.examined.now) (account_of c.examine_each.new.examined) (account_of c.look_before_each.new.self)
-    (grows_given d _ _ (λ os. pair_listed e.pass (schema_of e) d (meant_at c.args.pair.one) (meant_at c.args.pair.other) c.deref.result.now c.deref-2.result.now
+    (grows_given d _ _ (λ os. pair_listed e.pass (schema_of e) d (source_meant c.args.pair.one) (source_meant c.args.pair.other) c.deref.result.now c.deref-2.result.now
     (ap fields_of c.deref.ensures.value ∙ c.in_ok-ones.ensures) (ap fields_of c.deref-2.ensures.value ∙ c.in_ok-others.ensures) os)
     e.pass (account_of c.args.examined.now) (account_of c.examine_each.new.examined) c.in_ok-examine_each.ensures.counted)
     (grows_same d _ e.pass (account_of c.examine_each.new.examined) (account_of c.look_before_each.new.self) (ap (λ (b : Beside). b.account) (c.look_before_each.ensures.beside ∙ c.in_ok-look_at_each.ensures.beside)))

@@ -5,9 +5,11 @@ use Rattle.document_meaning.specs.MeantTree.{MeantOperation, MeantDocument}
 use Rattle.rule_definitions.proofs.Lists.{only}
 use Rattle.rule_field_groups.specs.in_ground.Broken.{brokens_of}
 use Rattle.rule_field_groups.specs.Under.{sets_in}
+use Rattle.rule_document_definitions.specs.PlainFields.{IsSelected}
 use Rattle.rule_merging.specs.Counted.{AreListed}
 use Rattle.rule_merging.specs.Remembered.{account_of, kept_of, two_of}
-use Rattle.rule_merging.specs.Examined.{Sets, SelectsAsMuch, schema_of, document_of}
+use Rattle.rule_merging.specs.Examined.{Sources, SelectsAsMuch, opened_here, all_opened, schema_of, document_of}
+use Rattle.rule_document_definitions.proofs.Unplaced.{contains_map}
 use Rattle.rule_merging.proofs.Pairing.{brokens_long}
 use Rattle.rule_merging.proofs.PairStep.{no_pairs, pairs_step}
 use Rattle.rule_merging.proofs.Counting.{grows_not, grows_with, listed_wider}
@@ -18,15 +20,18 @@ use Rattle.rule_merging.proofs.examination.Examination.examine_pairs.Goals as go
 two_at : (here : List Pair) (n : ℕ) (pair : Pair) → n < length here → pair ≡ get_or here n pair → (n < length (map two_of here)) × (two_of pair ≡ get_or (map two_of here) n (two_of pair))
 two_at here n pair within is = (omega (arith, within, length-map here two_of), ap two_of is ∙ sym (get_or-map two_of here n pair (two_of pair) within))
 
-index_of : (xs : List Sets) (n : ℕ) (x : Sets) → n < length xs → x ≡ get_or xs n x → Contains xs x
+index_of : (xs : List Sources) (n : ℕ) (x : Sources) → n < length xs → x ≡ get_or xs n x → Contains xs x
 index_of xs n x within is = (n, within, sym is)
 
 -- it is given of the pair, since it is of those that were left
-pair_given : (d : MeantDocument Place) (os : List (MeantOperation Place)) (was here : List Sets) (two : Sets) → ((part : Sets) → Contains here part → (sets : Sets) × (Contains was sets × SelectsAsMuch d sets part)) → Contains here two
-    → AreListed d os was → AreListed d os (two ∷ [])
-pair_given d os was here two within there given = listed_wider d os was (two ∷ []) given (λ part k. within part (subst (Contains here) (sym (only two part k)) there))
+pair_given : (d : MeantDocument Place) (os : List (MeantOperation Place)) (was here : List Sources) (two : Sources)
+    → ((part : Sources) → Contains here part → (sets : Sources) × (Contains was sets × SelectsAsMuch d (opened_here d sets) (opened_here d part))) → Contains here two
+    → AreListed d os (all_opened d was) → AreListed d os (opened_here d two ∷ [])
+pair_given d os was here two within there given = listed_wider d os (all_opened d was) (opened_here d two ∷ []) given (λ part k.
+    let w = within two there in
+    (opened_here d w.0, (contains_map (opened_here d) was w.0 w.1.0, λ x h. w.1.1 x (subst (λ l. IsSelected d l x) (only (opened_here d two) part k) h))))
 
-longer : (old new more : List Sets) → new ≡ old ++ more → (here here' : List Pair) → old ≡ map two_of here → new ≡ map two_of here' → (n : ℕ) → n < length here → n + 1 ≤ length here'
+longer : (old new more : List Sources) → new ≡ old ++ more → (here here' : List Pair) → old ≡ map two_of here → new ≡ map two_of here' → (n : ℕ) → n < length here → n + 1 ≤ length here'
 longer old new more is here here' e f n within = omega (arith, within, length-map here two_of, length-map here' two_of, ap length is, length-append old more, ap length e, ap length f)
 
 pub loop-done-init : goal.loop-done-init

@@ -1,4 +1,4 @@
-use Rattle.std.proofs.Common.{◌∷◌, [], List, Contains, ap, subst}
+use Rattle.std.proofs.Common.{◌∷◌, [], List, Contains, sym, ap, subst}
 use Rattle.std.proofs.lemmas.Result.{on_ok_weaker}
 use Rattle.graphql_names.specs.Placed.{Place}
 use Rattle.document_meaning.specs.MeantTree.{MeantOperation, MeantDocument}
@@ -7,16 +7,18 @@ use Rattle.rule_field_groups.specs.Under.{sets_in}
 use Rattle.rule_field_groups.specs.Below.{meant_sets}
 use Rattle.rule_merging.specs.Counted.{AreListed}
 use Rattle.rule_merging.specs.Remembered.{Kept, Beside, account_of, kept_of}
-use Rattle.rule_merging.specs.Examined.{Sets, schema_of, document_of, ExaminesPairs}
+use Rattle.rule_merging.specs.Examined.{Sets, Sources, of_sets, opened_here, all_opened, schema_of, document_of, ExaminesPairs}
 use Rattle.rule_merging.specs.Pairs.{LooksAtTwos}
-use Rattle.rule_merging.proofs.PairStep.{twos_told}
+use Rattle.rule_document_definitions.proofs.Unplaced.{contains_unmap}
+use Rattle.rule_merging.proofs.PairStep.{twos_told, of_sources}
 use Rattle.rule_merging.proofs.Counting.{grows_same, grows_with, part_listed}
 use Rattle.rule_merging.proofs.examination.Examination.examine_twos.Goals as goal
 
 -- pairs of the sets select what the sets do
-pairs_listed : (d : MeantDocument Place) (os : List (MeantOperation Place)) (sets : Sets) (old mid : Kept) → LooksAtTwos sets old mid → AreListed d os (sets ∷ []) → AreListed d os mid.pairs
-pairs_listed d os sets old mid (twos, (are, looks)) listed =
-    part_listed d os sets mid.pairs listed (λ two c. are.within two (looks.within two (subst (λ (l : List Sets). Contains l two) looks.is_pairs c)))
+pairs_listed : (d : MeantDocument Place) (os : List (MeantOperation Place)) (sets : Sets) (old mid : Kept) → LooksAtTwos (of_sets sets) old mid → AreListed d os (sets ∷ []) → AreListed d os (all_opened d mid.pairs)
+pairs_listed d os sets old mid (twos, (are, looks)) listed = part_listed d os sets (all_opened d mid.pairs) listed (λ part c v k.
+    let two = contains_unmap (opened_here d) mid.pairs part c in
+    of_sources d sets twos are two.0 (looks.within two.0 (subst (λ (l : List Sources). Contains l two.0) looks.is_pairs two.1.0)) v (subst (λ (l : Sets). Contains l v) (sym two.1.1) k))
 
 pub returns-in_err-look_at_twos-clause-counted : goal.returns-in_err-look_at_twos-clause-counted
 returns-in_err-look_at_twos-clause-counted c =
@@ -38,7 +40,7 @@ returns-clause-counted c =
     let d = document_of e in
     let sets = meant_sets c.args.sets.now in
     let mid = kept_of c.look_at_twos.new.self in
-    grows_with d (λ os. AreListed d os (sets ∷ [])) (λ os. AreListed d os mid.pairs) e.pass
+    grows_with d (λ os. AreListed d os (sets ∷ [])) (λ os. AreListed d os (all_opened d mid.pairs)) e.pass
     (account_of c.args.examined.now) (account_of c.look_at_twos.new.self) (account_of c.examine_pairs.new.examined)
     (grows_same d (λ os. AreListed d os (sets ∷ [])) e.pass (account_of c.args.examined.now) (account_of c.look_at_twos.new.self) (ap (λ (b : Beside). b.account) c.in_ok-look_at_twos.ensures.beside))
     (λ os. pairs_listed d os sets (kept_of c.args.examined.now) mid c.in_ok-look_at_twos.ensures.looks) c.examine_pairs.ensures.counted
