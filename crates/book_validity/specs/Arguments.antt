@@ -24,7 +24,8 @@ pub record AreArgumentsValid (s : Judged) (variables : OperationVariables) (defi
   pub values : Each given (λ a. IfPresent (named input_name definitions (argument_name a)) (λ v. Accepts s variables v.it.ty.it a.it.value.it))
   -- 5.6.3 Input Object Field Uniqueness
   pub keys : Each given (λ a. HasUniqueKeys a.it.value.it)
-  -- 5.8.5 All Variable Usages Are Allowed. Laxer than the text: a variable is judged that is the whole value; one inside a list or an
-  -- object is compared by the name inside its type alone (`Takes`); and a default that is null counts as one (`IsVariableUsageAllowed`)
+  -- Laxer: a variable is judged that is the whole value; one inside a list or an object is compared by the name inside its type (`Takes`)
+  -- Laxer: a default that is null counts as one (`IsVariableUsageAllowed`)
+  -- 5.8.5 All Variable Usages Are Allowed
   pub usages : Each given (λ a. IfPresent (named input_name definitions (argument_name a)) (λ v.
       IfPresent (variable_name a.it.value.it) (λ n. IfPresent (named defined_name variables n.it) (λ x. IsVariableUsageAllowed x.it v.it))))

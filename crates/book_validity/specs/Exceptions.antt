@@ -1,4 +1,4 @@
--- Two algorithms of the specification beside what the checker does, and exactly where they differ.
+-- Two algorithms of the specification beside what the checker does, and where they differ.
 use Rattle.std.specs.Prelude.{◌≡◌, ◌↔◌, ℕ, true, false, List, is_some, ◌⊎◌}
 use Rattle.tree_literals.specs.TypeTree.{unplaced_type}
 use Rattle.tree_literals.specs.TypeQueries.{has_mark, nullable_type, AreTypesCompatible}
@@ -49,8 +49,9 @@ UsagesAllowed = (x : VariableDefinitionTree (Unit {0})) (v : InputValueTree (Uni
 -- ---- GetPossibleTypes (section 5.5.2.3)
 
 module _ (s : Judged) where
+  -- Stricter: the object types alone of those that the text gives
   -- "If type is an object type, return a set containing type. If type is an interface type, return the set of types implementing type.
-  -- If type is a union type, return the set of possible types of type.": of these the object types
+  -- If type is a union type, return the set of possible types of type."
   abbrev pub IsPossibleType : List ℕ → List ℕ → Type 0
   IsPossibleType type object = Present (s.type_named type) (λ t.
       ((t.kind ≡ kind.Object) × (object ≡ type))
@@ -61,7 +62,7 @@ module _ (s : Judged) where
   abbrev pub OnlyUnionsHaveMembers : Type 0
   OnlyUnionsHaveMembers = (n m : List ℕ) → Present (s.type_named n) (λ t. t.has_member m ≡ true) → Present (s.type_named n) (λ t. t.kind ≡ kind.Union)
 
--- a fragment can apply nowhere exactly where "applicableTypes" is empty and it is not on the very type where it stands
+-- a fragment can apply nowhere exactly where "applicableTypes" has no object type and it is not on the very type where it stands
 abbrev pub SpreadsPossible : Type 0
 SpreadsPossible = (s : Judged) → IsValidSchema s → OnlyUnionsHaveMembers s → (parent condition : List ℕ)
     → AppliesNowhere s parent condition ↔ (Never (condition ≡ parent) × ((object : List ℕ) → IsPossibleType s parent object → Never (IsPossibleType s condition object)))

@@ -27,12 +27,14 @@ module _ (built_in : Definitions) (first : ℕ) (texts : Definitions) where
   pub record IsFoldable (before : Definitions) (d : DefinitionTree Place) : Type 0 where
     -- 3: no operation and no fragment
     pub of_schema : is_executable d ≡ false
-    -- 3.3: one schema definition at most; 3.4, 3.5, 3.13: types and directives have names of their own, types not those of built-in ones
+    -- 3.3: one schema definition at most; types and directives have names of their own, types not those of built-in ones
     pub one_schema : IsThere (schema_here d) → schema_definition_in before ≡ None
+    -- Laxer: a user's definition takes the place of a built-in directive's, whatever it says
     pub own_directive : IfPresent (directive_here d) (λ own. has_name directive_name (directive_name own) (directives_in before) ≡ false)
     pub own_type : IfPresent (type_here d) (λ t. has_name type_name (type_name t) (types_in (built_in ++ before)) ≡ false)
     -- 3.3.2, 3.4.3: what is extended is defined, and of that kind
     pub extends_schema : IsThere (schema_extension_here d) → schema_is_defined all ≡ true
+    -- Laxer: built-in types may be extended too
     pub extends_type : IfPresent (type_extension_here d) (λ e. Present (type_named e.name.it all) (λ t. same_kind t.parts.kind e.kind ≡ true))
 
   abbrev pub AreOf : {A : Type 0} → TypeDefinition Place → (TypeParts Place → List A) → (Given Place A → List ℕ) → Type 0

@@ -14,8 +14,9 @@ module _ (s : Judged) where
   abbrev pub IsOnComposite : List ℕ → Type 0
   IsOnComposite n = IfPresent (s.type_named n) IsCompositeType
 
-  -- 5.5.2.3: what has the type `parent` is never of the fragment's type: no object type is possible for both ("applicableTypes is
-  -- empty"). Laxer than the text: a fragment on the very type where it stands may stand there, even if no object type is possible
+  -- Laxer: a fragment on the very type where it stands may stand there, even if no object type is possible
+  -- 5.5.2.3: what has the type `parent` is never of the fragment's type: no object type is possible for both, where "applicableTypes
+  -- must not be empty"
   pub record AppliesNowhere (parent condition : List ℕ) : Type 0 where
     pub other : Never (condition ≡ parent)
     pub none : (object : List ℕ) → CanBe s parent object → Never (CanBe s condition object)
@@ -43,6 +44,7 @@ pub record IsValidSpread (s : Judged) (d : Document) (x : Selection) : Type 0 wh
   pub possible : IfPresent (spread_name x.it) (λ n. IfPresent (fragment_named d n) (λ f. Never (AppliesNowhere s x.parent f.type_condition.it)))
   pub inline_possible : IfPresent (inline_condition x.it) (λ c. Never (AppliesNowhere s x.parent c))
 
--- 5.5.1.4 Fragments Must Be Used. Stricter than the text: by an operation, where the text asks for a spread anywhere in the document
+-- Stricter: by an operation, where the text asks for a spread anywhere in the document
+-- 5.5.1.4 Fragments Must Be Used
 abbrev pub AreFragmentsUsed : Document → Type 0
 AreFragmentsUsed d = Each (fragments d) (λ f. AtOperation d (λ o. ReachesFragment d o f))

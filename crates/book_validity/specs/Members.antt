@@ -26,7 +26,8 @@ module _ (s : Judged) where
   abbrev pub AreApplied : DirectiveLocation → List (DirectiveTree (Unit {0})) → Type 0
   AreApplied place ds = AreDirectivesValid s [] place (map (λ d. record { it = d; place = tt }) ds)
 
-  -- 3.6.1, 3.10: an argument definition or input field. Laxer than the text: nothing is asked of its default value
+  -- Laxer than later editions: nothing is asked of its default value, as in section 3 of October 2021
+  -- 3.6.1, 3.10: an argument definition or input field
   pub record IsValidInputValue (at : Address) (name : List ℕ) (place : DirectiveLocation) (v : InputValueTree (Unit {0})) : Type 0 where
     pub allowed : IsNameAllowed at name
     -- "must accept a type where IsInputType(argumentType) returns true"
@@ -35,6 +36,7 @@ module _ (s : Judged) where
 
   -- 3.6.1, 3.13: the arguments of a field or directive
   pub record AreArgumentDefinitionsValid (holder : Address) (vs : InputValues (Unit {0})) : Type 0 where
+    -- Stricter: October 2021 asks names that differ of fields and input fields, not of arguments
     pub unique : AreUnique input_name vs
     pub each : (i : ℕ) (v : _) → slice_get vs i ≡ Some v → IsValidInputValue (ArgumentAt holder i) (input_name v) location.ArgumentDefinition v.it
 

@@ -50,7 +50,8 @@ pub record IsValidDirectiveDefinition (s : Judged) (n : List ℕ) (d : Directive
   -- "must not contain the use of a directive which references itself directly", nor "indirectly by referencing a Type or Directive
   -- which transitively includes a reference to this directive"
   pub acyclic : Never (Closed (References s (ADirective n)) (References s) (ADirective n))
-  -- 5.7 Directives. Laxer than the text: October 2021 has no directives on a directive's definition
+  -- Laxer: October 2021 has no directives on a directive's definition
+  -- 5.7 Directives
   pub directives : s.built_in (DirectiveDefinitionAt n) ≡ false → AreApplied s location.DirectiveDefinition (applied_directives d.directives)
 
 pub record IsValidSchema (s : Judged) : Type 0 where

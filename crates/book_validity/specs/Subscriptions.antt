@@ -7,10 +7,11 @@ use Rattle.rule_document_definitions.specs.RootFields.{meta_field_names, IsRootF
 use Rattle.book_validity.specs.Words.{Document, Operation, Field, Selection, Never, Each}
 
 pub record IsValidSubscription (d : Document) (o : Operation) : Type 0 where
-  -- 5.2.3.1 Single Root Field: all its root fields, each once, are no more than one. Stricter than the text: fields are counted, not
-  -- response keys, and each fragment at the root counts, whether or not it can apply there
+  -- Stricter: fields are counted, not response keys, and each fragment at the root counts, whether or not it can apply there
+  -- Laxer: so a field that can apply nowhere there serves as the "exactly one entry"
+  -- 5.2.3.1 Single Root Field: all its root fields, each once, are no more than one
   pub single : (fs : List Field) → AreRootFields d o fs → length fs ≤ 1
   -- "which must not be an introspection field"
   pub no_introspection : (f : Field) → IsRootField d o f → Never (Contains meta_field_names (field_name f))
-  -- stricter than the text: no selection at the root has @skip or @include
+  -- Stricter: no selection at the root has @skip or @include
   pub unconditional : (x : Selection) → AtRoot d o x → Each (selection_directives x.it) (λ e. Never (Contains (codes "skip" ∷ codes "include" ∷ []) (directive_name e)))

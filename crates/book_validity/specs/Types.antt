@@ -51,5 +51,6 @@ pub record IsValidType (s : Judged) (n : List ℕ) (t : TypeLooks) : Type 0 wher
   -- or a List type"
   pub inputs : (m : List ℕ) (v : InputValueTree (Unit {0})) → t.input m ≡ Some v → IsValidInputValue s (InputAt n m) m location.InputFieldDefinition v
   pub acyclic : Never (Closed (Requires s n) (Requires s) n)
-  -- 5.7 Directives. Laxer than the text: those of a built-in scalar are not judged
+  -- Laxer: those of a built-in scalar are not judged, nor what they are given (5.4, 5.6)
+  -- 5.7 Directives
   pub directives : Never (IsBuiltInScalar s n t) → AreApplied s (type_location t.kind) t.directives

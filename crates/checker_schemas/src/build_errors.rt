@@ -2,11 +2,11 @@
 
 ghost use Rattle.std.specs.Prelude.{◌≡◌, map, IfOk};
 ghost use Rattle.schema_fold.specs.FaultView.{faults_of};
-ghost use Rattle.graphql_faults.specs.DetailsTree.{of_folding};
-ghost use Rattle.graphql_faults.specs.DetailsView.{diagnostics_of};
+ghost use Rattle.graphql_rules.specs.in_faults.DetailsTree.{of_folding};
+ghost use Rattle.graphql_rules.specs.in_faults.DetailsView.{diagnostics_of};
 
-use graphql_faults::DiagnosticList;
 use graphql_names::SourceSpan;
+use graphql_rules::DiagnosticList;
 use schema_fold::BuildError;
 use std::alloc::{AllocError, Global};
 

@@ -1,11 +1,11 @@
 -- A text is added to texts that have been read.
 use Rattle.std.proofs.Common.{inl, inr, ◌≡◌, ◌≢◌, ℕ, ◌+◌, ◌<◌, ◌≤◌, ◌^◌, List, [], ◌∷◌, ◌++◌, length, length-append, refl, sym, ap, ◌∙◌, subst, arith}
 use Rattle.std.proofs.Math.Nat.{lt_irrefl}
-use Rattle.graphql_read.specs.Reads.{NestingBound}
+use Rattle.verdict_definitions.specs.in_read.Reads.{NestingBound}
 use Rattle.verdict_definitions.specs.Texts.{SourceText, Tree, Terms, ReadsText, ReadsAll, document_number, PassesNumbers, IsRead}
 use Rattle.verdict_definitions.specs.Says.{AnyFault, IsFaultOfText, UnreadFault, spent}
 use Rattle.verdict_definitions.specs.Answer.{UnreadFaults}
-use Rattle.graphql_read.specs.ReadFaults.{unnamed_source}
+use Rattle.verdict_definitions.specs.in_read.ReadFaults.{unnamed_source}
 use Rattle.checker_texts.specs.TextSources.{Sources, text_sources}
 use Rattle.checker_texts.specs.Added.{IsNextNumber, AreAdded}
 

@@ -2,17 +2,17 @@
 use Rattle.std.proofs.Common.{inl, inr, ◌≡◌, ◌≢◌, ℕ, ◌+◌, List, [], ◌∷◌, Contains, refl, ap, ◌∙◌, subst, Some}
 use Rattle.graphql_names.specs.declared.span.SourceSpan.{SourceSpan}
 use Rattle.schema_components.proofs.Places.{not_in_nil, Contains-cons, Contains-first}
-use Rattle.graphql_read.specs.in_tokens.Input.{Token}
-use Rattle.graphql_read.proofs.in_tokens.Lexed.{lex_unique}
-use Rattle.graphql_read.specs.in_grammar.Faults as read
-use Rattle.graphql_read.proofs.in_grammar.Laws.{one_document}
-use Rattle.graphql_read.specs.in_read_values.Meanings.{in_file}
-use Rattle.graphql_read.specs.Reads.{IsDue, NestingBound}
-use Rattle.graphql_read.specs.ReadFaults.{fault_at}
-use Rattle.graphql_read.specs.declared.fault.SyntaxFaultKind.{SyntaxFaultKind}
-use Rattle.graphql_read.specs.declared.fault.SyntaxFaultKind.TheVariants.{NoToken, Unexpected, End}
-use Rattle.graphql_read.proofs.Bounds.{memory_alone}
-use Rattle.graphql_faults.specs.DetailsTree.{Syntax}
+use Rattle.verdict_definitions.specs.in_tokens.Input.{Token}
+use Rattle.verdict_definitions.proofs.in_tokens.Lexed.{lex_unique}
+use Rattle.verdict_definitions.specs.in_grammar.Faults as read
+use Rattle.verdict_definitions.proofs.in_grammar.Laws.{one_document}
+use Rattle.verdict_definitions.specs.in_read_operations.Meanings.{in_file}
+use Rattle.verdict_definitions.specs.in_read.Reads.{IsDue, NestingBound}
+use Rattle.verdict_definitions.specs.in_read.ReadFaults.{fault_at}
+use Rattle.verdict_definitions.specs.in_read.declared.fault.SyntaxFaultKind.{SyntaxFaultKind}
+use Rattle.verdict_definitions.specs.in_read.declared.fault.SyntaxFaultKind.TheVariants.{NoToken, Unexpected, End}
+use Rattle.verdict_definitions.proofs.in_read.Bounds.{memory_alone}
+use Rattle.verdict_definitions.specs.in_faults.DetailsTree.{Syntax}
 use Rattle.verdict_definitions.specs.Texts.{SourceText, Tree, DerivesIn, ReadsText, ReadsAll, IsWithin, AreWithin, IsRead, AreRead}
 use Rattle.verdict_definitions.specs.Says.{AnyFault, TellsReadFault, IsFaultOfText, UnreadFault, UnreadFaultFrom}
 use Rattle.verdict_definitions.specs.Answer.{UnreadFaults, AllSay}

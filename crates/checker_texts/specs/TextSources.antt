@@ -1,7 +1,7 @@
 -- The sources of texts: each under its number, in order, and without a path.
 use Rattle.std.specs.Prelude.{ℕ, ◌+◌, List, [], ◌∷◌, flat_map}
 use Rattle.tree_definitions.specs.Sources.{Source}
-use Rattle.graphql_read.specs.ReadFaults.{unnamed_source}
+use Rattle.verdict_definitions.specs.in_read.ReadFaults.{unnamed_source}
 use Rattle.verdict_definitions.specs.Texts.{SourceText}
 
 -- sources, each under its number

@@ -3,18 +3,17 @@
 ghost use Rattle.std.specs.Prelude.{◌≡◌, ◌<◌, ◌∷◌, [], ℕ, length, IfOk, IfErr, OnOk};
 ghost use Rattle.tree_definitions.specs.DefinitionTree.{document_tree};
 ghost use Rattle.tree_definitions.specs.Sources.{sources_of};
-ghost use Rattle.graphql_read.specs.in_grammar.Faults as faults;
-ghost use Rattle.graphql_read.specs.Reads.{NestingBound};
-ghost use Rattle.graphql_read.specs.ReadFaults.{fault_at, fault_view, unnamed_source};
-ghost use Rattle.graphql_read.specs.declared.fault.ReadFault.TheVariants.{Nesting};
+ghost use Rattle.verdict_definitions.specs.in_grammar.Faults as faults;
+ghost use Rattle.verdict_definitions.specs.in_read.Reads.{NestingBound};
+ghost use Rattle.verdict_definitions.specs.in_read.ReadFaults.{fault_at, fault_view, unnamed_source};
+ghost use Rattle.verdict_definitions.specs.in_read.declared.fault.ReadFault.TheVariants.{Nesting};
 ghost use Rattle.verdict_definitions.specs.Texts.{ReadsText};
 ghost use Rattle.checker_texts.specs.Unread.{IsUnread, TellsUnread};
 
-use graphql_faults::Details;
 use graphql_names::{FileId, SourceSpan};
-use graphql_read::{ReadFault, SyntaxFault, parse_document};
 use std::alloc::Global;
 use tree_definitions::Document;
+use verdict_definitions::{Details, ReadFault, SyntaxFault, parse_document};
 
 /// Why a text has no tree.
 #[derive(Drop)]

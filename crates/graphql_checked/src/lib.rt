@@ -19,14 +19,13 @@ mod checker;
 mod run_texts;
 mod verdict;
 
+pub use book_validity::Schema;
 pub use checked_document::CheckedDocument;
 pub use checked_schema::CheckedSchema;
 pub use checker::{Checker, Limits};
-pub use checker_answers::{CheckError, Outcome, RunFault, Verdict, exit_status};
+pub use checker_answers::{CheckError, Outcome, Refusal, RunFault, Verdict, exit_status};
 pub use checker_settings::{Layout, Settings};
-pub use checker_texts::Refusal;
 pub use document_typed_operations::ExecutableDocument;
 pub use graphql_faults::{Details, DiagnosticList};
-pub use graphql_schema::Schema;
 pub use run_texts::run;
 pub use verdict::check_texts;

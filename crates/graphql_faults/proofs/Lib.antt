@@ -1,2 +1,6 @@
 pub mod Writing
 pub mod Growing
+pub use Rattle.rule_document_definitions.proofs as in_document_rule_definitions
+pub use Rattle.graphql_read.proofs as in_read
+pub use Rattle.graphql_read.proofs.in_grammar as in_grammar
+pub use Rattle.graphql_read.proofs.in_tokens as in_tokens

@@ -22,3 +22,6 @@ pub use fault_document_data::{
     ConflictingFieldArgument, ConflictingFieldName, ConflictingFieldType,
 };
 pub use name_or_anon::NameOrAnon;
+
+// Of the crates beneath, for those above.
+pub use graphql_read::{ReadFault, SyntaxFault, parse_document};

@@ -4,10 +4,10 @@ use Rattle.std.specs.List.{list_all}
 use Rattle.std.proofs.lemmas.Bool.{and_from, and_parts}
 use Rattle.graphql_names.specs.Placed.{Text}
 use Rattle.tree_operations.specs.SelectionTree.{SelectionTrees}
-use Rattle.read_values.specs.in_directives.DirectiveTree.{DirectiveDefinitionTree}
-use Rattle.read_values.specs.in_values.Writable.{has_selection, selections_writable, directives_writable, directive_definition_writable}
-use Rattle.tree_definitions.specs.DefinitionTree.{DefinitionTree, Operation, Fragment, DirectiveDefinition, Schema, ScalarType, ObjectType, InterfaceType, UnionType, EnumType, InputObjectType, ExtendSchema, ExtendScalar, ExtendObject, ExtendInterface, ExtendUnion, ExtendEnum, ExtendInputObject}
-use Rattle.tree_definitions.specs.Writable.{has_some, schema_writable, fields_writable, enum_writable, input_object_writable, definition_writable, document_writable}
+use Rattle.tree_operations.specs.in_directives.DirectiveTree.{DirectiveDefinitionTree}
+use Rattle.read_types.specs.in_values.Writable.{has_selection, selections_writable, directives_writable, directive_definition_writable}
+use Rattle.read_types.specs.in_definitions.DefinitionTree.{DefinitionTree, Operation, Fragment, DirectiveDefinition, Schema, ScalarType, ObjectType, InterfaceType, UnionType, EnumType, InputObjectType, ExtendSchema, ExtendScalar, ExtendObject, ExtendInterface, ExtendUnion, ExtendEnum, ExtendInputObject}
+use Rattle.read_types.specs.in_definitions.Writable.{has_some, schema_writable, fields_writable, enum_writable, input_object_writable, definition_writable, document_writable}
 use Rattle.read_tokens.specs.Input.{Token}
 use Rattle.read_grammar.specs.Meaning.{Meaning, start}
 use Rattle.read_grammar.specs.Kinds.{is_extend}

@@ -3,8 +3,8 @@ use Rattle.std.proofs.Common.{◌≡◌, ℕ, zero, suc, Bool, true, ◌&&◌, L
 use Rattle.std.specs.List.{list_all}
 use Rattle.std.proofs.lemmas.Bool.{and_from, and_parts}
 use Rattle.tree_operations.specs.SelectionTree.{SelectionTree, SelectionTrees, no_selections}
-use Rattle.read_values.specs.in_values.Writable.{arguments_writable, directives_writable, default_writable, can_be_fragment, has_selection, selection_writable, selections_writable, variable_writable, variables_writable, operation_writable, fragment_writable}
-use Rattle.tree_definitions.specs.Writable.{has_some}
+use Rattle.read_types.specs.in_values.Writable.{arguments_writable, directives_writable, default_writable, can_be_fragment, has_selection, selection_writable, selections_writable, variable_writable, variables_writable, operation_writable, fragment_writable}
+use Rattle.read_types.specs.in_definitions.Writable.{has_some}
 use Rattle.tree_operations.specs.in_directives.declared.operation_type.OperationType.TheVariants.{Query, Mutation, Subscription}
 use Rattle.read_grammar.specs.Meaning.{Meaning, name_of}
 use Rattle.read_grammar.specs.Kinds.{is_fragment_name, is_colon, is_spread, is_on, is_fragment, is_query, is_mutation, is_subscription, is_open_brace, is_close_brace, is_open_paren, is_close_paren}

@@ -7,7 +7,7 @@ use Rattle.graphql_names.specs.Placed.{Placed, Text}
 use Rattle.tree_literals.specs.ValueTree.{ValueTree, NullTree, EnumTree, VariableTree, StringTree, FloatTree, IntTree, BooleanTree, ListTree, ObjectTree}
 use Rattle.tree_literals.specs.TypeTree.{TypeTree, NamedTree, NonNullNamedTree, NonNullListTree}
 use Rattle.tree_literals.specs.TypeTree as types
-use Rattle.read_values.specs.in_values.Writable.{is_text, type_writable, can_be_enum, can_be_fragment, value_writable, items_writable, entries_writable, arguments_writable, directive_writable, directives_writable}
+use Rattle.read_types.specs.in_values.Writable.{is_text, type_writable, can_be_enum, can_be_fragment, value_writable, items_writable, entries_writable, arguments_writable, directive_writable, directives_writable}
 use Rattle.read_tokens.specs.declared.terminal.Terminal.{Terminal}
 use Rattle.read_tokens.specs.declared.token.TokenKind.{TokenKind}
 use Rattle.read_tokens.specs.declared.token.TokenKind.TheVariants.{Bang, Dollar, Ampersand, OpenParen, CloseParen, Spread, Colon, Equals, At, OpenBracket, CloseBracket, OpenBrace, Pipe, CloseBrace, Int, Float, String, BlockString, Name}

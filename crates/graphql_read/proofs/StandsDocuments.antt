@@ -4,8 +4,8 @@ use Rattle.std.proofs.Common.{◌≡◌, ◌≢◌, ℕ, ◌+◌, ◌-◌, ◌^�
 use Rattle.graphql_names.specs.Placed.{Place, Text}
 use Rattle.tree_literals.specs.TypeTree.{TypeTree}
 use Rattle.tree_operations.specs.SelectionTree.{SelectionTrees}
-use Rattle.read_values.specs.in_directives.DirectiveTree.{DirectiveDefinitionTree}
-use Rattle.tree_definitions.specs.DefinitionTree.{DefinitionTree, Operation, Fragment}
+use Rattle.tree_operations.specs.in_directives.DirectiveTree.{DirectiveDefinitionTree}
+use Rattle.read_types.specs.in_definitions.DefinitionTree.{DefinitionTree, Operation, Fragment}
 use Rattle.read_tokens.specs.Input.{Token}
 use Rattle.read_grammar.specs.Meaning.{Meaning, start}
 use Rattle.read_grammar.specs.Kinds.{is_extend}

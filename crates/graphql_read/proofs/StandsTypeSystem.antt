@@ -1,7 +1,7 @@
 -- Each place in definitions of the type system is one that the meaning gives.
 use Rattle.std.proofs.Common.{◌≡◌, ℕ, zero, suc, Bool, true, false, ◌&&◌, [], unwrap_or, refl}
 use Rattle.std.proofs.lemmas.Bool.{and_parts}
-use Rattle.tree_definitions.specs.Writable.{has_some}
+use Rattle.read_types.specs.in_definitions.Writable.{has_some}
 use Rattle.read_grammar.specs.Meaning.{Meaning, text_of}
 use Rattle.read_tokens.specs.Input.{end_of}
 use Rattle.read_tokens.specs.declared.terminal.Terminal.{Terminal}

@@ -7,9 +7,8 @@ ghost use Rattle.graphql_read.specs.Calls.{end_of_text};
 ghost use Rattle.graphql_read.specs.ReadFaults.{fault_at, fault_view};
 
 use crate::fault::{ReadFault, SyntaxFault, SyntaxFaultKind};
-use read_grammar::Stop;
 use read_tokens::Source;
-use read_values::begin;
+use read_types::{Stop, begin};
 
 /// Whether the text ends here.
 pub fn end_of_text(tokens: &Source<'_>) -> Result<(), Stop>

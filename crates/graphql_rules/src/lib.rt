@@ -22,3 +22,6 @@ pub use rule_interfaces::is_valid_implementation_field_type;
 pub use scalars::BuiltInScalars;
 pub use schema::validate_schema;
 pub use values::value_of_correct_type;
+
+// Of the crates beneath, for those above.
+pub use graphql_faults::{Details, DiagnosticList};

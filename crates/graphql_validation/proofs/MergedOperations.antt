@@ -10,8 +10,8 @@ use Rattle.rule_definitions.specs.Judged.{Judged}
 use Rattle.rule_document_definitions.specs.Merging.{FieldsMerge}
 use Rattle.rule_document_definitions.specs.Selected.{operations}
 use Rattle.rule_document_definitions.specs.Told.{PlacedDocumentFault}
-use Rattle.graphql_faults.specs.DetailsTree.{of_document}
-use Rattle.graphql_faults.specs.DetailsView.{BeginsAs}
+use Rattle.rule_merging.specs.in_faults.DetailsTree.{of_document}
+use Rattle.rule_merging.specs.in_faults.DetailsView.{BeginsAs}
 use Rattle.rule_merging.specs.Merged.{MergingTold, DocumentMergingTold}
 use Rattle.graphql_validation.specs.Told.{Telling}
 use Rattle.rule_merging.proofs.Behind.{nothing_told, told_nothing, begins_behind}

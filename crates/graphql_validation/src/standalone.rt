@@ -1,14 +1,14 @@
 //! Every rule on a document without a schema.
 ghost use Rattle.std.specs.Prelude.{OnErr, OnOk};
-ghost use Rattle.document_typing.specs.DocumentView.{document_meant};
-ghost use Rattle.graphql_faults.specs.DetailsView.{diagnostics_of, BeginsAs};
+ghost use Rattle.rule_fragments.specs.in_typing.DocumentView.{document_meant};
+ghost use Rattle.rule_merging.specs.in_faults.DetailsView.{diagnostics_of, BeginsAs};
 ghost use Rattle.graphql_validation.specs.Told.{NamedAloneTold, SilenceMeansValidAlone, ValidAloneMeansSilence};
 
 use crate::alone::faults_alone;
 use crate::found::fragments_differ;
 use crate::told::append_all;
 use document_typed_operations::ExecutableDocument;
-use graphql_faults::DiagnosticList;
+use rule_merging::DiagnosticList;
 use rule_subscriptions::{deferred_breaches, passes_path_bound};
 use std::alloc::{AllocError, Global};
 

@@ -1,15 +1,14 @@
 //! Adding what is told to a list.
 ghost use Rattle.std.specs.Prelude.{◌≡◌, ◌++◌, map, OnErr, OnOk};
 ghost use Rattle.fault_data.specs.FaultView.{faults_of};
-ghost use Rattle.graphql_faults.specs.DetailsTree.{of_document};
-ghost use Rattle.graphql_faults.specs.DetailsView.{diagnostics_of, BeginsAs};
-ghost use Rattle.rule_document_ground.specs.Broken.{brokens_of};
+ghost use Rattle.rule_merging.specs.in_faults.DetailsTree.{of_document};
+ghost use Rattle.rule_merging.specs.in_faults.DetailsView.{diagnostics_of, BeginsAs};
+ghost use Rattle.rule_fragments.specs.in_ground.Broken.{brokens_of};
 ghost use Rattle.graphql_validation.specs.Operations.{bound_told, all_told};
 ghost use Rattle.graphql_validation.specs.Steps.{AddsDetails};
 
 use fault_data::Fault;
-use graphql_faults::{Details, DiagnosticList};
-use rule_merging::{Breach, append_breaches};
+use rule_merging::{Breach, Details, DiagnosticList, append_breaches};
 use std::alloc::AllocError;
 
 /// Adds that selections are nested too deeply, if they are.

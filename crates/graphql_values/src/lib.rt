@@ -1,7 +1,7 @@
 //! Types, values, directives, selections and operations, which documents and schemas are made of, and
 //! the base of the printer: the face of the crates that hold them, and the laws of their trees.
 //!
-//! The printer's base is `tree_printing`; types and values are in `tree_literals`, arguments, directives and the
+//! The printer's base, types and values are in `tree_literals`, arguments, directives and the
 //! definitions of input values in `tree_directives`, selections and operations in `tree_operations`.
 //!
 //! For the layer above: contracts see each of these as a plain tree (`Placed`, `ValueTree` and their neighbours, which
@@ -14,11 +14,15 @@
 pub mod laws;
 mod ty_macro;
 
-pub use graphql_names::{FileId, Name, Node, NodeStr, SourceSpan};
-pub use tree_literals::{FloatValue, IntValue, NamedType, Type, Value};
+pub use tree_literals::{
+    FileId, FloatValue, IntValue, Name, NamedType, Node, NodeStr, SourceSpan, Spent, Type, Value,
+};
 pub use tree_operations::{
     Argument, ArgumentByNameError, Cause, Directive, DirectiveDefinition, DirectiveList,
     DirectiveLocation, Field, FragmentDefinition, FragmentSpread, InlineFragment,
     InputValueDefinition, Named, NamedDirectives, OperationDefinition, OperationType, Selection,
-    Serialize, Tree, VariableDefinition, WriteFault, get_named_mut,
+    Serialize, Tree, VariableDefinition, WriteFault, begins_output, get_named_mut, put_fragment,
+    put_operation,
 };
+
+// Of the crates beneath, for those above.

@@ -1,5 +1,5 @@
 pub mod Readings
-pub use Rattle.tree_printing.specs as in_printing
+pub use Rattle.tree_literals.specs as in_literals
 pub mod Printed
 pub mod WellFormed
 pub mod Literals
@@ -9,3 +9,4 @@ pub mod SelectionsLayout
 pub mod TreeDepth
 pub mod NestsAlike
 pub mod ReadsAgain
+pub use Rattle.graphql_read.specs as in_read

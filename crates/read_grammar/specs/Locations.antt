@@ -32,6 +32,7 @@ abbrev pub named_among : List DirectiveLocation → List ℕ → DirectiveLocati
 named_among [] text = location.DirectiveDefinition
 named_among (x ∷ xs) text = if bytes_eq (location_keyword x) text then x else named_among xs text
 
+-- Laxer: the last of the twenty is not in October 2021
 -- the location with this name; a token of the class Location has the name of one of the twenty
 unfoldable pub location_of : List ℕ → DirectiveLocation
 location_of text = named_among locations text

@@ -194,8 +194,8 @@ module _ {P : Type 0} (m : Meaning P) where
       ∣ EnumKind <$> enum_type n
       ∣ InputObjectKind <$> input_object_type n
 
+  -- Laxer: October 2021 has no directives here
   -- DirectiveDefinition, behind its description: "directive" "@" Name ArgumentsDefinition? Directives[Const]? "repeatable"? "on" DirectiveLocations
-  -- (its own directives go past October 2021)
   unfoldable pub directive_definition : ℕ → Rule (DirectiveDefinitionTree P)
   directive_definition n =
       directive_definition_of <$> mark is_directive · mark is_at · name m · optional (arguments_definition n) · optional (directives m constant n) · optional (mark is_repeatable) · mark is_on · directive_locations

@@ -12,6 +12,7 @@ quotes = 34 ∷ 34 ∷ 34 ∷ []
 abbrev pub escaped_quotes : List ℕ
 escaped_quotes = 92 ∷ 34 ∷ 34 ∷ 34 ∷ []
 
+-- Laxer: any Unicode scalar value, also a control character, and one above U+FFFF (section 2.1)
 -- BlockStringCharacter: `\"""`, or a character that does not begin `"""` (of which each byte counts here)
 unfoldable pub block_character_len : List ℕ → Option ℕ
 block_character_len [] = None

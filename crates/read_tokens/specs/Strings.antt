@@ -32,6 +32,7 @@ hexadecimal_at i bytes = slice_get bytes i >>= hexadecimal
 abbrev pub is_surrogate : ℕ → Bool
 is_surrogate c = within 55296 57343 c
 
+-- Stricter: the four hexadecimal digits of a surrogate are no escape, in a pair neither
 -- EscapedUnicode: the character whose number the first four bytes write
 unfoldable pub unicode_at : List ℕ → Option ℕ
 unicode_at bytes = do
@@ -54,6 +55,7 @@ abbrev pub behind_mark : Option (ℕ × ℕ) → Option ℕ
 behind_mark None = None
 behind_mark (Some escape) = Some (1 + escape.1)
 
+-- Laxer: any Unicode scalar value, also a control character, and one above U+FFFF (section 2.1)
 -- StringCharacter: an escape, or a character other than `"`, `\` and line terminators (of which each byte counts here)
 unfoldable pub part_len : List ℕ → Option ℕ
 part_len [] = None

@@ -17,6 +17,7 @@ use Rattle.read_tokens.specs.declared.token.TokenKind.TheVariants as k
 abbrev pub is_ignored_byte : ℕ → Bool
 is_ignored_byte b = b == 9 || b == 32 || b == 10 || b == 44
 
+-- Laxer: in a comment any Unicode scalar value, also a control character, and one above U+FFFF (section 2.1)
 -- no byte of a line terminator (section 2.1.3)
 abbrev pub is_in_line : ℕ → Bool
 is_in_line b = not (b == 10 || b == 13)

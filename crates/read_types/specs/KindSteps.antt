@@ -2,7 +2,7 @@
 use Rattle.std.specs.Prelude.{ℕ, List, Option, Ok}
 use Rattle.tree_directives.specs.DirectiveTree.{Directives, InputValues}
 use Rattle.graphql_names.specs.Placed.{Text}
-use Rattle.tree_definitions.specs.DefinitionTree.{DefinitionTree, DirectiveDefinition}
+use Rattle.read_operations.specs.in_definitions.DefinitionTree.{DefinitionTree, DirectiveDefinition}
 use Rattle.read_grammar.specs.Meaning.{Meaning}
 use Rattle.read_grammar.specs.Kinds.{is_at, is_equals, is_implements, is_open_brace, is_schema}
 use Rattle.read_grammar.specs.Grammar.{definition_of}

@@ -3,18 +3,17 @@ ghost use Rattle.std.specs.Prelude.{◌≡◌};
 ghost use Rattle.read_grammar.specs.Reading.{Reads};
 ghost use Rattle.read_types.specs.KindSteps as steps;
 ghost use Rattle.read_types.specs.KindTrees.{kind_tree};
-ghost use Rattle.read_members.specs.in_read_values.Meanings.{in_file};
+ghost use Rattle.read_types.specs.in_read_operations.Meanings.{in_file};
 ghost use Rattle.read_types.specs.KindViews.{fields_rest_view, union_rest_view};
 
 use crate::kind::Kind;
-use graphql_names::{FileId, Node};
-use read_grammar::Stop;
-use read_members::{
+use crate::{
     fields_or_none, names_or_none, optional_fields_definition, optional_implements_interfaces,
     optional_union_member_types,
 };
+use graphql_names::{FileId, Node};
+use read_operations::{Stop, directives_or_none, expect, name, optional_directives};
 use read_tokens::{Source, Terminal};
-use read_values::{directives_or_none, expect, name, optional_directives};
 use std::alloc::Global;
 use tree_composite_types::{InterfaceTypeExtension, ObjectTypeExtension, UnionTypeExtension};
 use tree_directives::DirectiveList;

@@ -3,18 +3,17 @@ ghost use Rattle.std.specs.Prelude.{◌≡◌};
 ghost use Rattle.read_grammar.specs.Reading.{Reads};
 ghost use Rattle.read_types.specs.KindSteps as steps;
 ghost use Rattle.read_types.specs.KindTrees.{kind_tree};
-ghost use Rattle.read_members.specs.in_read_values.Meanings.{in_file};
+ghost use Rattle.read_types.specs.in_read_operations.Meanings.{in_file};
 ghost use Rattle.read_types.specs.KindViews.{enum_rest_view, input_object_rest_view};
 
 use crate::kind::Kind;
-use graphql_names::{FileId, Node};
-use read_grammar::Stop;
-use read_members::{
+use crate::{
     enum_values_or_none, input_values_or_none, optional_enum_values_definition,
     optional_input_fields_definition,
 };
+use graphql_names::{FileId, Node};
+use read_operations::{Stop, directives_or_none, expect, name, optional_directives};
 use read_tokens::{Source, Terminal};
-use read_values::{directives_or_none, expect, name, optional_directives};
 use std::alloc::Global;
 use tree_directives::{DirectiveList, InputValueDefinition};
 use tree_input_types::{EnumTypeExtension, InputObjectTypeExtension, ScalarTypeExtension};

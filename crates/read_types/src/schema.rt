@@ -3,14 +3,13 @@ ghost use Rattle.std.specs.Prelude.{◌≡◌};
 ghost use Rattle.read_grammar.specs.Reading.{Reads};
 ghost use Rattle.read_types.specs.KindSteps as steps;
 ghost use Rattle.read_types.specs.KindTrees.{kind_tree};
-ghost use Rattle.read_members.specs.in_read_values.Meanings.{in_file};
+ghost use Rattle.read_types.specs.in_read_operations.Meanings.{in_file};
 
 use crate::kind::Kind;
+use crate::{optional_roots, roots, roots_or_none};
 use graphql_names::FileId;
-use read_grammar::Stop;
-use read_members::{optional_roots, roots, roots_or_none};
+use read_operations::{Stop, directives_or_none, expect, optional_directives};
 use read_tokens::{Source, Terminal};
-use read_values::{directives_or_none, expect, optional_directives};
 use std::alloc::Global;
 use tree_input_types::SchemaExtension;
 

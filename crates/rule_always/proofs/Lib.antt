@@ -7,3 +7,4 @@ pub mod Staying
 pub mod Found
 pub mod Sets
 pub mod Entering
+pub use Rattle.rule_document_ground.proofs as in_ground

@@ -10,3 +10,6 @@
 mod always;
 
 pub use always::always_reached;
+
+// Of the crates beneath, for those above.
+pub use rule_document_ground::tell_breach;

@@ -10,7 +10,7 @@ use Rattle.tree_literals.specs.NumberSyntax.{integer_value}
 use Rattle.tree_literals.specs.ValueTree.{ValueTree, ItemTrees, EntryTrees, NullTree, EnumTree, VariableTree, StringTree, FloatTree, IntTree, BooleanTree, ListTree, ObjectTree, no_items, item_then, no_entries, entry_then}
 use Rattle.tree_directives.specs.DirectiveTree.{InputValueTree}
 use Rattle.tree_directives.specs.DirectiveQueries.{is_required_input}
-use Rattle.tree_operations.specs.OperationTree.{VariableDefinitionTree}
+use Rattle.schema_types.specs.in_operations.OperationTree.{VariableDefinitionTree}
 use Rattle.schema_types.specs.Looks.{TypeLooks}
 use Rattle.schema_types.specs.declared.type_kind.TypeKind.TheVariants as kind
 use Rattle.rule_definitions.specs.Words.{Present, IfPresent}
@@ -49,11 +49,14 @@ module _ {P : Type 0} (s : Judged) (variables : Variables P) where
     pub Takes : TypeTree (Unit {0}) → TypeLooks → ValueTree P → Type 0
     -- null, where there is no mark `!` (section 3.12)
     Takes ty t NullTree = has_mark ty ≡ false
-    -- a variable, if it is defined, where its type has the same name inside; marks and brackets are for another rule (section 5.8.5)
+    -- Laxer (section 5.8.5): inside a list or an object no rule judges marks and brackets of its type; of one that is a whole argument
+    -- `IsVariableUsageAllowed` does
+    -- a variable, if it is defined, where its type has the same name inside
     Takes ty t (VariableTree v) = IfPresent (variable_named variables v.it) (λ x. (inner_name x.it.ty.it).it ≡ named_in ty)
     -- an integer, for Float or ID, and for Int where it has 32 bits (sections 3.5.1, 3.5.2 and 3.5.5)
     Takes ty t (IntTree digits) = IsScalarAmong s (codes "Float" ∷ codes "ID" ∷ []) (named_in ty) t
         ⊎ (IsBuiltInScalar s (named_in ty) t × ((named_in ty ≡ codes "Int") × FitsSigned w32 (integer_value digits)))
+    -- Laxer (section 3.5.2): also one that no finite 64-bit float holds, and such an integer above
     -- a float, for Float (section 3.5.2)
     Takes ty t (FloatTree digits) = IsScalarAmong s (codes "Float" ∷ []) (named_in ty) t
     -- a string, for String or ID (sections 3.5.3 and 3.5.5)
@@ -62,6 +65,8 @@ module _ {P : Type 0} (s : Judged) (variables : Variables P) where
     Takes ty t (BooleanTree b) = IsScalarAmong s (codes "Boolean" ∷ []) (named_in ty) t
     -- a name, for an enum that has that value (section 3.9)
     Takes ty t (EnumTree n) = ((t.kind ≡ kind.Enum) × (is_some (t.value n.it) ≡ true)) ⊎ IsCustomScalar s (named_in ty) t
+    -- Laxer (section 3.11): where items are lists, an item that is none counts as a list of one
+    -- Stricter (section 3.5): for a custom scalar each item is judged against that scalar as it is asked for, with its mark
     -- a list, for a list, each item for the type of items (section 3.11)
     Takes ty t (ListTree items) = ((is_list_type ty ≡ true) ⊎ IsCustomScalar s (named_in ty) t) × TakesItems (item_type_of ty) t items
     -- an object, for an input object that takes its entries and has what it requires (section 3.10)

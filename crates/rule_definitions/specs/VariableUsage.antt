@@ -3,9 +3,10 @@ use Rattle.std.specs.Prelude.{◌≡◌, true, false, is_some, ◌⊎◌}
 use Rattle.tree_literals.specs.TypeTree.{unplaced_type}
 use Rattle.tree_literals.specs.TypeQueries.{has_mark, nullable_type, AreTypesCompatible}
 use Rattle.tree_directives.specs.DirectiveTree.{InputValueTree}
-use Rattle.tree_operations.specs.OperationTree.{VariableDefinitionTree}
+use Rattle.schema_types.specs.in_operations.OperationTree.{VariableDefinitionTree}
 
 module _ {P : Type 0} where
+  -- Laxer: a default that is null counts as one
   -- a variable may stand where the argument is asked for: a nullable one fits a non-null place only
   -- with a default on either side
   abbrev pub IsVariableUsageAllowed : VariableDefinitionTree P → InputValueTree (Unit {0}) → Type 0

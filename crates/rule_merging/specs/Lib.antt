@@ -7,3 +7,4 @@ pub mod Verdict
 pub mod Merged
 pub mod Merger
 pub mod OfProgram
+pub use Rattle.graphql_faults.specs as in_faults

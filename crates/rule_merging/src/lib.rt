@@ -29,3 +29,6 @@ pub use merging::FieldsInSetCanMerge;
 pub use operation::{Examined, examine_operation};
 pub use rule_field_groups::Breach;
 pub use told::append_breaches;
+
+// Of the crates beneath, for those above.
+pub use graphql_faults::{Details, DiagnosticList};

@@ -8,13 +8,13 @@ use Rattle.tree_literals.specs.ValueTree.{ValueTree, unplaced_value}
 use Rattle.tree_literals.specs.ValueQueries.{is_null_value}
 use Rattle.tree_literals.specs.ValueLayout.{value_text}
 use Rattle.tree_literals.specs.ValueWritable.{value_writable}
-use Rattle.graphql_read.specs.in_tokens.Input.{Ended}
-use Rattle.graphql_read.specs.in_tokens.Lex.{Lex}
-use Rattle.graphql_read.specs.in_grammar.Rules.{Rule}
-use Rattle.graphql_read.specs.in_grammar.Grammar.{DerivesAs}
-use Rattle.graphql_read.specs.in_grammar.ValueGrammar.{value, constant}
-use Rattle.graphql_read.specs.in_read_values.Meanings.{in_file}
-use Rattle.graphql_read.specs.Reads.{HasTree}
+use Rattle.read_operations.specs.in_tokens.Input.{Ended}
+use Rattle.read_operations.specs.in_tokens.Lex.{Lex}
+use Rattle.read_operations.specs.in_grammar.Rules.{Rule}
+use Rattle.read_operations.specs.in_grammar.Grammar.{DerivesAs}
+use Rattle.read_operations.specs.in_grammar.ValueGrammar.{value, constant}
+use Rattle.read_operations.specs.Meanings.{in_file}
+use Rattle.read_again.specs.in_read.Reads.{HasTree}
 use Rattle.read_again.specs.Printed.{Follow, ends_word, before, Printed}
 use Rattle.read_again.specs.WellFormed.{value_depth}
 use Rattle.read_again.proofs.Alone.{literals_read}

@@ -7,10 +7,10 @@ use Rattle.tree_literals.specs.ValueTree.{ValueTree}
 use Rattle.tree_literals.specs.ValueQueries.{is_null_value}
 use Rattle.tree_literals.specs.ValueLayout.{value_text}
 use Rattle.tree_literals.specs.ValueWritable.{can_be_enum}
-use Rattle.graphql_read.specs.in_grammar.Grammar.{DerivesAs}
-use Rattle.graphql_read.specs.in_grammar.ValueGrammar.{value, constant}
-use Rattle.graphql_read.specs.in_read_values.Meanings.{in_file}
-use Rattle.graphql_read.specs.Reads.{HasTree}
+use Rattle.read_operations.specs.in_grammar.Grammar.{DerivesAs}
+use Rattle.read_operations.specs.in_grammar.ValueGrammar.{value, constant}
+use Rattle.read_operations.specs.Meanings.{in_file}
+use Rattle.read_again.specs.in_read.Reads.{HasTree}
 use Rattle.rule_definitions.specs.in_schema_types.SchemaTree.{is_input_kind}
 use Rattle.rule_definitions.specs.in_schema_types.declared.type_kind.TypeKind.TheVariants as kind
 use Rattle.rule_definitions.specs.Words.{Present}

@@ -6,7 +6,7 @@ use Rattle.schema_fold.specs.BuiltIn.{built_in_definitions}
 use Rattle.schema_fold.specs.Listed.{Definitions}
 use Rattle.schema_fold.specs.Adoption.{Settings, settled}
 use Rattle.schema_fold.specs.Fold.{fold}
-use Rattle.graphql_read.specs.Sound.{IsSound}
+use Rattle.read_again.specs.in_read.Sound.{IsSound}
 use Rattle.rule_definitions.specs.Judged.{Judged, judged}
 use Rattle.rule_schema_laws.specs.Literals.{HasTheFiveAlone, HasNoKeywordValue}
 

@@ -9,8 +9,8 @@ use Rattle.rule_document_definitions.specs.DocumentRules.{DeferredBreaks}
 use Rattle.rule_document_definitions.specs.Reached.{AtOperation}
 use Rattle.rule_document_definitions.specs.Selected.{operations}
 use Rattle.rule_document_definitions.specs.Subscriptions.{SubscriptionBreaks}
-use Rattle.rule_document_ground.specs.Broken.{brokens_of}
-use Rattle.rule_document_ground.proofs.AddingBroken.{Breaches}
+use Rattle.rule_always.specs.in_ground.Broken.{brokens_of}
+use Rattle.rule_always.proofs.in_ground.AddingBroken.{Breaches}
 use Rattle.rule_subscriptions.specs.Told.{AreAlike, TellsSubscription, AddsSubscription}
 use Rattle.rule_subscriptions.specs.Documents.{TellsSubscriptions, AddsSubscriptions, TellsBreaches}
 

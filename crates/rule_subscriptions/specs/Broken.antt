@@ -4,7 +4,7 @@ use Rattle.std.specs.declared.alloc.Global.{Global}
 use Rattle.graphql_names.specs.Placed.{Place}
 use Rattle.fault_document_data.specs.declared.build_error.BuildError.{BuildError}
 use Rattle.rule_document_definitions.specs.DocumentFaults.{Broken}
-pub use Rattle.rule_document_ground.specs.Broken.{broken_of, brokens_of, AddsBroken}
+pub use Rattle.rule_always.specs.in_ground.Broken.{broken_of, brokens_of, AddsBroken}
 
 -- the breaches that were there, as they stood, and behind them exactly these
 abbrev pub AddsThese : Vec (Place × BuildError) Global → Vec (Place × BuildError) Global → List (Broken Place) → Type 0

@@ -4,7 +4,7 @@ ghost use Rattle.std.specs.List.{list_any};
 ghost use Rattle.std.specs.Str.{bytes_eq};
 ghost use Rattle.graphql_names.specs.Placed.{node_tree};
 ghost use Rattle.tree_directives.specs.DirectiveTree.{directive_tree};
-ghost use Rattle.document_typing.specs.DocumentView.{document_meant, operation_meant};
+ghost use Rattle.rule_always.specs.in_ground.in_typing.DocumentView.{document_meant, operation_meant};
 ghost use Rattle.rule_document_definitions.specs.RootFields.{meta_field_names};
 ghost use Rattle.rule_subscriptions.specs.Broken.{AddsThese};
 ghost use Rattle.rule_subscriptions.specs.Listed.{root_names, multiple_fields, introspection, conditional, at_root};
@@ -17,7 +17,7 @@ use document_typed_operations::{ExecutableDocument, Operation};
 use document_typed_selections::Selection;
 use fault_document_data::BuildError;
 use graphql_names::{Name, Node};
-use rule_document_ground::tell_breach;
+use rule_always::tell_breach;
 use std::alloc::{AllocError, Global};
 use tree_directives::Directive;
 

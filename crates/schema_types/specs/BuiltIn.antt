@@ -1,15 +1,13 @@
 -- The definitions that each schema has (GraphQL, October 2021, sections 3.5, 3.13 and 4.2), in the order in which a schema has them.
--- Past October 2021 are two locations of `@deprecated`, `includeDeprecated` on `args` and `inputFields`, the last two fields of `__InputValue`,
--- and the last value of `__DirectiveLocation`.
 use Rattle.std.specs.Prelude.{ℕ, false, List, [], ◌∷◌, ◌++◌, map, codes, Option, None, Some}
 use Rattle.std.specs.Option.{option_map}
 use Rattle.std.proofs.Common.{lit<}
 use Rattle.graphql_names.specs.Placed.{Placed, Place, Text}
-use Rattle.tree_directives.specs.in_literals.TypeTree.{TypeTree, NamedTree, NonNullNamedTree, ListTree, NonNullListTree}
-use Rattle.tree_directives.specs.in_literals.ValueTree.{ValueTree, StringTree, BooleanTree}
-use Rattle.tree_directives.specs.DirectiveTree.{InputValueTree}
-use Rattle.tree_directives.specs.declared.directive_location.DirectiveLocation.{DirectiveLocation}
-use Rattle.tree_directives.specs.declared.directive_location.DirectiveLocation.TheVariants as at
+use Rattle.schema_components.specs.in_literals.TypeTree.{TypeTree, NamedTree, NonNullNamedTree, ListTree, NonNullListTree}
+use Rattle.schema_components.specs.in_literals.ValueTree.{ValueTree, StringTree, BooleanTree}
+use Rattle.schema_components.specs.in_directives.DirectiveTree.{InputValueTree}
+use Rattle.schema_components.specs.in_directives.declared.directive_location.DirectiveLocation.{DirectiveLocation}
+use Rattle.schema_components.specs.in_directives.declared.directive_location.DirectiveLocation.TheVariants as at
 use Rattle.schema_types.specs.in_type_members.TypeSystemTree.{FieldDefinitionTree, EnumValueTree}
 use Rattle.tree_meaning.specs.DefinitionTree.{DefinitionTree, DirectiveDefinition, ScalarType, ObjectType, EnumType}
 
@@ -77,6 +75,7 @@ enum n values = EnumType built_in None (record { name = name n; directives = [];
 
 -- ---- the table
 
+-- Laxer: the last two locations of `@deprecated`, also on what is required, are not in October 2021
 -- `@skip`, `@include`, `@deprecated` and `@specifiedBy` (section 3.13)
 abbrev pub built_in_directives : List (DefinitionTree Place)
 built_in_directives =
@@ -103,6 +102,7 @@ schema_object = object (codes "__Schema") (
     ∷ field (codes "directives") (all (codes "__Directive"))
     ∷ [])
 
+-- Laxer: `includeDeprecated` of `inputFields` is not in October 2021
 abbrev pub type_object : DefinitionTree Place
 type_object = object (codes "__Type") (
     field (codes "kind") (one (codes "__TypeKind"))
@@ -122,6 +122,7 @@ type_kind_enum = enum (codes "__TypeKind") (
     codes "SCALAR" ∷ codes "OBJECT" ∷ codes "INTERFACE" ∷ codes "UNION" ∷ codes "ENUM" ∷ codes "INPUT_OBJECT"
     ∷ codes "LIST" ∷ codes "NON_NULL" ∷ [])
 
+-- Laxer: `includeDeprecated` is not in October 2021
 abbrev pub field_object : DefinitionTree Place
 field_object = object (codes "__Field") (
     field (codes "name") (one (codes "String"))
@@ -132,6 +133,7 @@ field_object = object (codes "__Field") (
     ∷ field (codes "deprecationReason") (a (codes "String"))
     ∷ [])
 
+-- Laxer: the last two fields are not in October 2021
 abbrev pub input_value_object : DefinitionTree Place
 input_value_object = object (codes "__InputValue") (
     field (codes "name") (one (codes "String"))
@@ -150,6 +152,7 @@ enum_value_object = object (codes "__EnumValue") (
     ∷ field (codes "deprecationReason") (a (codes "String"))
     ∷ [])
 
+-- Laxer: `includeDeprecated` is not in October 2021
 abbrev pub directive_object : DefinitionTree Place
 directive_object = object (codes "__Directive") (
     field (codes "name") (one (codes "String"))
@@ -159,6 +162,7 @@ directive_object = object (codes "__Directive") (
     ∷ field (codes "isRepeatable") (one (codes "Boolean"))
     ∷ [])
 
+-- Laxer: the last value is not in October 2021
 abbrev pub directive_location_enum : DefinitionTree Place
 directive_location_enum = enum (codes "__DirectiveLocation") (
     codes "QUERY" ∷ codes "MUTATION" ∷ codes "SUBSCRIPTION" ∷ codes "FIELD" ∷ codes "FRAGMENT_DEFINITION" ∷ codes "FRAGMENT_SPREAD"

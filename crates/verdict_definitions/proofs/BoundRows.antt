@@ -2,8 +2,8 @@
 use Rattle.std.proofs.Common.{◌≡◌, ◌+◌, ℕ, zero, suc, false, List, [], ◌∷◌, codes, slice_get, Option, None, Some, is_some, refl, sym, ap, ◌∙◌, inl, true≢false, arith}
 use Rattle.std.proofs.lemmas.Option.{same_Some}
 use Rattle.graphql_names.specs.Placed.{Text}
-use Rattle.graphql_read.specs.in_directives.in_literals.TypeTree.{NonNullNamedTree}
-use Rattle.graphql_read.specs.in_directives.DirectiveTree.{InputValueTree}
+use Rattle.schema_fold.specs.in_literals.TypeTree.{NonNullNamedTree}
+use Rattle.schema_fold.specs.in_directives.DirectiveTree.{InputValueTree}
 use Rattle.schema_types.specs.Addresses.{TypeAt}
 use Rattle.schema_types.specs.Looks.{TypeLooks}
 use Rattle.schema_types.specs.declared.type_kind.TypeKind.TheVariants as kind

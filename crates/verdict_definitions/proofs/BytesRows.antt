@@ -4,12 +4,12 @@ use Rattle.std.specs.Fmt.{digits}
 use Rattle.graphql_names.specs.declared.span.SourceSpan.{SourceSpan}
 use Rattle.schema_built_in.specs.Table.{built_in_definitions}
 use Rattle.tree_definitions.specs.in_values.Joined.{joined}
-use Rattle.graphql_read.specs.in_grammar.Faults as read
-use Rattle.graphql_read.specs.in_grammar.Places.{place_in}
-use Rattle.graphql_read.specs.declared.fault.SyntaxFaultKind.TheVariants.{Unexpected, End}
-use Rattle.graphql_read.specs.Reads.{IsDue, NestingBound}
-use Rattle.schema_building.specs.Numbers.{HaveNumbers}
-use Rattle.graphql_read.proofs.Bounds.{memory_alone}
+use Rattle.graphql_faults.specs.in_grammar.Faults as read
+use Rattle.graphql_faults.specs.in_grammar.Places.{place_in}
+use Rattle.graphql_faults.specs.in_read.declared.fault.SyntaxFaultKind.TheVariants.{Unexpected, End}
+use Rattle.graphql_faults.specs.in_read.Reads.{IsDue, NestingBound}
+use Rattle.document_typing.specs.in_schema_building.Numbers.{HaveNumbers}
+use Rattle.graphql_faults.proofs.in_read.Bounds.{memory_alone}
 use Rattle.rule_definitions.proofs.Lists.{Contains-cons, only}
 use Rattle.graphql_faults.specs.DetailsTree.{Syntax}
 use Rattle.verdict_definitions.specs.Texts.{SourceText, Tree, Terms, DerivesIn, ReadsText, ReadsAll, AreWithin, IsRead}

@@ -3,24 +3,24 @@ use Rattle.std.proofs.Common.{ℕ, List, [], ◌∷◌, codes, bytes_eq, None, S
 use Rattle.graphql_names.specs.Placed.{Place, Placed}
 use Rattle.schema_built_in.specs.Table.{built_in_definitions}
 use Rattle.tree_definitions.specs.DefinitionTree.{Operation}
-use Rattle.graphql_read.specs.in_grammar.Places.{place_in}
-use Rattle.graphql_read.specs.in_directives.declared.operation_type.OperationType.TheVariants.{Query}
-use Rattle.graphql_read.specs.in_directives.in_literals.TypeTree.{NamedTree}
-use Rattle.graphql_read.specs.in_operations.SelectionTree.{FieldHead, FieldTree, no_selections, selection_then}
-use Rattle.graphql_read.specs.in_operations.OperationTree.{OperationTree, VariableDefinitionTree}
+use Rattle.graphql_faults.specs.in_grammar.Places.{place_in}
+use Rattle.schema_fold.specs.in_directives.declared.operation_type.OperationType.TheVariants.{Query}
+use Rattle.schema_fold.specs.in_literals.TypeTree.{NamedTree}
+use Rattle.tree_definitions.specs.in_operations.SelectionTree.{FieldHead, FieldTree, no_selections, selection_then}
+use Rattle.tree_definitions.specs.in_operations.OperationTree.{OperationTree, VariableDefinitionTree}
 use Rattle.schema_types.specs.SchemaTree.{SchemaTree}
 use Rattle.document_typing.specs.KeptDocument.{kept_document, meant_operation}
 use Rattle.document_meaning.specs.MeantTree.{Definition, MeantDocument, MeantOperation, MeantField, meant_set, no_meant}
 use Rattle.rule_definitions.specs.Diagnostics.{UnusedVariable}
 use Rattle.rule_definitions.specs.Faults.{wrong}
 use Rattle.rule_definitions.proofs.Lists.{not_in_nil}
-use Rattle.rule_document_definitions.specs.DocumentFaults.{OfData, OfDocument, broken}
-use Rattle.rule_document_definitions.specs.Selected.{Standing, StandingField, InOperation, SelectionAt}
-use Rattle.rule_document_definitions.specs.Reached.{first}
-use Rattle.rule_document_definitions.specs.UsedVariables.{IsUsedIn, StandsInSelection}
-use Rattle.rule_document_definitions.specs.Merging.{SameName, telling}
-use Rattle.rule_document_definitions.specs.Told.{PlacedDocumentFault, DocumentFails, DocumentMergingFails}
-use Rattle.rule_document_definitions.proofs.RowWords.{of_present, not_at_index, none_reached, no_fragment}
+use Rattle.graphql_faults.specs.in_document_rule_definitions.DocumentFaults.{OfData, OfDocument, broken}
+use Rattle.graphql_faults.specs.in_document_rule_definitions.Selected.{Standing, StandingField, InOperation, SelectionAt}
+use Rattle.graphql_faults.specs.in_document_rule_definitions.Reached.{first}
+use Rattle.graphql_faults.specs.in_document_rule_definitions.UsedVariables.{IsUsedIn, StandsInSelection}
+use Rattle.graphql_faults.specs.in_document_rule_definitions.Merging.{SameName, telling}
+use Rattle.graphql_faults.specs.in_document_rule_definitions.Told.{PlacedDocumentFault, DocumentFails, DocumentMergingFails}
+use Rattle.graphql_faults.proofs.in_document_rule_definitions.RowWords.{of_present, not_at_index, none_reached, no_fragment}
 use Rattle.graphql_faults.specs.in_document_data.DocumentBreaches.{ConflictingFieldName}
 use Rattle.graphql_faults.specs.DetailsTree.{of_document}
 use Rattle.verdict_definitions.specs.Texts.{SourceText, Tree, ReadsText}

@@ -4,7 +4,7 @@ use Rattle.std.proofs.lemmas.Option.{same_Some}
 use Rattle.graphql_names.specs.Placed.{Place}
 use Rattle.schema_built_in.specs.Table.{built_in_definitions}
 use Rattle.tree_definitions.specs.DefinitionTree.{DefinitionTree}
-use Rattle.graphql_read.specs.in_grammar.Places.{place_in}
+use Rattle.graphql_faults.specs.in_grammar.Places.{place_in}
 use Rattle.schema_fold.specs.BuildErrors as rule
 use Rattle.schema_fold.specs.BuildErrors.{BuildFault, Fails, Breach, RepeatedIn}
 use Rattle.schema_fold.specs.Components.{components, field_key, value_key, input_key}
@@ -13,7 +13,7 @@ use Rattle.schema_fold.specs.SchemaFold.{root_key, roots_given}
 use Rattle.schema_fold.specs.in_components.Given.{Given, given_name}
 use Rattle.schema_fold.specs.in_components.Lists.{AtSomePlace, IsRepeated, firsts, has_name, repeats}
 use Rattle.schema_fold.proofs.in_components.Places.{not_in_nil, given_at, is_only}
-use Rattle.schema_building.specs.Numbers.{HaveNumbers}
+use Rattle.document_typing.specs.in_schema_building.Numbers.{HaveNumbers}
 use Rattle.schema_types.specs.TypeParts.{TypeParts, TypeDefinition, with_fields, type_here}
 use Rattle.schema_types.specs.declared.type_kind.TypeKind.{TypeKind}
 use Rattle.schema_types.specs.declared.type_kind.TypeKind.TheVariants as kind

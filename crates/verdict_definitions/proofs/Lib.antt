@@ -19,3 +19,6 @@ pub mod SchemaRows
 pub mod PairRows
 pub mod FullRows
 pub mod RefusedDocumentRows
+pub use Rattle.graphql_faults.proofs.in_read as in_read
+pub use Rattle.graphql_faults.proofs.in_grammar as in_grammar
+pub use Rattle.graphql_faults.proofs.in_tokens as in_tokens

@@ -4,13 +4,13 @@ use Rattle.graphql_names.specs.Placed.{Place, Placed, Text}
 use Rattle.schema_built_in.specs.Table.{built_in_definitions}
 use Rattle.tree_definitions.specs.DefinitionTree.{DefinitionTree, ObjectType, InterfaceType, DirectiveDefinition, Schema, Operation, Fragment, ExtendScalar, ExtendObject, ExtendSchema}
 use Rattle.tree_definitions.specs.in_type_members.TypeSystemTree.{FieldDefinitionTree, FieldsParts}
-use Rattle.graphql_read.specs.in_directives.in_literals.TypeTree.{NamedTree, NonNullNamedTree}
-use Rattle.graphql_read.specs.in_directives.DirectiveTree.{DirectiveTree, Directives, InputValueTree}
-use Rattle.graphql_read.specs.in_directives.declared.directive_location.DirectiveLocation.{DirectiveLocation}
-use Rattle.graphql_read.specs.in_directives.declared.directive_location.DirectiveLocation.TheVariants as at
-use Rattle.graphql_read.specs.in_directives.declared.operation_type.OperationType.TheVariants as operation
-use Rattle.graphql_read.specs.in_operations.SelectionTree.{SelectionTrees, FieldTree, SpreadTree, no_selections, selection_then}
-use Rattle.graphql_read.specs.in_grammar.Places.{place_in}
+use Rattle.schema_fold.specs.in_literals.TypeTree.{NamedTree, NonNullNamedTree}
+use Rattle.schema_fold.specs.in_directives.DirectiveTree.{DirectiveTree, Directives, InputValueTree}
+use Rattle.schema_fold.specs.in_directives.declared.directive_location.DirectiveLocation.{DirectiveLocation}
+use Rattle.schema_fold.specs.in_directives.declared.directive_location.DirectiveLocation.TheVariants as at
+use Rattle.schema_fold.specs.in_directives.declared.operation_type.OperationType.TheVariants as operation
+use Rattle.tree_definitions.specs.in_operations.SelectionTree.{SelectionTrees, FieldTree, SpreadTree, no_selections, selection_then}
+use Rattle.graphql_faults.specs.in_grammar.Places.{place_in}
 use Rattle.tree_definitions.specs.in_values.Joined.{joined}
 use Rattle.verdict_definitions.specs.Texts.{Tree}
 use Rattle.verdict_definitions.specs.Out.{Out, OutDoc, layout_text}

@@ -2,7 +2,7 @@
 use Rattle.std.proofs.Common.{[], ◌∷◌, codes, None, refl, inl}
 use Rattle.schema_built_in.specs.Table.{built_in_definitions}
 use Rattle.tree_definitions.specs.in_values.Joined.{joined}
-use Rattle.graphql_read.specs.in_grammar.Places.{place_in}
+use Rattle.graphql_faults.specs.in_grammar.Places.{place_in}
 use Rattle.verdict_definitions.specs.Judge.{AreSchemasAccepted, IsAccepted, IsCertain}
 use Rattle.verdict_definitions.specs.Answer.{Answer}
 use Rattle.verdict_definitions.proofs.RowTrees.{terms}

@@ -3,9 +3,9 @@ use Rattle.std.proofs.Common.{[], ◌∷◌, codes, None, refl, subst, inl, inr}
 use Rattle.graphql_names.specs.Placed.{Place, Placed}
 use Rattle.schema_built_in.specs.Table.{built_in_definitions}
 use Rattle.tree_definitions.specs.DefinitionTree.{InputObjectType}
-use Rattle.graphql_read.specs.in_grammar.Places.{place_in}
-use Rattle.graphql_read.specs.in_directives.in_literals.TypeTree.{NamedTree, NonNullNamedTree}
-use Rattle.graphql_read.specs.in_directives.DirectiveTree.{InputValueTree}
+use Rattle.graphql_faults.specs.in_grammar.Places.{place_in}
+use Rattle.schema_fold.specs.in_literals.TypeTree.{NamedTree, NonNullNamedTree}
+use Rattle.schema_fold.specs.in_directives.DirectiveTree.{InputValueTree}
 use Rattle.schema_types.specs.SchemaTree.{SchemaType, SchemaTree}
 use Rattle.schema_types.specs.Addresses.{TypeAt, InputAt}
 use Rattle.schema_types.specs.declared.type_kind.TypeKind.TheVariants as kind

@@ -3,13 +3,13 @@ use Rattle.std.proofs.Common.{◌≡◌, [], ◌∷◌, codes, None, refl, sym, 
 use Rattle.std.specs.Fmt.{digits}
 use Rattle.graphql_names.specs.Placed.{Place}
 use Rattle.schema_built_in.specs.Table.{built_in_definitions}
-use Rattle.graphql_read.specs.in_grammar.Places.{place_in}
+use Rattle.graphql_faults.specs.in_grammar.Places.{place_in}
 use Rattle.schema_types.specs.SchemaTree.{SchemaTree}
 use Rattle.rule_definitions.proofs.Lists.{not_in_nil, only, is_only}
 use Rattle.document_typing.specs.TypingFaults as typing
 use Rattle.document_typing.specs.TypingFaults.{TypingFails}
 use Rattle.document_typing.proofs.DocumentFailures.{document-fails}
-use Rattle.rule_document_definitions.specs.Told.{PlacedDocumentFault}
+use Rattle.graphql_faults.specs.in_document_rule_definitions.Told.{PlacedDocumentFault}
 use Rattle.graphql_faults.specs.DetailsTree.{of_typing, of_document}
 use Rattle.verdict_definitions.specs.Texts.{SourceText, Tree, ReadsText, IsWithin}
 use Rattle.verdict_definitions.specs.Says.{AnyFault, SaysDocument, TypingFailsOver, DocumentRuleFailsBeside}

@@ -3,10 +3,10 @@ use Rattle.std.proofs.Common.{[], ◌∷◌, codes, None, refl, inl, inr, arith}
 use Rattle.graphql_names.specs.Placed.{Place}
 use Rattle.schema_built_in.specs.Table.{built_in_definitions}
 use Rattle.tree_definitions.specs.DefinitionTree.{DefinitionTree, Operation, ScalarType, ObjectType}
-use Rattle.graphql_read.specs.in_grammar.Places.{place_in}
-use Rattle.graphql_read.specs.in_directives.declared.operation_type.OperationType.TheVariants.{Query}
-use Rattle.graphql_read.specs.in_directives.in_literals.TypeTree.{NamedTree}
-use Rattle.graphql_read.specs.in_operations.SelectionTree.{FieldTree, no_selections, selection_then}
+use Rattle.graphql_faults.specs.in_grammar.Places.{place_in}
+use Rattle.schema_fold.specs.in_directives.declared.operation_type.OperationType.TheVariants.{Query}
+use Rattle.schema_fold.specs.in_literals.TypeTree.{NamedTree}
+use Rattle.tree_definitions.specs.in_operations.SelectionTree.{FieldTree, no_selections, selection_then}
 use Rattle.schema_fold.specs.BuildErrors as folding
 use Rattle.schema_types.specs.Addresses.{SchemaAt}
 use Rattle.schema_types.specs.TypeParts.{with_fields}

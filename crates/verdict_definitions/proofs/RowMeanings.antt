@@ -4,7 +4,7 @@ use Rattle.std.specs.Option.{option_map, option_map_or}
 use Rattle.std.specs.FinSet as set
 use Rattle.graphql_names.specs.Placed.{Place, unplaced_text}
 use Rattle.tree_definitions.specs.in_type_members.TypeSystemTree.{unplaced_field_definition, unplaced_enum_value}
-use Rattle.graphql_read.specs.in_directives.DirectiveTree.{unplaced_input_value}
+use Rattle.schema_fold.specs.in_directives.DirectiveTree.{unplaced_input_value}
 use Rattle.schema_fold.specs.in_components.Names.{names}
 use Rattle.schema_fold.specs.in_components.Given.{plain_given, given_name}
 use Rattle.schema_fold.specs.in_components.Applied.{unplaced_applied}

@@ -1,30 +1,30 @@
 -- How the text of a row is read: its tree, or its fault, is what the reference parser answers by computation.
 use Rattle.std.proofs.Common.{◌≡◌, ℕ, List, [], ◌∷◌, Ok, Err, Option, Some, None, refl, ap, subst, ◌∙◌}
-use Rattle.graphql_read.specs.in_tokens.Input.{Token, Input}
-use Rattle.graphql_read.specs.in_tokens.Bytes.{run_len}
-use Rattle.graphql_read.specs.in_tokens.Numbers.{whole_len, digits_behind, fraction_len, exponent_len, number_at}
-use Rattle.graphql_read.specs.in_tokens.Strings.{unicode_at, escape_at, part_len, quoted_len}
-use Rattle.graphql_read.specs.in_tokens.Tokens.{ignored_at, string_at, token_at}
-use Rattle.graphql_read.specs.in_tokens.Terminals.{words}
-use Rattle.graphql_read.specs.in_tokens.Lex.{piece_at}
-use Rattle.graphql_read.specs.in_tokens.Cursor.{rest_from}
-use Rattle.graphql_read.proofs.in_tokens.Lexed.{ends_as, lex_unique}
-use Rattle.graphql_read.specs.in_grammar.Locations.{location_of}
-use Rattle.graphql_read.specs.in_grammar.Faults as read
-use Rattle.graphql_read.specs.in_grammar.Stops.{fault_of}
-use Rattle.graphql_read.specs.in_grammar.Reading.{Outcome, whole, take, many, many_within, some}
-use Rattle.graphql_read.specs.in_grammar.ValueReading as v
-use Rattle.graphql_read.specs.in_grammar.OperationReading as o
-use Rattle.graphql_read.specs.in_grammar.TypeSystemReading as y
-use Rattle.graphql_read.specs.in_grammar.DocumentReading as d
-use Rattle.graphql_read.proofs.in_grammar.Documents.{document_parses}
-use Rattle.graphql_read.proofs.in_grammar.ViableDocuments.{document_viable}
-use Rattle.graphql_read.proofs.in_grammar.Laws.{one_document}
-use Rattle.graphql_read.specs.in_read_values.Meanings.{in_file}
-use Rattle.graphql_read.specs.Calls.{all_of}
-use Rattle.graphql_read.specs.Reads.{ReadsWithin, IsDue}
-use Rattle.graphql_read.proofs.Texts.{found, due}
-use Rattle.graphql_read.proofs.Bounds.{not_passed}
+use Rattle.graphql_faults.specs.in_tokens.Input.{Token, Input}
+use Rattle.graphql_faults.specs.in_tokens.Bytes.{run_len}
+use Rattle.graphql_faults.specs.in_tokens.Numbers.{whole_len, digits_behind, fraction_len, exponent_len, number_at}
+use Rattle.graphql_faults.specs.in_tokens.Strings.{unicode_at, escape_at, part_len, quoted_len}
+use Rattle.graphql_faults.specs.in_tokens.Tokens.{ignored_at, string_at, token_at}
+use Rattle.graphql_faults.specs.in_tokens.Terminals.{words}
+use Rattle.graphql_faults.specs.in_tokens.Lex.{piece_at}
+use Rattle.graphql_faults.specs.in_tokens.Cursor.{rest_from}
+use Rattle.graphql_faults.proofs.in_tokens.Lexed.{ends_as, lex_unique}
+use Rattle.graphql_faults.specs.in_grammar.Locations.{location_of}
+use Rattle.graphql_faults.specs.in_grammar.Faults as read
+use Rattle.graphql_faults.specs.in_grammar.Stops.{fault_of}
+use Rattle.graphql_faults.specs.in_grammar.Reading.{Outcome, whole, take, many, many_within, some}
+use Rattle.graphql_faults.specs.in_grammar.ValueReading as v
+use Rattle.graphql_faults.specs.in_grammar.OperationReading as o
+use Rattle.graphql_faults.specs.in_grammar.TypeSystemReading as y
+use Rattle.graphql_faults.specs.in_grammar.DocumentReading as d
+use Rattle.graphql_faults.proofs.in_grammar.Documents.{document_parses}
+use Rattle.graphql_faults.proofs.in_grammar.ViableDocuments.{document_viable}
+use Rattle.graphql_faults.proofs.in_grammar.Laws.{one_document}
+use Rattle.graphql_faults.specs.in_read_operations.Meanings.{in_file}
+use Rattle.graphql_faults.specs.in_read.Calls.{all_of}
+use Rattle.graphql_faults.specs.in_read.Reads.{ReadsWithin, IsDue}
+use Rattle.graphql_faults.proofs.in_read.Texts.{found, due}
+use Rattle.graphql_faults.proofs.in_read.Bounds.{not_passed}
 use Rattle.verdict_definitions.specs.Texts.{Tree, DerivesIn, ReadsText, ReadsAll, PassesNumbers, IsWithin}
 
 -- what a row opens to compute its answer

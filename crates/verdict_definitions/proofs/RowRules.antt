@@ -8,8 +8,8 @@ use Rattle.std.specs.FinSet as set
 use Rattle.std.proofs.lemmas.Option.{same_Some}
 use Rattle.graphql_names.specs.Placed.{Place, Placed, Text}
 use Rattle.tree_definitions.specs.in_type_members.TypeSystemTree.{FieldDefinitionTree, EnumValueTree, unplaced_field_definition, unplaced_enum_value}
-use Rattle.graphql_read.specs.in_directives.DirectiveTree.{DirectiveTree, DirectiveDefinitionTree, InputValueTree, InputValues}
-use Rattle.graphql_read.specs.in_directives.declared.directive_location.DirectiveLocation.{DirectiveLocation}
+use Rattle.schema_fold.specs.in_directives.DirectiveTree.{DirectiveTree, DirectiveDefinitionTree, InputValueTree, InputValues}
+use Rattle.schema_fold.specs.in_directives.declared.directive_location.DirectiveLocation.{DirectiveLocation}
 use Rattle.schema_fold.specs.in_components.Names.{Entries, names}
 use Rattle.schema_fold.specs.in_components.Given.{Given, plain_given, given_name}
 use Rattle.schema_types.specs.Out.{is_empty}
@@ -25,7 +25,7 @@ use Rattle.rule_definitions.specs.Uses.{UsesBreak}
 use Rattle.rule_definitions.specs.Words.{AtSomeIndex}
 use Rattle.rule_definitions.proofs.Lists.{not_in_nil, Contains-cons}
 use Rattle.rule_definitions.proofs.Lookups.{under_given}
-use Rattle.rule_document_definitions.proofs.RowWords.{not_at_index, none_repeats}
+use Rattle.graphql_faults.proofs.in_document_rule_definitions.RowWords.{not_at_index, none_repeats}
 use Rattle.verdict_definitions.proofs.RowMeanings.{type_found, judged_found}
 
 -- ---- lists and entries

@@ -3,12 +3,12 @@ use Rattle.std.specs.Prelude.{ℕ, ◌+◌, false, List, [], None}
 use Rattle.graphql_names.specs.Placed.{Place, Placed, Text}
 use Rattle.tree_definitions.specs.DefinitionTree.{DefinitionTree, Operation, ObjectType, DirectiveDefinition, ExtendObject}
 use Rattle.tree_definitions.specs.in_type_members.TypeSystemTree.{FieldDefinitionTree, FieldsParts}
-use Rattle.graphql_read.specs.in_directives.in_literals.TypeTree.{NamedTree}
-use Rattle.graphql_read.specs.in_directives.DirectiveTree.{DirectiveTree, Directives}
-use Rattle.graphql_read.specs.in_directives.declared.directive_location.DirectiveLocation.{DirectiveLocation}
-use Rattle.graphql_read.specs.in_directives.declared.operation_type.OperationType.TheVariants.{Query}
-use Rattle.graphql_read.specs.in_operations.SelectionTree.{SelectionTrees, FieldTree, no_selections, selection_then}
-use Rattle.graphql_read.specs.in_grammar.Places.{place_in}
+use Rattle.schema_fold.specs.in_literals.TypeTree.{NamedTree}
+use Rattle.schema_fold.specs.in_directives.DirectiveTree.{DirectiveTree, Directives}
+use Rattle.schema_fold.specs.in_directives.declared.directive_location.DirectiveLocation.{DirectiveLocation}
+use Rattle.schema_fold.specs.in_directives.declared.operation_type.OperationType.TheVariants.{Query}
+use Rattle.tree_definitions.specs.in_operations.SelectionTree.{SelectionTrees, FieldTree, no_selections, selection_then}
+use Rattle.graphql_faults.specs.in_grammar.Places.{place_in}
 use Rattle.verdict_definitions.specs.Texts.{Terms}
 
 -- the terms of the program

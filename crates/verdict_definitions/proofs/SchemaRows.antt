@@ -5,10 +5,10 @@ use Rattle.std.specs.Cmp.{first_so, second_so}
 use Rattle.std.specs.Option.{option_map, option_map_or}
 use Rattle.graphql_names.specs.Placed.{Place, Placed}
 use Rattle.schema_built_in.specs.Table.{built_in_definitions}
-use Rattle.graphql_read.specs.in_grammar.Places.{place_in}
-use Rattle.graphql_read.specs.in_directives.DirectiveTree.{DirectiveTree, Directives, InputValueTree, InputValues}
-use Rattle.graphql_read.specs.in_directives.declared.directive_location.DirectiveLocation.TheVariants as location
-use Rattle.graphql_read.specs.in_directives.declared.operation_type.OperationType.TheVariants.{Query, Mutation, Subscription}
+use Rattle.graphql_faults.specs.in_grammar.Places.{place_in}
+use Rattle.schema_fold.specs.in_directives.DirectiveTree.{DirectiveTree, Directives, InputValueTree, InputValues}
+use Rattle.schema_fold.specs.in_directives.declared.directive_location.DirectiveLocation.TheVariants as location
+use Rattle.schema_fold.specs.in_directives.declared.operation_type.OperationType.TheVariants.{Query, Mutation, Subscription}
 use Rattle.schema_fold.specs.in_components.Applied.{Applied, unplaced_applied}
 use Rattle.schema_fold.specs.in_components.Names.{Entries}
 use Rattle.schema_types.specs.Out.{is_empty}
@@ -30,7 +30,7 @@ use Rattle.rule_definitions.specs.Things.{Thing, ADirective, AType}
 use Rattle.rule_definitions.specs.Cycles.{reference_bound, is_a_directive, is_a_type, Referring, Refers, RefersByUse, RefersByInput, PassesReferenceBound}
 use Rattle.rule_definitions.specs.Words.{Present, AtSomeIndex, Repeats}
 use Rattle.rule_definitions.proofs.Lookups.{no_entries}
-use Rattle.rule_document_definitions.proofs.RowWords.{of_present, not_present, not_at_index, none_repeats, one_repeats}
+use Rattle.graphql_faults.proofs.in_document_rule_definitions.RowWords.{of_present, not_present, not_at_index, none_repeats, one_repeats}
 use Rattle.verdict_definitions.specs.Meaning.{schema_of}
 use Rattle.verdict_definitions.specs.Judge.{PassesNoReferenceBound}
 use Rattle.verdict_definitions.proofs.RowTrees.{terms, named, field_definition}

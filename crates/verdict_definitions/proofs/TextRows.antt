@@ -2,9 +2,9 @@
 use Rattle.std.proofs.Common.{◌≡◌, [], ◌∷◌, codes, refl}
 use Rattle.tree_definitions.specs.DefinitionTree.{DefinitionTree, ExtendScalar}
 use Rattle.graphql_names.specs.Placed.{Place}
-use Rattle.graphql_read.specs.in_directives.declared.directive_location.DirectiveLocation.TheVariants as at
-use Rattle.graphql_read.specs.in_grammar.Places.{place_in}
-use Rattle.graphql_read.specs.in_operations.SelectionTree.{no_selections}
+use Rattle.schema_fold.specs.in_directives.declared.directive_location.DirectiveLocation.TheVariants as at
+use Rattle.graphql_faults.specs.in_grammar.Places.{place_in}
+use Rattle.tree_definitions.specs.in_operations.SelectionTree.{no_selections}
 use Rattle.verdict_definitions.specs.Texts.{SourceText, Tree, ReadsText, document_number}
 use Rattle.verdict_definitions.proofs.RowReading.{reader, reads}
 use Rattle.verdict_definitions.proofs.RowTrees.{terms, named, field_definition, object, extend_object, use_of, directive, field, short_query}

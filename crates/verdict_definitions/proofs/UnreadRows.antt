@@ -2,11 +2,11 @@
 use Rattle.std.proofs.Common.{ℕ, ◌+◌, ◌-◌, ◌^◌, ◌<◌, List, [], ◌∷◌, codes, None, Some, refl, inl, inr, arith}
 use Rattle.graphql_names.specs.Placed.{Place}
 use Rattle.graphql_names.specs.declared.span.SourceSpan.{SourceSpan}
-use Rattle.graphql_read.specs.in_grammar.Faults as read
-use Rattle.graphql_read.specs.in_grammar.Places.{place_in}
-use Rattle.graphql_read.specs.declared.fault.SyntaxFaultKind.TheVariants.{NoToken, Unexpected, End}
-use Rattle.graphql_read.specs.Reads.{IsDue}
-use Rattle.graphql_read.specs.in_operations.SelectionTree.{SelectionTrees, FieldTree, no_selections, selection_then}
+use Rattle.graphql_faults.specs.in_grammar.Faults as read
+use Rattle.graphql_faults.specs.in_grammar.Places.{place_in}
+use Rattle.graphql_faults.specs.in_read.declared.fault.SyntaxFaultKind.TheVariants.{NoToken, Unexpected, End}
+use Rattle.graphql_faults.specs.in_read.Reads.{IsDue}
+use Rattle.tree_definitions.specs.in_operations.SelectionTree.{SelectionTrees, FieldTree, no_selections, selection_then}
 use Rattle.graphql_faults.specs.DetailsTree.{Syntax, Nesting}
 use Rattle.verdict_definitions.specs.Texts.{SourceText, Tree, DerivesIn, PassesNumbers, IsRead}
 use Rattle.verdict_definitions.specs.Judge.{IsAccepted}

@@ -2,12 +2,12 @@
 use Rattle.std.proofs.Common.{[], ◌∷◌, codes, None, refl, sym, inl, inr, arith}
 use Rattle.graphql_names.specs.Placed.{Place}
 use Rattle.schema_built_in.specs.Table.{built_in_definitions}
-use Rattle.graphql_read.specs.in_grammar.Places.{place_in}
+use Rattle.graphql_faults.specs.in_grammar.Places.{place_in}
 use Rattle.schema_fold.specs.BuildErrors as folding
 use Rattle.document_typing.specs.TypingFaults as typing
 use Rattle.document_typing.proofs.in_schema.FieldLooks.{fields_plain}
-use Rattle.graphql_read.specs.in_directives.declared.operation_type.OperationType.TheVariants.{Query}
-use Rattle.graphql_read.specs.in_operations.SelectionTree.{FieldTree, no_selections}
+use Rattle.schema_fold.specs.in_directives.declared.operation_type.OperationType.TheVariants.{Query}
+use Rattle.tree_definitions.specs.in_operations.SelectionTree.{FieldTree, no_selections}
 use Rattle.schema_types.specs.TypeParts.{with_fields}
 use Rattle.schema_types.specs.SchemaTree.{SchemaTree}
 use Rattle.schema_types.specs.declared.type_kind.TypeKind.TheVariants as kind

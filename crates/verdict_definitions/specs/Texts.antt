@@ -2,10 +2,10 @@
 use Rattle.std.specs.Prelude.{ℕ, ◌+◌, ◌≤◌, ◌^◌, List, [], ◌∷◌, length}
 use Rattle.graphql_names.specs.Placed.{Place}
 use Rattle.tree_definitions.specs.DefinitionTree.{DefinitionTree}
-use Rattle.graphql_read.specs.in_tokens.Input.{Token}
-use Rattle.graphql_read.specs.in_grammar.Grammar.{Derives}
-use Rattle.graphql_read.specs.in_read_values.Meanings.{in_file}
-use Rattle.graphql_read.specs.Reads.{HasTree, NestingBound}
+use Rattle.graphql_faults.specs.in_tokens.Input.{Token}
+use Rattle.graphql_faults.specs.in_grammar.Grammar.{Derives}
+use Rattle.graphql_faults.specs.in_read_operations.Meanings.{in_file}
+use Rattle.graphql_faults.specs.in_read.Reads.{HasTree, NestingBound}
 
 -- a text, in bytes, and the definitions that one has
 abbrev pub SourceText : Type 0

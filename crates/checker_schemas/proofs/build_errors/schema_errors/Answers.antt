@@ -1,6 +1,6 @@
 use Rattle.std.proofs.Common.{◌++◌, map, ap, ◌∙◌}
 use Rattle.schema_fold.specs.FaultView.{faults_of}
-use Rattle.graphql_faults.specs.DetailsTree.{of_folding}
+use Rattle.graphql_rules.specs.in_faults.DetailsTree.{of_folding}
 use Rattle.checker_schemas.proofs.build_errors.schema_errors.Goals as goal
 
 pub returns : goal.returns

@@ -1,6 +1,6 @@
 use Rattle.std.proofs.Common.{subst}
-use Rattle.graphql_read.specs.ReadFaults.{fault_view, LiesIn}
-use Rattle.graphql_read.specs.declared.fault.ReadFault.{ReadFault}
+use Rattle.verdict_definitions.specs.in_read.ReadFaults.{fault_view, LiesIn}
+use Rattle.verdict_definitions.specs.in_read.declared.fault.ReadFault.{ReadFault}
 use Rattle.checker_texts.proofs.Deciding.{unread_due}
 use Rattle.checker_texts.proofs.read_text.read.Goals as goal
 

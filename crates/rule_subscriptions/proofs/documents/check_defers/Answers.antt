@@ -2,14 +2,14 @@ use Rattle.std.proofs.Common.{◌∙◌, ◌∷◌, [], ◌++◌, map, subst}
 use Rattle.graphql_names.specs.Placed.{Place}
 use Rattle.document_typed_operations.specs.OperationsByName.{left_operations}
 use Rattle.document_meaning.specs.MeantTree.{MeantOperation}
-use Rattle.document_typing.specs.DocumentView.{document_meant, operation_meant}
+use Rattle.rule_always.specs.in_ground.in_typing.DocumentView.{document_meant, operation_meant}
 use Rattle.rule_definitions.specs.Words.{AtSomeIndex}
 use Rattle.rule_document_definitions.specs.Selected.{operations}
 use Rattle.rule_document_definitions.specs.Reached.{AtOperation}
 use Rattle.rule_document_definitions.specs.Defer.{DeferBreaks}
-use Rattle.rule_document_ground.specs.Broken.{AddsBroken}
-use Rattle.rule_document_ground.proofs.AddingBroken.{broken_none, broken_more, broken_same}
-use Rattle.rule_document_ground.proofs.AtReaches.{some_index}
+use Rattle.rule_always.specs.in_ground.Broken.{AddsBroken}
+use Rattle.rule_always.proofs.in_ground.AddingBroken.{broken_none, broken_more, broken_same}
+use Rattle.rule_always.proofs.in_ground.AtReaches.{some_index}
 use Rattle.rule_subscriptions.proofs.Operations.{lent_operation, lent_operations, all_operations, one_behind, lent_more, lent_all}
 use Rattle.rule_subscriptions.proofs.documents.check_defers.Goals as goal
 

@@ -1,10 +1,10 @@
 use Rattle.std.proofs.Common.{◌≡◌, ◌++◌, map}
 use Rattle.rule_document_definitions.specs.Defer.{DeferBreaks}
 use Rattle.document_typed_operations.specs.OperationsByName.{left_operations}
-use Rattle.document_typing.specs.DocumentView.{document_meant, operation_meant}
+use Rattle.rule_always.specs.in_ground.in_typing.DocumentView.{document_meant, operation_meant}
 use Rattle.rule_definitions.specs.Words.{AtSomeIndex}
 use Rattle.rule_document_definitions.specs.Selected.{operations}
-use Rattle.rule_document_ground.specs.Broken.{AddsBroken}
+use Rattle.rule_always.specs.in_ground.Broken.{AddsBroken}
 use Rattle.rule_subscriptions.proofs.Operations.{lent_operations}
 use Rattle.rule_subscriptions.proofs.documents.check_defers.Given as goal
 

@@ -1,10 +1,10 @@
 use Rattle.std.proofs.Common.{◌↔◌, ◌∙◌, ◌++◌, map, sym, ap, subst, Contains}
-use Rattle.document_typing.specs.DocumentView.{document_meant}
+use Rattle.rule_always.specs.in_ground.in_typing.DocumentView.{document_meant}
 use Rattle.rule_document_definitions.specs.Defer.{DeferBreaks, LabelsBreak}
 use Rattle.rule_document_definitions.specs.DocumentRules.{DeferredBreaks}
 use Rattle.rule_document_definitions.specs.Reached.{AtOperation}
-use Rattle.rule_document_ground.specs.Broken.{broken_of}
-use Rattle.rule_document_ground.proofs.AddingBroken.{broken_both}
+use Rattle.rule_always.specs.in_ground.Broken.{broken_of}
+use Rattle.rule_always.proofs.in_ground.AddingBroken.{broken_both}
 use Rattle.rule_subscriptions.proofs.documents.deferred_breaches.Goals as goal
 
 pub returns : goal.returns

@@ -4,7 +4,7 @@ use Rattle.std.proofs.lemmas.List.Concat.{flat_map-append}
 use Rattle.std.proofs.lemmas.Grind.{common_steps}
 use Rattle.tree_definitions.specs.DefinitionTree.{document_tree}
 use Rattle.tree_definitions.specs.Sources.{sources_of}
-use Rattle.graphql_read.specs.ReadFaults.{unnamed_source}
+use Rattle.verdict_definitions.specs.in_read.ReadFaults.{unnamed_source}
 use Rattle.checker_texts.specs.TextsView.{texts_of, trees_of, all_sources}
 use Rattle.checker_texts.proofs.TextsReading.{reading_of, behind_kept, tree_kept}
 use Rattle.checker_texts.proofs.schema_texts.SchemaTexts.keep.Goals as goal
