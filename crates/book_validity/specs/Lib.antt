@@ -23,3 +23,5 @@ pub mod MergingLaws
 pub mod Laws
 pub mod Exceptions
 pub mod Refused
+pub use Rattle.rule_document_ground.specs.in_typing as in_typing
+pub use Rattle.verdict_definitions.specs as in_verdict_definitions

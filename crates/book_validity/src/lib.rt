@@ -10,3 +10,6 @@
 #![tactic(auto)]
 
 pub mod laws;
+
+// Of the crates beneath, for those above.
+pub use rule_document_ground::{BuilderRefusal, ExecutableDocumentBuilder};

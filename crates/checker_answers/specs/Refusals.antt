@@ -1,7 +1,7 @@
 -- What a refusal of texts is answered as.
 use Rattle.std.specs.Prelude.{◌≡◌, ℕ, ◌++◌, List, flat_map, codes, Result, Ok, Err, Vec}
-use Rattle.graphql_faults.specs.DetailsView.{diagnostics_of}
-use Rattle.verdict_definitions.specs.Answer.{fault_line}
+use Rattle.checker_texts.specs.in_faults.DetailsView.{diagnostics_of}
+use Rattle.checker_texts.specs.in_verdict_definitions.Answer.{fault_line}
 use Rattle.checker_texts.specs.declared.refusal.Refusal.{Refusal}
 use Rattle.checker_texts.specs.declared.refusal.Refusal.TheVariants as refusal
 use Rattle.checker_answers.specs.declared.run_fault.Outcome.{Outcome}

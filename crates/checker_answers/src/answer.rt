@@ -3,11 +3,11 @@
 ghost use Rattle.std.specs.Prelude.{◌≡◌, ◌++◌, codes, Some, OnOk, IfOk, string_bytes};
 ghost use Rattle.std.specs.List.{flat_map};
 ghost use Rattle.std.specs.Option.{option_copied};
-ghost use Rattle.graphql_faults.specs.DetailsView.{details_at, diagnostics_of};
-ghost use Rattle.verdict_definitions.specs.Answer.{fault_line, place_text};
-ghost use Rattle.verdict_definitions.specs.Out.{as_lines};
+ghost use Rattle.checker_texts.specs.in_faults.DetailsView.{details_at, diagnostics_of};
+ghost use Rattle.checker_texts.specs.in_verdict_definitions.Answer.{fault_line, place_text};
+ghost use Rattle.checker_texts.specs.in_verdict_definitions.Out.{as_lines};
 
-use graphql_faults::{Details, DiagnosticList};
+use checker_texts::{Details, DiagnosticList};
 use graphql_names::{FileId, SourceSpan};
 use std::alloc::{AllocError, Global};
 

@@ -23,3 +23,6 @@ pub use run_fault::{Outcome, RunFault};
 pub use status::exit_status;
 pub use verdict::{CheckError, Verdict};
 pub use write_device::put;
+
+// Of the crates beneath, for those above.
+pub use checker_texts::{Refusal, SchemaTexts, Unread, only, read};

@@ -1,6 +1,6 @@
 //! What a call that judges texts gives.
 
-use graphql_faults::DiagnosticList;
+use checker_texts::DiagnosticList;
 use thiserror::Error;
 
 /// Whether texts are accepted.

@@ -14,8 +14,8 @@ use Rattle.rule_definitions.specs.Kept.{validated}
 use Rattle.rule_definitions.specs.Rules.{SchemaRules}
 use Rattle.graphql_faults.specs.DetailsTree.{of_folding}
 use Rattle.graphql_faults.specs.DetailsView.{diagnostics_of}
-use Rattle.verdict_definitions.specs.Texts.{Tree}
-use Rattle.verdict_definitions.specs.Says.{AnyFault}
+use Rattle.checker_texts.specs.in_verdict_definitions.Texts.{Tree}
+use Rattle.checker_texts.specs.in_verdict_definitions.Says.{AnyFault}
 use Rattle.checker_schemas.specs.Finishing.{BuildsSchema, RefusesFolding, RefusalOfFolding, RefusesSchemaRules, RefusalOfSchemaRules, IsJudgedSchema, RefusalOfBuilder}
 use Rattle.checker_texts.specs.declared.refusal.Refusal.{Refusal}
 use Rattle.checker_texts.specs.declared.refusal.Refusal.TheVariants.{Faults, Memory, Failed}

@@ -13,9 +13,9 @@ use Rattle.schema_building.specs.SourcesView.{with_sources}
 use Rattle.schema_building.specs.declared.refusal.BuilderRefusal.{BuilderRefusal}
 use Rattle.schema_building.specs.declared.refusal.BuilderRefusal.TheVariants as builder
 use Rattle.schema_building.proofs.Numbering.{count_append}
-use Rattle.verdict_definitions.specs.Texts.{Tree}
-use Rattle.verdict_definitions.specs.Meaning.{all_definitions}
-use Rattle.verdict_definitions.specs.Says.{spent}
+use Rattle.checker_texts.specs.in_verdict_definitions.Texts.{Tree}
+use Rattle.checker_texts.specs.in_verdict_definitions.Meaning.{all_definitions}
+use Rattle.checker_texts.specs.in_verdict_definitions.Says.{spent}
 use Rattle.checker_texts.specs.TellsOnly.{TellsOnly}
 use Rattle.checker_texts.specs.TextsView.{all_sources}
 use Rattle.checker_schemas.specs.Finishing.{IsFilled, RefusalOfNumbers, IsOfBuilder}

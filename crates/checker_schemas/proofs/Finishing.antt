@@ -16,10 +16,10 @@ use Rattle.rule_definitions.specs.Rules.{SchemaRules, RulesFail, BoundFails}
 use Rattle.rule_definitions.specs.Told.{PlacedFault, Told}
 use Rattle.graphql_rules.specs.SchemaTold.{BreaksBesideCycles}
 use Rattle.graphql_faults.specs.DetailsTree.{of_rule, of_folding}
-use Rattle.verdict_definitions.specs.Texts.{SourceText, Tree, Terms, ReadsAll, document_number, AreWithin, AreRead}
-use Rattle.verdict_definitions.specs.Meaning.{all_definitions, schema_of}
-use Rattle.verdict_definitions.specs.Says.{AnyFault, spent, FoldingFails, SchemaFails, SchemaRuleFailsBesideCycles}
-use Rattle.verdict_definitions.specs.Answer.{UnreadFaults, RefusesSchemas}
+use Rattle.checker_texts.specs.in_verdict_definitions.Texts.{SourceText, Tree, Terms, ReadsAll, document_number, AreWithin, AreRead}
+use Rattle.checker_texts.specs.in_verdict_definitions.Meaning.{all_definitions, schema_of}
+use Rattle.checker_texts.specs.in_verdict_definitions.Says.{AnyFault, spent, FoldingFails, SchemaFails, SchemaRuleFailsBesideCycles}
+use Rattle.checker_texts.specs.in_verdict_definitions.Answer.{UnreadFaults, RefusesSchemas}
 use Rattle.schema_building.specs.SourcesView.{with_sources}
 use Rattle.checker_texts.specs.TextSources.{Sources, text_sources}
 use Rattle.checker_texts.specs.Added.{IsNextNumber, AreAdded}

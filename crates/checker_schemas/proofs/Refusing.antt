@@ -2,11 +2,11 @@
 use Rattle.std.proofs.Common.{inl, inr, ◌≡◌, List, refl, subst}
 use Rattle.schema_building.specs.Numbers.{HaveNumbers}
 use Rattle.graphql_faults.specs.DetailsView.{diagnostics_of}
-use Rattle.verdict_definitions.specs.Texts.{SourceText, Tree, Terms, AreRead}
-use Rattle.verdict_definitions.specs.Meaning.{all_definitions}
-use Rattle.verdict_definitions.specs.Judge.{AreSchemasAccepted, AreSchemasCertain}
-use Rattle.verdict_definitions.specs.Says.{AnyFault, FoldingFails, SchemaRuleFails, SchemaFails, SaysSchema}
-use Rattle.verdict_definitions.specs.Answer.{RefusesSchemas}
+use Rattle.checker_texts.specs.in_verdict_definitions.Texts.{SourceText, Tree, Terms, AreRead}
+use Rattle.checker_texts.specs.in_verdict_definitions.Meaning.{all_definitions}
+use Rattle.checker_texts.specs.in_verdict_definitions.Judge.{AreSchemasAccepted, AreSchemasCertain}
+use Rattle.checker_texts.specs.in_verdict_definitions.Says.{AnyFault, FoldingFails, SchemaRuleFails, SchemaFails, SaysSchema}
+use Rattle.checker_texts.specs.in_verdict_definitions.Answer.{RefusesSchemas}
 use Rattle.checker_schemas.specs.Refusals.{RefusalOfSchemas}
 use Rattle.checker_texts.specs.declared.refusal.Refusal.{Refusal}
 use Rattle.checker_texts.specs.declared.refusal.Refusal.TheVariants.{Faults, Memory, Failed}

@@ -5,7 +5,7 @@ use Rattle.indexmap.specs.IndexMap.{insert_entry}
 use Rattle.tree_definitions.specs.Sources.{Source}
 use Rattle.graphql_read.specs.ReadFaults.{unnamed_source}
 use Rattle.schema_building.specs.SourcesView.{with_sources}
-use Rattle.verdict_definitions.specs.Texts.{SourceText}
+use Rattle.checker_texts.specs.in_verdict_definitions.Texts.{SourceText}
 use Rattle.checker_texts.specs.TextSources.{Sources, text_sources}
 
 -- those of two lists are those of one behind those of the other

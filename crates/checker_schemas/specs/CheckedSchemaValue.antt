@@ -2,10 +2,10 @@
 use Rattle.std.specs.Prelude.{◌≡◌, ℕ, List}
 use Rattle.graphql_names.specs.Placed.{Place}
 use Rattle.schema_types.specs.SchemaTree.{SchemaTree}
-use Rattle.verdict_definitions.specs.Texts.{SourceText, Tree, Terms, document_number}
-use Rattle.verdict_definitions.specs.Meaning.{schema_at_hand}
-use Rattle.verdict_definitions.specs.Judge.{AreSchemasAccepted}
-use Rattle.verdict_definitions.specs.Out.{Out}
+use Rattle.checker_texts.specs.in_verdict_definitions.Texts.{SourceText, Tree, Terms, document_number}
+use Rattle.checker_texts.specs.in_verdict_definitions.Meaning.{schema_at_hand}
+use Rattle.checker_texts.specs.in_verdict_definitions.Judge.{AreSchemasAccepted}
+use Rattle.checker_texts.specs.in_verdict_definitions.Out.{Out}
 use Rattle.checker_texts.specs.TextSources.{Sources, text_sources}
 
 -- a checked schema: how many brackets may be open at once, the number of a document, the schema over which documents are

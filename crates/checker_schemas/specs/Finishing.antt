@@ -19,9 +19,9 @@ use Rattle.rule_definitions.specs.Told.{PlacedFault, Told}
 use Rattle.graphql_rules.specs.SchemaTold.{BreaksBesideCycles}
 use Rattle.graphql_faults.specs.DetailsTree.{of_rule, of_folding}
 use Rattle.graphql_faults.specs.DetailsView.{diagnostics_of}
-use Rattle.verdict_definitions.specs.Texts.{Tree}
-use Rattle.verdict_definitions.specs.Meaning.{all_definitions}
-use Rattle.verdict_definitions.specs.Says.{AnyFault, spent}
+use Rattle.checker_texts.specs.in_verdict_definitions.Texts.{Tree}
+use Rattle.checker_texts.specs.in_verdict_definitions.Meaning.{all_definitions}
+use Rattle.checker_texts.specs.in_verdict_definitions.Says.{AnyFault, spent}
 use Rattle.checker_texts.specs.TellsOnly.{TellsOnly}
 use Rattle.checker_texts.specs.declared.refusal.Refusal.{Refusal}
 use Rattle.checker_texts.specs.declared.refusal.Refusal.TheVariants.{Faults, Memory, Failed}

@@ -1,8 +1,8 @@
 -- What the refusals of schema texts say of them.
 use Rattle.std.specs.Prelude.{List}
 use Rattle.graphql_faults.specs.DetailsView.{diagnostics_of}
-use Rattle.verdict_definitions.specs.Texts.{SourceText, Terms}
-use Rattle.verdict_definitions.specs.Answer.{RefusesSchemas}
+use Rattle.checker_texts.specs.in_verdict_definitions.Texts.{SourceText, Terms}
+use Rattle.checker_texts.specs.in_verdict_definitions.Answer.{RefusesSchemas}
 use Rattle.checker_texts.specs.declared.refusal.Refusal.{Refusal}
 use Rattle.checker_texts.specs.declared.refusal.Refusal.TheVariants.{Faults, Memory, Failed}
 

@@ -3,8 +3,8 @@
 ghost use Rattle.std.specs.Prelude.{◌≡◌, ◌≢◌, [], false, map, OnOk, IfOk, IfErr};
 ghost use Rattle.tree_definitions.specs.DefinitionTree.{document_tree};
 ghost use Rattle.graphql_faults.specs.DetailsView.{diagnostics_of};
-ghost use Rattle.graphql_schema.specs.BuilderOf.{builder_value};
-ghost use Rattle.graphql_schema.specs.SchemaOf.{schema_tree};
+ghost use Rattle.checker_texts.specs.in_schema.BuilderOf.{builder_value};
+ghost use Rattle.checker_texts.specs.in_schema.SchemaOf.{schema_tree};
 ghost use Rattle.schema_building.specs.SourcesView.{sources_view};
 ghost use Rattle.schema_building.specs.declared.refusal.BuilderRefusal.TheVariants.{Failed};
 ghost use Rattle.rule_definitions.specs.Judged.{judged};
@@ -17,10 +17,9 @@ ghost use Rattle.checker_schemas.specs.Refusals.{RefusalOfSchemas};
 ghost use Rattle.checker_schemas.specs.Finishing.{IsFilled, RefusalOfNumbers, IsOfBuilder, BuildsSchema, RefusalOfFolding, RefusalOfSchemaRules, IsJudgedSchema, RefusalOfBuilder};
 
 use crate::build_errors::schema_errors;
-use checker_texts::{Refusal, SchemaTexts, next_number, only};
+use checker_texts::{Refusal, Schema, SchemaBuilder, SchemaTexts, next_number, only};
 use graphql_faults::{Details, DiagnosticList};
 use graphql_rules::validate_schema;
-use graphql_schema::{Schema, SchemaBuilder};
 use schema_building::BuilderRefusal;
 use schema_components::Extensions;
 use std::alloc::{AllocError, Global};

@@ -3,12 +3,12 @@
 ghost use Rattle.std.specs.Prelude.{◌≡◌, IfOk, string_bytes};
 ghost use Rattle.tree_definitions.specs.DefinitionTree.{document_tree};
 ghost use Rattle.tree_definitions.specs.DocumentLayout.{document_text};
-ghost use Rattle.tree_printing.specs.StringLayout.{is_blank};
+ghost use Rattle.tree_literals.specs.StringLayout.{is_blank};
 ghost use Rattle.checker_settings.specs.Layouts.{prefix_of};
 
 use std::alloc::{AllocError, Global};
 use tree_definitions::Document;
-use tree_printing::Tree;
+use tree_literals::Tree;
 
 /// How a text is laid out.
 #[derive(Clone, Copy, Debug, PartialEq, Eq)]

@@ -6,13 +6,13 @@ use Rattle.graphql_read.specs.in_tokens.Input.{Token}
 use Rattle.graphql_read.proofs.in_tokens.Lexed.{lex_unique}
 use Rattle.graphql_read.specs.in_grammar.Faults as read
 use Rattle.graphql_read.proofs.in_grammar.Laws.{one_document}
-use Rattle.graphql_read.specs.in_read_values.Meanings.{in_file}
+use Rattle.graphql_read.specs.in_read_operations.Meanings.{in_file}
 use Rattle.graphql_read.specs.Reads.{IsDue, NestingBound}
 use Rattle.graphql_read.specs.ReadFaults.{fault_at}
 use Rattle.graphql_read.specs.declared.fault.SyntaxFaultKind.{SyntaxFaultKind}
 use Rattle.graphql_read.specs.declared.fault.SyntaxFaultKind.TheVariants.{NoToken, Unexpected, End}
 use Rattle.graphql_read.proofs.Bounds.{memory_alone}
-use Rattle.graphql_faults.specs.DetailsTree.{Syntax}
+use Rattle.verdict_definitions.specs.in_faults.DetailsTree.{Syntax}
 use Rattle.verdict_definitions.specs.Texts.{SourceText, Tree, DerivesIn, ReadsText, ReadsAll, IsWithin, AreWithin, IsRead, AreRead}
 use Rattle.verdict_definitions.specs.Says.{AnyFault, TellsReadFault, IsFaultOfText, UnreadFault, UnreadFaultFrom}
 use Rattle.verdict_definitions.specs.Answer.{UnreadFaults, AllSay}

@@ -3,7 +3,7 @@ use Rattle.std.proofs.Common.{◌≡◌, ◌≢◌, ◌+◌, ◌<◌, ◌^◌, �
 use Rattle.graphql_names.specs.declared.span.FileId.{FileId}
 use Rattle.graphql_read.specs.Reads.{NestingBound}
 use Rattle.graphql_read.specs.ReadFaults.{unnamed_source}
-use Rattle.graphql_faults.specs.DetailsView.{details_at, diagnostics_of}
+use Rattle.verdict_definitions.specs.in_faults.DetailsView.{details_at, diagnostics_of}
 use Rattle.verdict_definitions.specs.Texts.{SourceText, Tree, ReadsText}
 use Rattle.verdict_definitions.specs.Says.{AnyFault, spent}
 use Rattle.checker_texts.specs.Unread.{IsUnread}

@@ -1,6 +1,6 @@
 -- Private: leads to what `Checker::finish` answers. How a checker keeps the schema texts that it was given: what reading them gave.
 use Rattle.std.specs.Prelude.{◌≡◌, ◌≢◌, ℕ, ◌+◌, ◌^◌, ◌<◌, ◌⊎◌, List, [], ◌∷◌, ◌++◌, Some}
-use Rattle.graphql_faults.specs.DetailsView.{details_at}
+use Rattle.verdict_definitions.specs.in_faults.DetailsView.{details_at}
 use Rattle.verdict_definitions.specs.Texts.{SourceText, Tree, Terms, ReadsAll, document_number}
 use Rattle.verdict_definitions.specs.Says.{AnyFault}
 use Rattle.verdict_definitions.specs.Answer.{UnreadFaults}

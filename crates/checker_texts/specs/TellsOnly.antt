@@ -1,6 +1,6 @@
 -- Private: leads to `RefusalOfSchemas` and `RefusalOfDocument`. A refusal that tells one fault.
 use Rattle.std.specs.Prelude.{◌≡◌, [], ◌∷◌}
-use Rattle.graphql_faults.specs.DetailsView.{diagnostics_of}
+use Rattle.verdict_definitions.specs.in_faults.DetailsView.{diagnostics_of}
 use Rattle.verdict_definitions.specs.Says.{AnyFault}
 use Rattle.checker_texts.specs.declared.refusal.Refusal.{Refusal}
 use Rattle.checker_texts.specs.declared.refusal.Refusal.TheVariants.{Faults, Memory, Failed}

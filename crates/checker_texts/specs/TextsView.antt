@@ -4,7 +4,7 @@ use Rattle.graphql_names.specs.declared.span.FileId.{FileId}
 use Rattle.tree_definitions.specs.DefinitionTree.{document_tree}
 use Rattle.tree_definitions.specs.Sources.{sources_of}
 use Rattle.tree_definitions.specs.declared.document.Document.{Document}
-use Rattle.graphql_faults.specs.DetailsView.{diagnostics_of}
+use Rattle.verdict_definitions.specs.in_faults.DetailsView.{diagnostics_of}
 use Rattle.verdict_definitions.specs.Texts.{SourceText, Tree, Terms}
 use Rattle.checker_texts.specs.TextSources.{Sources}
 use Rattle.checker_texts.specs.Added.{AreAdded}

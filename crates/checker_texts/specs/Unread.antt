@@ -1,7 +1,7 @@
 -- Private: leads to `UnreadFault` of `verdict_definitions`. What reading answers of a text without a tree within the limit.
 use Rattle.std.specs.Prelude.{◌≡◌, ℕ, List, Some}
 use Rattle.graphql_read.specs.in_grammar.Faults as read
-use Rattle.graphql_faults.specs.DetailsView.{details_at}
+use Rattle.verdict_definitions.specs.in_faults.DetailsView.{details_at}
 use Rattle.verdict_definitions.specs.Says.{TellsReadFault, IsFaultOfText}
 use Rattle.checker_texts.specs.declared.read_text.Unread.{Unread}
 use Rattle.checker_texts.specs.declared.read_text.Unread.TheVariants as unread

@@ -14,3 +14,6 @@ mod schema_texts;
 pub use read_text::{Unread, read};
 pub use refusal::{Refusal, only};
 pub use schema_texts::{SchemaTexts, next_number};
+
+// Of the crates beneath, for those above.
+pub use verdict_definitions::{Details, DiagnosticList, Schema, SchemaBuilder};

@@ -10,11 +10,11 @@ ghost use Rattle.graphql_read.specs.declared.fault.ReadFault.TheVariants.{Nestin
 ghost use Rattle.verdict_definitions.specs.Texts.{ReadsText};
 ghost use Rattle.checker_texts.specs.Unread.{IsUnread, TellsUnread};
 
-use graphql_faults::Details;
 use graphql_names::{FileId, SourceSpan};
 use graphql_read::{ReadFault, SyntaxFault, parse_document};
 use std::alloc::Global;
 use tree_definitions::Document;
+use verdict_definitions::Details;
 
 /// Why a text has no tree.
 #[derive(Drop)]

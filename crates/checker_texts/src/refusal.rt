@@ -1,13 +1,13 @@
 //! Why texts are not accepted.
 
-ghost use Rattle.graphql_faults.specs.DetailsView.{details_at};
+ghost use Rattle.verdict_definitions.specs.in_faults.DetailsView.{details_at};
 ghost use Rattle.checker_texts.specs.TellsOnly.{TellsOnly};
 
-use graphql_faults::{Details, DiagnosticList};
 use graphql_names::SourceSpan;
 use std::alloc::{AllocError, Global};
 use std::fmt;
 use thiserror::Error;
+use verdict_definitions::{Details, DiagnosticList};
 
 /// Why texts are not accepted.
 #[derive(Drop, Error)]

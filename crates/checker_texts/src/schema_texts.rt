@@ -5,17 +5,17 @@ ghost use Rattle.tree_definitions.specs.DefinitionTree.{document_tree};
 ghost use Rattle.tree_definitions.specs.Sources.{sources_of};
 ghost use Rattle.graphql_read.specs.Reads.{NestingBound};
 ghost use Rattle.graphql_read.specs.ReadFaults.{unnamed_source};
-ghost use Rattle.graphql_faults.specs.DetailsView.{diagnostics_of};
+ghost use Rattle.verdict_definitions.specs.in_faults.DetailsView.{diagnostics_of};
 ghost use Rattle.verdict_definitions.specs.Texts.{ReadsText};
 ghost use Rattle.checker_texts.specs.Added.{IsToldBehind};
 ghost use Rattle.checker_texts.specs.TextsView.{terms_of, texts_of, IsReadingOf, IsBefore};
 
 use crate::read_text::{Unread, read};
-use graphql_faults::{Details, DiagnosticList};
 use graphql_names::{FileId, Files, Spent};
 use schema_components::Extensions;
 use std::alloc::{AllocError, Global};
 use tree_definitions::Document;
+use verdict_definitions::{Details, DiagnosticList};
 
 /// Schema texts in order, and what reading them gave.
 #[derive(Drop)]

@@ -3,7 +3,7 @@ use Rattle.std.specs.Prelude.{List, ◌++◌, map, option_to_list}
 use Rattle.graphql_names.specs.Placed.{Placed}
 use Rattle.tree_operations.specs.SelectionTree.{SelectionTree, FieldTree, SpreadTree, InlineTree, SelectionTrees, no_selections, selection_then}
 use Rattle.tree_operations.specs.OperationTree.{OperationTree, FragmentTree}
-use Rattle.tree_definitions.specs.DefinitionTree.{DefinitionTree, Operation, Fragment}
+use Rattle.document_typed_selections.specs.in_definitions.DefinitionTree.{DefinitionTree, Operation, Fragment}
 use Rattle.document_typed_selections.specs.TypedTree.{TypedSelection, TypedField, TypedSpread, TypedInline, TypedSet, typed_set, TypedSelections, no_typed, typed_then, set_type}
 use Rattle.document_typed_operations.specs.TypedDocument.{TypedOperation, TypedFragment, TypedDocumentTree}
 

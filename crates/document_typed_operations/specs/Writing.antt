@@ -8,8 +8,8 @@ use Rattle.graphql_names.specs.declared.node.Node.{Node}
 use Rattle.tree_directives.specs.DirectiveTree.{directives_tree}
 use Rattle.tree_operations.specs.SelectionTree.{SelectionTree, FieldTree, InlineTree, selection_tree, selection_trees}
 use Rattle.tree_operations.specs.declared.selection.Selection.{Selection}
-use Rattle.tree_definitions.specs.DefinitionTree.{DefinitionTree, definition_tree}
-use Rattle.tree_definitions.specs.declared.definition.Definition.{Definition}
+use Rattle.document_typed_selections.specs.in_definitions.DefinitionTree.{DefinitionTree, definition_tree}
+use Rattle.document_typed_selections.specs.in_definitions.declared.definition.Definition.{Definition}
 use Rattle.document_typed_selections.specs.TypedParts.{typed_head}
 use Rattle.document_typed_selections.specs.declared.selection.Field.{Field}
 use Rattle.document_typed_selections.specs.declared.selection.InlineFragment.{InlineFragment}

@@ -4,11 +4,10 @@ ghost use Rattle.document_typed_operations.specs.TypedDocument.{typed_document_t
 
 use crate::operation::Fragment;
 use crate::operation_map::OperationMap;
-use document_typed_selections::SelectionSet;
+use document_typed_selections::{SelectionSet, SourceFile};
 use graphql_names::{FileId, Name, Node};
 use indexmap::IndexMap;
 use std::alloc::Global;
-use tree_definitions::SourceFile;
 
 /// Fragments under their names, in order.
 pub type FragmentMap = IndexMap<Name, Node<Fragment>>;

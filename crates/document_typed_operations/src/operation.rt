@@ -8,9 +8,8 @@ ghost use Rattle.document_typed_operations.specs.TypedDocument.{typed_operation_
 use document_typed_selections::SelectionSet;
 use graphql_names::{Name, Node};
 use std::alloc::AllocError;
-use tree_copies::{copies_of_four, copies_of_three};
 use tree_directives::DirectiveList;
-use tree_literals::NamedType;
+use tree_literals::{NamedType, copies_of_four, copies_of_three};
 use tree_operations::{OperationType, VariableDefinition};
 
 /// An operation (section 2.3), its selection set on the root type of its kind.

@@ -11,7 +11,7 @@ use crate::written_node::{node_at, push_made};
 use document_typed_selections::{Field, FragmentSpread, InlineFragment, Selection, SelectionSet};
 use graphql_names::Node;
 use std::alloc::{AllocError, Global};
-use tree_copies::{copies_of_four, copies_of_two};
+use tree_literals::{copies_of_four, copies_of_two};
 use tree_operations as ast;
 
 /// The selections of a set, which share what they hold.

@@ -1,7 +1,7 @@
 //! Documents as they are written: without definitions and types.
 ghost use Rattle.std.specs.Prelude.{◌≡◌, [], option_to_list, IfOk, OnOk};
 ghost use Rattle.graphql_names.specs.Placed.{node_tree};
-ghost use Rattle.tree_definitions.specs.DefinitionTree.{definition_tree, document_tree};
+ghost use Rattle.document_typed_selections.specs.in_definitions.DefinitionTree.{definition_tree, document_tree};
 ghost use Rattle.document_typed_operations.specs.TypedDocument.{typed_operation_tree, typed_fragment_tree, typed_document_tree};
 ghost use Rattle.document_typed_operations.specs.ToAst.{ast_operation, ast_fragment, ast_document};
 ghost use Rattle.document_typed_operations.specs.Writing.{Writes, written_operations, written_fragments};
@@ -10,10 +10,10 @@ use crate::document::ExecutableDocument;
 use crate::operation::{Fragment, Operation};
 use crate::selections_to_ast::set_to_ast;
 use crate::written_node::{node_at, push_made};
+use document_typed_selections::{Definition, Document};
 use graphql_names::Node;
 use std::alloc::{AllocError, Global};
-use tree_copies::copies_of_three;
-use tree_definitions::{Definition, Document};
+use tree_literals::copies_of_three;
 use tree_operations::{FragmentDefinition, OperationDefinition};
 
 impl ExecutableDocument {

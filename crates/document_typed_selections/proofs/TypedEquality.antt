@@ -6,7 +6,7 @@ use Rattle.graphql_names.specs.Node.{content, place}
 use Rattle.graphql_names.specs.Placed.{Placed, Place, name_tree, unplaced_text}
 use Rattle.tree_directives.specs.DirectiveTree.{argument_tree, unplaced_argument}
 use Rattle.tree_definitions.specs.in_operations.SelectionTree.{FieldHead}
-use Rattle.tree_type_members.specs.TypeSystemTree.{FieldDefinitionTree, field_definition_tree, unplaced_field_definition}
+use Rattle.tree_definitions.specs.in_type_members.TypeSystemTree.{FieldDefinitionTree, field_definition_tree, unplaced_field_definition}
 use Rattle.document_typed_selections.specs.TypedTree.{TypedSelection, TypedField, TypedSpread, TypedInline, TypedSet, typed_set, TypedSelections, typed_then, typed_selections, typed_selection_tree, typed_set_tree, unplaced_typed_selection, unplaced_typed_set, unplaced_typed_selections}
 use Rattle.document_typed_selections.specs.TypedParts.{typed_field, typed_spread, typed_inline}
 use Rattle.tree_definitions.proofs.in_values.Decided.{Each, through, carried, pair_decides, name_decides, node_decides, nodes_decide, options_decide}

@@ -8,7 +8,7 @@ use Rattle.graphql_names.specs.declared.node.Node.{Node}
 use Rattle.graphql_names.specs.Placed.{Place, Text, name_tree}
 use Rattle.tree_directives.specs.DirectiveTree.{InputValues}
 use Rattle.tree_directives.specs.DirectiveQueries.{input_value_has_name}
-use Rattle.tree_type_members.specs.ArgumentQueries.{argument_named}
+use Rattle.tree_definitions.specs.in_type_members.ArgumentQueries.{argument_named}
 use Rattle.document_typed_selections.specs.TypedTree.{TypedSelection, TypedField, TypedInline, TypedSet, typed_set, TypedSelections, typed_then, typed_selections, AtPlace, field_step, inline_step, set_step, selection_step, typed_selection_tree, typed_set_tree, holds_none}
 use Rattle.document_typed_selections.specs.TypedParts.{typed_field, typed_spread, typed_inline, typed_field_node, typed_spread_node, typed_inline_node, and_then}
 use Rattle.document_typed_selections.specs.OwnFields.{fields_in, and_field, field_nodes}

@@ -9,7 +9,7 @@ use Rattle.tree_literals.specs.TypeQueries.{inner_name}
 use Rattle.tree_literals.specs.ValueTree.{ValueTree}
 use Rattle.tree_directives.specs.DirectiveTree.{ArgumentTree, Arguments, Directives, argument_tree, directives_tree}
 use Rattle.tree_definitions.specs.in_operations.SelectionTree.{FieldHead}
-use Rattle.tree_type_members.specs.TypeSystemTree.{FieldDefinitionTree, field_definition_tree}
+use Rattle.tree_definitions.specs.in_type_members.TypeSystemTree.{FieldDefinitionTree, field_definition_tree}
 use Rattle.document_typed_selections.specs.TypedTree.{TypedSelection, TypedField, TypedSpread, TypedInline, TypedSet, typed_set, TypedSelections, no_typed, typed_then, typed_set_tree}
 use Rattle.document_typed_selections.specs.declared.selection.Field.{Field}
 use Rattle.document_typed_selections.specs.declared.selection.FragmentSpread.{FragmentSpread}

@@ -5,7 +5,7 @@ use Rattle.graphql_names.specs.Node.{content, place}
 use Rattle.graphql_names.specs.Placed.{Placed, Place, Text, name_tree, node_tree, unplaced_text, unplaced_node}
 use Rattle.tree_directives.specs.DirectiveTree.{Directives, argument_tree, directives_tree, unplaced_directives}
 use Rattle.tree_definitions.specs.in_operations.SelectionTree.{FieldHead, unplaced_head}
-use Rattle.tree_type_members.specs.TypeSystemTree.{FieldDefinitionTree, field_definition_tree, unplaced_field_definition}
+use Rattle.tree_definitions.specs.in_type_members.TypeSystemTree.{FieldDefinitionTree, field_definition_tree, unplaced_field_definition}
 use Rattle.document_typed_selections.specs.declared.selection.Selection.{Selection}
 use Rattle.document_typed_selections.specs.declared.selection.Selection.TheOpen.{Selection-F, Field-F, InlineFragment-F, SelectionSet-F, Field, FragmentSpread, InlineFragment}
 use Rattle.document_typed_selections.specs.declared.selection.Selection.TheFolds.{fold-Selection, fold-SelectionSet}

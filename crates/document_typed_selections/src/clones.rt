@@ -5,7 +5,7 @@ ghost use Rattle.document_typed_selections.specs.TypedParts.{typed_field, typed_
 
 use crate::selection::{Field, FragmentSpread, InlineFragment, Selection, SelectionSet};
 use std::alloc::AllocError;
-use tree_copies::{copies_of_three, copies_of_two};
+use tree_literals::{copies_of_three, copies_of_two};
 
 impl Clone for Selection {
     ghost is_clone = { λ s copy. typed_selection_tree copy ≡ typed_selection_tree s };

@@ -7,16 +7,16 @@ ghost use Rattle.tree_literals.specs.ValueTree.{value_tree};
 ghost use Rattle.tree_directives.specs.DirectiveTree.{argument_tree, directive_tree};
 ghost use Rattle.tree_directives.specs.DirectiveQueries.{given_value, named_argument_value, lent_value};
 ghost use Rattle.tree_definitions.specs.in_operations.SelectionParts.{response_name_of};
-ghost use Rattle.tree_type_members.specs.TypeSystemTree.{field_definition_tree};
+ghost use Rattle.tree_definitions.specs.in_type_members.TypeSystemTree.{field_definition_tree};
 ghost use Rattle.document_typed_selections.specs.TypedTree.{no_typed, typed_then, typed_selection_tree, typed_selections};
 ghost use Rattle.document_typed_selections.specs.TypedParts.{typed_head, own_definition, typed_field, bare_field, new_argument, aliased, and_arguments, and_directives, and_selections};
 
 use crate::selection::{Field, Selection, SelectionSet};
 use graphql_names::{Name, Node};
 use std::alloc::{AllocError, Global};
+use tree_definitions::FieldDefinition;
 use tree_directives::{Argument, ArgumentByNameError, Directive, DirectiveList};
 use tree_literals::{Type, Value};
-use tree_type_members::FieldDefinition;
 
 #[tactic(auto, using(crate::proofs::TypedTrees::added_rules))]
 impl Field {

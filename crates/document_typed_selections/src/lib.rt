@@ -17,3 +17,6 @@ mod selection_set;
 
 pub use fields::Fields;
 pub use selection::{Field, FragmentSpread, InlineFragment, Selection, SelectionSet};
+
+// Of the crates beneath, for those above.
+pub use tree_definitions::{Definition, Document, SourceFile};

@@ -6,9 +6,9 @@ ghost use Rattle.document_typed_selections.specs.TypedTree.{typed_selection_tree
 ghost use Rattle.document_typed_selections.specs.TypedParts.{typed_place, typed_directives, typed_field_node, typed_spread_node, typed_inline_node, as_typed_field, as_typed_spread, as_typed_inline};
 
 use graphql_names::{Name, Node, SourceSpan};
+use tree_definitions::FieldDefinition;
 use tree_directives::{Argument, DirectiveList};
 use tree_literals::NamedType;
-use tree_type_members::FieldDefinition;
 
 /// What a selection set holds (section 2.4).
 #[cycle(selection)]

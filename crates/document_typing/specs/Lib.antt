@@ -20,3 +20,5 @@ pub mod BuilderView
 pub use Rattle.graphql_schema.specs as in_schema
 pub use Rattle.tree_literals.specs as in_literals
 pub use Rattle.document_typed_operations.specs as in_typed_operations
+pub use Rattle.graphql_schema.specs.in_schema_building as in_schema_building
+pub use Rattle.graphql_schema.specs.in_built_in as in_built_in

@@ -19,9 +19,8 @@ use crate::typing::Typing;
 use document_typed_operations::ExecutableDocument;
 use fault_document_data::BuildError;
 use graphql_names::{FileId, SourceSpan};
-use graphql_schema::Schema;
+use graphql_schema::{Schema, add_sources};
 use indexmap::IndexMap;
-use schema_building::add_sources;
 use std::alloc::{AllocError, Global};
 use tree_definitions::{Definition, Document, SourceFile};
 

@@ -25,8 +25,8 @@ use document_typed_operations::{Fragment, FragmentMap, Operation, OperationMap};
 use fault_document_data::BuildError;
 use graphql_names::{Name, Node, SourceSpan};
 use std::alloc::{AllocError, Global};
-use tree_copies::{copies_of_three, copies_of_two};
 use tree_definitions::Definition;
+use tree_literals::{copies_of_three, copies_of_two};
 use tree_operations::{FragmentDefinition, OperationDefinition};
 
 /// What is kept of the definitions so far, and what is told of them.

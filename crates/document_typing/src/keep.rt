@@ -10,7 +10,7 @@ ghost use Rattle.document_typing.specs.Telling.{Keeps, StayDefined, StayDefinedA
 use document_typed_selections as typed;
 use graphql_names::Node;
 use std::alloc::{AllocError, Global};
-use tree_copies::{copies_of_four, copies_of_two};
+use tree_literals::{copies_of_four, copies_of_two};
 use tree_operations::{Field, FragmentSpread, InlineFragment};
 use tree_type_members::FieldDefinition;
 

@@ -24,5 +24,7 @@ pub use fault_document_data::{
     BuildError, ConflictingFieldArgument, ConflictingFieldName, ConflictingFieldType,
 };
 pub use field_set::field_set_from_ast;
-pub use graphql_schema::{FieldLookupError, Schema};
+pub use graphql_schema::{FieldLookupError, Schema, SchemaBuilder};
 pub use refusal::BuilderRefusal;
+
+// Of the crates beneath, for those above.

@@ -15,3 +15,6 @@ mod walk;
 
 pub use fields::{AllFields, RootFields};
 pub use selections::{ReachedSelections, reached_fragments};
+
+// Of the crates beneath, for those above.
+pub use document_typed_operations::{Fragment, FragmentMap};

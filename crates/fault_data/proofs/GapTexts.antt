@@ -1,8 +1,8 @@
 -- The texts of gaps: of a type that stands alone, and of types and values without their places.
 use Rattle.std.proofs.Common.{◌≡◌, ℕ, List, [], ◌∷◌, refl, ap, append-nil}
 use Rattle.std.specs.Prelude.{codes}
-use Rattle.tree_operations.specs.in_printing.Joined.{joined}
-use Rattle.tree_operations.specs.in_printing.LineLayout.{standing, default_prefix}
+use Rattle.tree_operations.specs.in_literals.Joined.{joined}
+use Rattle.tree_operations.specs.in_literals.LineLayout.{standing, default_prefix}
 use Rattle.tree_literals.specs.TypeTree.{TypeTree, NamedTree, NonNullNamedTree, ListTree, NonNullListTree, unplaced_type}
 use Rattle.tree_literals.specs.ValueTree.{ValueTree, NullTree, EnumTree, VariableTree, StringTree, FloatTree, IntTree, BooleanTree, ObjectTree, unplaced_value}
 use Rattle.tree_literals.specs.ValueTree as value

@@ -17,7 +17,7 @@ use Rattle.rule_definitions.specs.in_schema_types.SchemaTree.{SchemaType, Schema
 use Rattle.rule_definitions.specs.in_schema_types.Plain.{plain_type, plain_directive_definition}
 use Rattle.rule_definitions.specs.in_schema_types.Looks.{TypeLooks, type_looks}
 use Rattle.rule_definitions.specs.in_schema_types.Addresses.{under, or_nothing, inner_name_place, field_at, value_at, input_at, listed}
-use Rattle.schema_types.proofs.UnderNames.{get_under}
+use Rattle.rule_definitions.proofs.in_schema_types.UnderNames.{get_under}
 use Rattle.rule_definitions.specs.Judged.{judged}
 use Rattle.rule_definitions.specs.Names.{named_in}
 

@@ -7,7 +7,7 @@ use schema_coordinates::{
     TypeAttributeCoordinate, TypeCoordinate,
 };
 use std::alloc::AllocError;
-use tree_copies::{copies_of_three, copies_of_two};
+use tree_literals::{copies_of_three, copies_of_two};
 
 /// A copy of the coordinate.
 pub(crate) fn copied_attribute(

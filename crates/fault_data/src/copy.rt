@@ -8,7 +8,7 @@ use crate::schema_copies::{copied_cycle, copied_implementation, with_set};
 use crate::use_copies::{copied_document, copied_use, copied_value};
 use graphql_names::Name;
 use std::alloc::AllocError;
-use tree_copies::copies_of_two;
+use tree_literals::copies_of_two;
 
 impl DiagnosticData {
     /// The same data again: names and nodes are shared, lists, strings and the boxes of types are copied.

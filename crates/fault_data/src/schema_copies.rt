@@ -6,7 +6,7 @@ ghost use Rattle.fault_data.specs.DiagnosticView.{diagnostic_of};
 use crate::diagnostic_data::DiagnosticData;
 use graphql_names::{Name, SourceSpan};
 use std::alloc::AllocError;
-use tree_copies::{copies_of_five, copies_of_four, copies_of_three, copies_of_two};
+use tree_literals::{copies_of_five, copies_of_four, copies_of_three, copies_of_two};
 
 /// What is wrong with a type that lacks its members, with a copy of the type's name and of its extensions' places.
 pub(crate) fn with_set(

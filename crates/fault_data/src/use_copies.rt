@@ -6,7 +6,7 @@ ghost use Rattle.fault_data.specs.DiagnosticView.{diagnostic_of};
 use crate::coordinate_copies::{copied_attribute, copied_coordinate};
 use crate::diagnostic_data::DiagnosticData;
 use std::alloc::AllocError;
-use tree_copies::{copies_of_four, copies_of_three, copies_of_two};
+use tree_literals::{copies_of_four, copies_of_three, copies_of_two};
 
 /// A copy of what is wrong with a use of a directive or an argument.
 pub(crate) fn copied_use(diagnostic: &DiagnosticData) -> Result<DiagnosticData, AllocError>

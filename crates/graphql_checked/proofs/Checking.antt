@@ -5,8 +5,8 @@ use Rattle.schema_types.specs.SchemaTree.{SchemaTree}
 use Rattle.document_meaning.specs.MeantTree.{MeantDocument}
 use Rattle.document_typed_operations.specs.TypedDocument.{TypedDocumentTree}
 use Rattle.document_typed_operations.specs.ToAst.{ast_document}
-use Rattle.document_typing.specs.DocumentView.{meant_document}
-use Rattle.document_typing.proofs.WrittenMeant.{document-written}
+use Rattle.book_validity.specs.in_typing.DocumentView.{meant_document}
+use Rattle.book_validity.proofs.in_typing.WrittenMeant.{document-written}
 use Rattle.rule_definitions.proofs.Lists.{not_in_nil, only}
 use Rattle.document_meaning.specs.Unplaced.{unplaced_document}
 use Rattle.rule_definitions.specs.Judged.{judged}
@@ -18,20 +18,20 @@ use Rattle.rule_lasting.proofs.Reasons.{lasting_is_fault, cycle_is_fault}
 use Rattle.graphql_faults.specs.DetailsTree.{of_typing}
 use Rattle.graphql_faults.specs.DetailsView.{diagnostics_of}
 use Rattle.graphql_validation.specs.TellsDocument.{FailsBesides, SomeFails}
-use Rattle.verdict_definitions.specs.Texts.{SourceText, Tree}
-use Rattle.verdict_definitions.specs.Meaning.{document_over}
-use Rattle.verdict_definitions.specs.Judge.{IsDocumentCertain}
-use Rattle.verdict_definitions.specs.Says.{AnyFault, UnreadFault, TypingFailsOver, RuleFailsBeside, DocumentFailsOver}
-use Rattle.verdict_definitions.specs.Out.{Layout, layout_text}
-use Rattle.verdict_definitions.specs.Answer.{UnreadAlone, RefusesDocument, WritesDocument}
+use Rattle.book_validity.specs.in_verdict_definitions.Texts.{SourceText, Tree}
+use Rattle.book_validity.specs.in_verdict_definitions.Meaning.{document_over}
+use Rattle.book_validity.specs.in_verdict_definitions.Judge.{IsDocumentCertain}
+use Rattle.book_validity.specs.in_verdict_definitions.Says.{AnyFault, UnreadFault, TypingFailsOver, RuleFailsBeside, DocumentFailsOver}
+use Rattle.book_validity.specs.in_verdict_definitions.Out.{Layout, layout_text}
+use Rattle.book_validity.specs.in_verdict_definitions.Answer.{UnreadAlone, RefusesDocument, WritesDocument}
 use Rattle.checker_schemas.specs.CheckedSchemaValue.{CheckedSchemaValue}
 use Rattle.graphql_checked.specs.CheckerValue.{IsCheckedDocumentOf}
 use Rattle.graphql_checked.specs.DocumentRefusals.{RefusalOfDocument, TypingOrLastingFails, RefusalWithLasting}
-use Rattle.checker_texts.specs.TellsOnly.{TellsOnly}
+use Rattle.checker_answers.specs.in_checker_texts.TellsOnly.{TellsOnly}
 use Rattle.graphql_checked.specs.Checking.{IsReadDocument, IsUnreadDocument, TypesDocument, RefusalOfTyping, RefusalOfRules}
-use Rattle.checker_texts.specs.declared.refusal.Refusal.{Refusal}
-use Rattle.checker_texts.specs.declared.refusal.Refusal.TheVariants.{Faults, Memory, Failed}
-use Rattle.checker_texts.proofs.Deciding.{one_tree, unread_not_read, is_read}
+use Rattle.checker_answers.specs.in_checker_texts.declared.refusal.Refusal.{Refusal}
+use Rattle.checker_answers.specs.in_checker_texts.declared.refusal.Refusal.TheVariants.{Faults, Memory, Failed}
+use Rattle.checker_answers.proofs.in_checker_texts.Deciding.{one_tree, unread_not_read, is_read}
 
 -- what is told in full, in the words of the rules on documents
 besides : (schema : SchemaTree Place) (document : MeantDocument Place) (fault : PlacedDocumentFault) → RuleFailsBeside (places_in schema) (judged schema) document fault → FailsBesides schema document fault

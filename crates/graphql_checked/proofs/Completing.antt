@@ -6,10 +6,10 @@ use Rattle.std.specs.Prelude.{Err, Ok, IfSome, IsUtf8, String, string_bytes, Vec
 use Rattle.std.specs.List.{All, AllZip}
 use Rattle.graphql_names.specs.declared.device.Device.{Device}
 use Rattle.graphql_names.specs.Device.{device_failed}
-use Rattle.verdict_definitions.specs.Texts.{SourceText, Terms}
-use Rattle.verdict_definitions.specs.Judge.{IsCertain}
-use Rattle.verdict_definitions.specs.Out.{Layout}
-use Rattle.verdict_definitions.specs.Answer.{Answer}
+use Rattle.book_validity.specs.in_verdict_definitions.Texts.{SourceText, Terms}
+use Rattle.book_validity.specs.in_verdict_definitions.Judge.{IsCertain}
+use Rattle.book_validity.specs.in_verdict_definitions.Out.{Layout}
+use Rattle.book_validity.specs.in_verdict_definitions.Answer.{Answer}
 use Rattle.checker_answers.specs.Devices.{IsTextOf, TellsText, AreTextsOf, IsNotUtf8Of, IsNotUtf8At, HaveNotFailed}
 use Rattle.checker_answers.specs.ReadFaults.{IsTextFault, numbered_fault, IsReadFault, IsPutFault}
 use Rattle.checker_answers.specs.declared.read_device.TextFault.{TextFault}

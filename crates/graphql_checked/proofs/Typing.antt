@@ -7,13 +7,13 @@ use Rattle.schema_types.specs.SchemaTree.{SchemaTree}
 use Rattle.schema_types.specs.Plain.{plain}
 use Rattle.document_meaning.specs.MeantTree.{MeantDocument}
 use Rattle.document_meaning.specs.Unplaced.{unplaced_document}
-use Rattle.document_typing.specs.Meanings.{meanings}
-use Rattle.document_typing.specs.KeptDocument.{kept_document}
-use Rattle.document_typing.specs.TypedByPlace.{IsTypedDocument}
-use Rattle.document_typing.specs.TypingFaults as typing
-use Rattle.document_typing.specs.TypingFaults.{TypingFails}
-use Rattle.document_typing.specs.OutDoc.{written_document, out_doc}
-use Rattle.document_typing.specs.BuilderView.{DocumentBuilder}
+use Rattle.book_validity.specs.in_typing.Meanings.{meanings}
+use Rattle.book_validity.specs.in_typing.KeptDocument.{kept_document}
+use Rattle.book_validity.specs.in_typing.TypedByPlace.{IsTypedDocument}
+use Rattle.book_validity.specs.in_typing.TypingFaults as typing
+use Rattle.book_validity.specs.in_typing.TypingFaults.{TypingFails}
+use Rattle.book_validity.specs.in_typing.OutDoc.{written_document, out_doc}
+use Rattle.book_validity.specs.in_typing.BuilderView.{DocumentBuilder}
 use Rattle.rule_definitions.proofs.Lists.{Contains-first}
 use Rattle.rule_document_definitions.specs.Told.{PlacedDocumentFault, IsValidDocument}
 use Rattle.rule_document_definitions.specs.Verdict.{WithinBounds}
@@ -23,8 +23,8 @@ use Rattle.graphql_validation.specs.TellsDocument.{DocumentTold}
 use Rattle.graphql_validation.specs.TellsLasting.{TellsLasting}
 use Rattle.graphql_validation.proofs.StandingFaults.{lasting_told}
 use Rattle.graphql_faults.specs.DetailsTree.{of_typing, of_document}
-use Rattle.verdict_definitions.specs.Texts.{Tree}
-use Rattle.verdict_definitions.specs.Says.{AnyFault, TypingFailsOver}
+use Rattle.book_validity.specs.in_verdict_definitions.Texts.{Tree}
+use Rattle.book_validity.specs.in_verdict_definitions.Says.{AnyFault, TypingFailsOver}
 use Rattle.graphql_checked.specs.Checking.{TypesDocument, RefusesTyping, RefusesRules}
 
 -- ---- lists

@@ -6,11 +6,11 @@ use Rattle.graphql_names.specs.Placed.{Place}
 use Rattle.schema_types.specs.SchemaTree.{SchemaTree}
 use Rattle.document_meaning.specs.MeantTree.{MeantDocument}
 use Rattle.graphql_faults.specs.DetailsView.{diagnostics_of}
-use Rattle.verdict_definitions.specs.Texts.{SourceText, Terms, document_number}
-use Rattle.verdict_definitions.specs.Meaning.{schema_at_hand}
-use Rattle.verdict_definitions.specs.Judge.{IsDocumentAccepted, IsAccepted, AreSchemasCertain, IsDocumentCertain, IsCertain}
-use Rattle.verdict_definitions.specs.Says.{AnyFault}
-use Rattle.verdict_definitions.specs.Answer.{RefusesDocument, Refuses}
+use Rattle.book_validity.specs.in_verdict_definitions.Texts.{SourceText, Terms, document_number}
+use Rattle.book_validity.specs.in_verdict_definitions.Meaning.{schema_at_hand}
+use Rattle.book_validity.specs.in_verdict_definitions.Judge.{IsDocumentAccepted, IsAccepted, AreSchemasCertain, IsDocumentCertain, IsCertain}
+use Rattle.book_validity.specs.in_verdict_definitions.Says.{AnyFault}
+use Rattle.book_validity.specs.in_verdict_definitions.Answer.{RefusesDocument, Refuses}
 use Rattle.book_validity.specs.Yes.{IsYes}
 use Rattle.book_validity.proofs.AcceptedFacts.{accepted_by_the_book}
 use Rattle.checker_schemas.specs.CheckedSchemaValue.{CheckedSchemaValue, IsCheckedSchemaOf}
@@ -20,13 +20,13 @@ use Rattle.checker_schemas.specs.Refusals.{RefusalOfSchemas}
 use Rattle.graphql_checked.specs.DocumentRefusals.{RefusalOfDocument}
 use Rattle.graphql_checked.specs.Verdicts.{IsVerdict}
 use Rattle.checker_answers.specs.Refusals.{refusal_verdict}
-use Rattle.checker_texts.specs.declared.refusal.Refusal.{Refusal}
-use Rattle.checker_texts.specs.declared.refusal.Refusal.TheVariants.{Faults, Memory, Failed}
+use Rattle.checker_answers.specs.in_checker_texts.declared.refusal.Refusal.{Refusal}
+use Rattle.checker_answers.specs.in_checker_texts.declared.refusal.Refusal.TheVariants.{Faults, Memory, Failed}
 use Rattle.checker_answers.specs.declared.verdict.Verdict.{Verdict}
 use Rattle.checker_answers.specs.declared.verdict.Verdict.TheVariants.{Accepted}
 use Rattle.checker_answers.specs.declared.verdict.CheckError.{CheckError}
 use Rattle.checker_answers.specs.declared.verdict.CheckError.TheVariants as error
-use Rattle.checker_texts.proofs.Deciding.{one_list}
+use Rattle.checker_answers.proofs.in_checker_texts.Deciding.{one_list}
 
 -- ---- a checker that is given texts
 

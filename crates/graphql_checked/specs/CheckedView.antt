@@ -7,8 +7,8 @@ use Rattle.graphql_schema.specs.SchemaOf.{schema_tree}
 use Rattle.graphql_schema.specs.declared.schema.Schema.{Schema}
 use Rattle.document_typed_operations.specs.TypedDocument.{typed_document_tree}
 use Rattle.document_typed_operations.specs.declared.document.ExecutableDocument.{ExecutableDocument}
-use Rattle.document_typing.specs.DocumentView.{meant_document}
-use Rattle.verdict_definitions.specs.Texts.{SourceText}
+use Rattle.book_validity.specs.in_typing.DocumentView.{meant_document}
+use Rattle.book_validity.specs.in_verdict_definitions.Texts.{SourceText}
 use Rattle.checker_schemas.specs.CheckedSchemaValue.{CheckedSchemaValue}
 use Rattle.graphql_checked.specs.CheckerValue.{CheckedDocumentValue}
 

@@ -1,13 +1,13 @@
 -- What contracts see of a checker and of a checked document.
 use Rattle.std.specs.Prelude.{◌≡◌, ℕ, Bool, List}
 use Rattle.graphql_names.specs.Placed.{Place}
-use Rattle.document_typing.specs.OutDoc.{written_document}
+use Rattle.book_validity.specs.in_typing.OutDoc.{written_document}
 use Rattle.document_meaning.specs.MeantTree.{MeantDocument}
-use Rattle.verdict_definitions.specs.Texts.{SourceText, Terms}
-use Rattle.verdict_definitions.specs.Meaning.{document_over}
-use Rattle.verdict_definitions.specs.Judge.{IsDocumentAccepted}
-use Rattle.verdict_definitions.specs.Out.{OutDoc, Layout}
-use Rattle.verdict_definitions.specs.Answer.{WritesDocument}
+use Rattle.book_validity.specs.in_verdict_definitions.Texts.{SourceText, Terms}
+use Rattle.book_validity.specs.in_verdict_definitions.Meaning.{document_over}
+use Rattle.book_validity.specs.in_verdict_definitions.Judge.{IsDocumentAccepted}
+use Rattle.book_validity.specs.in_verdict_definitions.Out.{OutDoc, Layout}
+use Rattle.book_validity.specs.in_verdict_definitions.Answer.{WritesDocument}
 use Rattle.checker_schemas.specs.CheckedSchemaValue.{CheckedSchemaValue}
 
 -- a checker: its terms, the schema texts that it was given in order, and whether memory ran out

@@ -3,10 +3,10 @@ use Rattle.std.specs.Prelude.{◌≡◌, ◌≢◌, ◌↔◌, ℕ, List, [], �
 use Rattle.graphql_names.specs.Placed.{Place}
 use Rattle.schema_types.specs.SchemaTree.{SchemaTree}
 use Rattle.document_meaning.specs.MeantTree.{MeantDocument}
-use Rattle.document_typing.specs.TypingFaults as typing
-use Rattle.document_typing.specs.OutDoc.{written_document, out_doc}
-use Rattle.document_typing.specs.DefinedByPlace.{IsDefinedDocument}
-use Rattle.document_typing.specs.DocumentView.{document_meant}
+use Rattle.book_validity.specs.in_typing.TypingFaults as typing
+use Rattle.book_validity.specs.in_typing.OutDoc.{written_document, out_doc}
+use Rattle.book_validity.specs.in_typing.DefinedByPlace.{IsDefinedDocument}
+use Rattle.book_validity.specs.in_typing.DocumentView.{document_meant}
 use Rattle.document_typed_operations.specs.TypedDocument.{typed_document_tree}
 use Rattle.document_typed_operations.specs.declared.document.ExecutableDocument.{ExecutableDocument}
 use Rattle.schema_building.specs.SourcesView.{sources_view}
@@ -17,16 +17,16 @@ use Rattle.document_meaning.specs.Unplaced.{unplaced_document}
 use Rattle.graphql_faults.specs.DetailsTree.{of_typing, of_document}
 use Rattle.graphql_faults.specs.DetailsView.{diagnostics_of}
 use Rattle.graphql_validation.specs.TellsDocument.{IsTypedUnder, FailsBesides, SomeFails}
-use Rattle.verdict_definitions.specs.Texts.{SourceText, Tree, ReadsText, IsWithin}
-use Rattle.verdict_definitions.specs.Meaning.{document_over}
-use Rattle.verdict_definitions.specs.Says.{AnyFault, TypingFailsOver}
-use Rattle.verdict_definitions.specs.Answer.{UnreadAlone}
-use Rattle.checker_texts.specs.TextSources.{text_sources}
+use Rattle.book_validity.specs.in_verdict_definitions.Texts.{SourceText, Tree, ReadsText, IsWithin}
+use Rattle.book_validity.specs.in_verdict_definitions.Meaning.{document_over}
+use Rattle.book_validity.specs.in_verdict_definitions.Says.{AnyFault, TypingFailsOver}
+use Rattle.book_validity.specs.in_verdict_definitions.Answer.{UnreadAlone}
+use Rattle.checker_answers.specs.in_checker_texts.TextSources.{text_sources}
 use Rattle.checker_schemas.specs.CheckedSchemaValue.{CheckedSchemaValue}
 use Rattle.graphql_checked.specs.CheckerValue.{IsCheckedDocumentOf}
 use Rattle.graphql_checked.specs.DocumentRefusals.{TypingOrLastingFails}
-use Rattle.checker_texts.specs.declared.refusal.Refusal.{Refusal}
-use Rattle.checker_texts.specs.declared.refusal.Refusal.TheVariants.{Faults, Memory, Failed}
+use Rattle.checker_answers.specs.in_checker_texts.declared.refusal.Refusal.{Refusal}
+use Rattle.checker_answers.specs.in_checker_texts.declared.refusal.Refusal.TheVariants.{Faults, Memory, Failed}
 
 -- ---- reading a document with the number that it has behind the schema texts, if one is left for it
 

@@ -4,10 +4,10 @@ use Rattle.std.specs.List.{All, AllZip}
 use Rattle.std.specs.Io.KnownBytes.{Appends}
 use Rattle.graphql_names.specs.declared.device.Device.{Device}
 use Rattle.graphql_names.specs.Device.{device_inner, device_failed}
-use Rattle.verdict_definitions.specs.Texts.{SourceText, Terms}
-use Rattle.verdict_definitions.specs.Judge.{IsCertain}
-use Rattle.verdict_definitions.specs.Out.{Layout, layout_text, as_lines}
-use Rattle.verdict_definitions.specs.Answer.{WritesDocument, AcceptedBytes, RefusedBytes, Answer}
+use Rattle.book_validity.specs.in_verdict_definitions.Texts.{SourceText, Terms}
+use Rattle.book_validity.specs.in_verdict_definitions.Judge.{IsCertain}
+use Rattle.book_validity.specs.in_verdict_definitions.Out.{Layout, layout_text, as_lines}
+use Rattle.book_validity.specs.in_verdict_definitions.Answer.{WritesDocument, AcceptedBytes, RefusedBytes, Answer}
 use Rattle.book_validity.specs.Yes.{IsYes}
 use Rattle.checker_answers.specs.Devices.{IsTextOf, TellsText, AreTextsOf, IsReadToEnd, AreReadToEnd, IsNotUtf8Of, IsNotUtf8At, HasFailedAt}
 use Rattle.checker_answers.specs.declared.run_fault.Outcome.{Outcome}

@@ -1,8 +1,8 @@
 -- What the verdict on whole texts says.
 use Rattle.std.specs.Prelude.{ℕ, List}
 use Rattle.graphql_faults.specs.DetailsView.{diagnostics_of}
-use Rattle.verdict_definitions.specs.Texts.{SourceText, Terms}
-use Rattle.verdict_definitions.specs.Answer.{Refuses}
+use Rattle.book_validity.specs.in_verdict_definitions.Texts.{SourceText, Terms}
+use Rattle.book_validity.specs.in_verdict_definitions.Answer.{Refuses}
 use Rattle.book_validity.specs.Yes.{IsYes}
 use Rattle.checker_answers.specs.declared.verdict.Verdict.{Verdict}
 use Rattle.checker_answers.specs.declared.verdict.Verdict.TheVariants.{Accepted, Refused}

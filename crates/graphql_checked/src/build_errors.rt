@@ -1,7 +1,7 @@
 //! What a builder of a document finds, as a list of faults.
 
 ghost use Rattle.std.specs.Prelude.{◌≡◌, map, IfOk};
-ghost use Rattle.document_typing.specs.FaultView.{faults_of};
+ghost use Rattle.book_validity.specs.in_typing.FaultView.{faults_of};
 ghost use Rattle.graphql_faults.specs.DetailsTree.{of_typing};
 ghost use Rattle.graphql_faults.specs.DetailsView.{diagnostics_of};
 

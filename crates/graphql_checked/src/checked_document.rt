@@ -3,10 +3,10 @@
 ghost use Rattle.std.specs.Prelude.{◌≡◌, ◌∷◌, [], Some, IfOk, string_bytes};
 ghost use Rattle.schema_building.specs.SourcesView.{sources_view};
 ghost use Rattle.document_typed_operations.specs.TypedDocument.{typed_document_tree};
-ghost use Rattle.document_typing.specs.DocumentView.{meant_document};
-ghost use Rattle.document_typing.specs.DefinedByPlace.{IsDefinedDocument};
+ghost use Rattle.book_validity.specs.in_typing.DocumentView.{meant_document};
+ghost use Rattle.book_validity.specs.in_typing.DefinedByPlace.{IsDefinedDocument};
 ghost use Rattle.graphql_validation.specs.TellsDocument.{IsTypedUnder};
-ghost use Rattle.checker_texts.specs.TextSources.{text_sources};
+ghost use Rattle.checker_answers.specs.in_checker_texts.TextSources.{text_sources};
 ghost use Rattle.checker_settings.specs.Layouts.{prefix_of};
 ghost use Rattle.graphql_checked.specs.CheckedView.{schema_value, document_value};
 ghost use Rattle.graphql_checked.specs.CheckerValue.{IsCheckedDocumentOf, WritesCheckedDocument};

@@ -1,15 +1,15 @@
 //! The checker of schema texts.
 
 ghost use Rattle.std.specs.Prelude.{◌≡◌, ◌++◌, ◌∷◌, [], true, false, OnOk, IfOk, IfErr};
-ghost use Rattle.verdict_definitions.specs.Judge.{AreSchemasCertain};
+ghost use Rattle.book_validity.specs.in_verdict_definitions.Judge.{AreSchemasCertain};
 ghost use Rattle.graphql_checked.specs.CheckedView.{schema_value};
 ghost use Rattle.checker_schemas.specs.CheckedSchemaValue.{IsCheckedSchemaOf};
 ghost use Rattle.graphql_checked.specs.CheckerAnswers.{IsCheckerAddRefusal, IsFinishRefusal};
-ghost use Rattle.checker_texts.specs.declared.refusal.Refusal.TheVariants.{Memory};
+ghost use Rattle.checker_answers.specs.in_checker_texts.declared.refusal.Refusal.TheVariants.{Memory};
 
 use crate::checked_schema::CheckedSchema;
+use checker_answers::{Refusal, SchemaTexts};
 use checker_schemas::schema_of_texts;
-use checker_texts::{Refusal, SchemaTexts};
 use graphql_names::Files;
 use schema_components::Extensions;
 use std::alloc::Global;
@@ -34,7 +34,7 @@ pub struct Checker {
 impl Model for Checker {
     ghost use Rattle.std.specs.Prelude.{◌≡◌, false};
     ghost use Rattle.graphql_checked.specs.CheckerValue.{CheckerValue};
-    ghost use Rattle.checker_texts.specs.TextsView.{terms_of, texts_of, IsReadingOf};
+    ghost use Rattle.checker_answers.specs.in_checker_texts.TextsView.{terms_of, texts_of, IsReadingOf};
 
     ghost Value = { CheckerValue };
 

@@ -5,7 +5,7 @@ ghost use Rattle.std.specs.Option.{option_copied};
 ghost use Rattle.graphql_names.specs.Device.{device_failed};
 ghost use Rattle.checker_answers.specs.Devices.{HaveNotFailed};
 ghost use Rattle.checker_settings.specs.Layouts.{prefix_of};
-ghost use Rattle.verdict_definitions.specs.Judge.{IsCertain};
+ghost use Rattle.book_validity.specs.in_verdict_definitions.Judge.{IsCertain};
 ghost use Rattle.graphql_checked.specs.CheckedView.{schema_value, document_value};
 ghost use Rattle.checker_schemas.specs.CheckedSchemaValue.{IsCheckedSchemaOf};
 ghost use Rattle.graphql_checked.specs.Run.{TellCertain, AreAllRead, IsAnswerToCertain, IsAnswerTo, AcceptsOrFails, IsWrittenAnswer};

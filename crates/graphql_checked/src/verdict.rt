@@ -1,19 +1,18 @@
 //! The verdict on whole texts.
 
 ghost use Rattle.std.specs.Prelude.{◌≡◌, ◌⊎◌, Ok, Err, map, IfOk, IfErr};
-ghost use Rattle.verdict_definitions.specs.Judge.{AreSchemasCertain, IsCertain};
+ghost use Rattle.book_validity.specs.in_verdict_definitions.Judge.{AreSchemasCertain, IsCertain};
 ghost use Rattle.graphql_checked.specs.CheckedView.{schema_value};
 ghost use Rattle.checker_schemas.specs.CheckedSchemaValue.{IsCheckedSchemaOf};
 ghost use Rattle.checker_schemas.specs.Refusals.{RefusalOfSchemas};
 ghost use Rattle.graphql_checked.specs.Verdicts.{first_terms, IsVerdict};
-ghost use Rattle.checker_texts.specs.declared.refusal.Refusal.TheVariants as refusal;
+ghost use Rattle.checker_answers.specs.in_checker_texts.declared.refusal.Refusal.TheVariants as refusal;
 ghost use Rattle.checker_answers.specs.declared.verdict.Verdict.TheVariants.{Accepted};
 ghost use Rattle.checker_answers.specs.declared.verdict.CheckError.TheVariants.{Memory};
 
 use crate::checked_schema::CheckedSchema;
 use crate::checker::{Checker, Limits};
-use checker_answers::{CheckError, Verdict, verdict_of};
-use checker_texts::Refusal;
+use checker_answers::{CheckError, Refusal, Verdict, verdict_of};
 use std::alloc::Global;
 use std::convert::AsStr;
 

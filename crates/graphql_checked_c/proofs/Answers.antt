@@ -11,8 +11,8 @@ use Rattle.graphql_names.specs.Placed.{Place}
 use Rattle.document_meaning.specs.MeantTree.{MeantDocument}
 use Rattle.checker_texts.specs.declared.refusal.Refusal.{Refusal}
 use Rattle.checker_texts.specs.declared.refusal.Refusal.TheVariants.{Faults, Memory, Failed}
-use Rattle.checker_schemas.specs.Refusals.{RefusalOfSchemas}
-use Rattle.checker_schemas.specs.CheckedSchemaValue.{IsCheckedSchemaOf}
+use Rattle.graphql_checked.specs.in_checker_schemas.Refusals.{RefusalOfSchemas}
+use Rattle.graphql_checked.specs.in_checker_schemas.CheckedSchemaValue.{IsCheckedSchemaOf}
 use Rattle.graphql_checked.specs.CheckedView.{CheckedSchemaParts, CheckedDocumentParts, schema_value, document_value}
 use Rattle.graphql_checked.specs.CheckerValue.{IsCheckedDocumentOf, WritesCheckedDocument}
 use Rattle.verdict_definitions.specs.Out.{Layout}

@@ -3,16 +3,16 @@
 use Rattle.std.specs.Prelude.{◌≡◌, ◌≢◌, ℕ, ◌≤◌, Bool, List, [], ◌∷◌, ◌++◌, flat_map, codes, Option, None, Some, ◌⊎◌, IsUtf8, true, false, if◌then◌else◌, Result, Ok, Err, String, string_bytes}
 use Rattle.std.specs.List.{All}
 use Rattle.graphql_faults.specs.DetailsView.{diagnostics_of}
-use Rattle.tree_printing.specs.StringLayout.{is_blank}
+use Rattle.tree_literals.specs.StringLayout.{is_blank}
 use Rattle.verdict_definitions.specs.Texts.{SourceText, Terms}
 use Rattle.verdict_definitions.specs.Judge.{IsCertain, AreSchemasCertain}
 use Rattle.verdict_definitions.specs.Out.{Layout, layout_text}
 use Rattle.verdict_definitions.specs.Says.{AnyFault}
 use Rattle.verdict_definitions.specs.Answer.{RefusesSchemas, Refuses, RefusedBytes, WritesDocument, fault_line}
-use Rattle.book_validity.specs.Yes.{IsYes}
+use Rattle.graphql_checked.specs.in_book_validity.Yes.{IsYes}
 use Rattle.checker_texts.specs.declared.refusal.Refusal.{Refusal}
 use Rattle.checker_texts.specs.declared.refusal.Refusal.TheVariants.{Faults, Memory, Failed}
-use Rattle.checker_schemas.specs.CheckedSchemaValue.{IsCheckedSchemaOf}
+use Rattle.graphql_checked.specs.in_checker_schemas.CheckedSchemaValue.{IsCheckedSchemaOf}
 use Rattle.graphql_checked.specs.CheckedView.{CheckedSchemaParts, schema_value}
 use Rattle.graphql_checked.specs.Verdicts.{first_terms}
 use Rattle.std.specs.declared.alloc.AllocError.{AllocError}

@@ -6,10 +6,10 @@ use Rattle.read_tokens.specs.Lex.{Piece, ArePieces, with_token, tokens_among, Le
 use Rattle.read_tokens.specs.Cursor.{EndsAs}
 use Rattle.read_tokens.specs.declared.token.TokenKind.{TokenKind}
 use Rattle.read_tokens.proofs.Takes.{piece_takes}
-use Rattle.read_grammar.specs.Depth.{depth}
-use Rattle.read_grammar.specs.Faults as faults
-use Rattle.read_grammar.specs.Faults.{Symbol, StandsAt}
-use Rattle.read_grammar.proofs.Nests.{depth_front}
+use Rattle.read_types.specs.in_grammar.Depth.{depth}
+use Rattle.read_types.specs.in_grammar.Faults as faults
+use Rattle.read_types.specs.in_grammar.Faults.{Symbol, StandsAt}
+use Rattle.read_types.proofs.in_grammar.Nests.{depth_front}
 use Rattle.graphql_read.specs.Reads.{HasTree, NestingBound, ReadsWithin, IsDue}
 use Rattle.graphql_read.specs.ReadFaults.{fault_view, LiesIn, PassesBound}
 use Rattle.graphql_read.specs.declared.fault.ReadFault.{ReadFault}

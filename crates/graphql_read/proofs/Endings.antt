@@ -6,10 +6,10 @@ use Rattle.read_tokens.specs.Tokens.{ignored_at, token_at}
 use Rattle.read_tokens.specs.Lex.{Piece, piece_at, ArePieces, Lex, NothingBegins}
 use Rattle.read_tokens.specs.Cursor.{EndsAs, is_stuck, is_stuck_at}
 use Rattle.read_tokens.proofs.Lexed.{lex_unique}
-use Rattle.read_grammar.specs.declared.stop.Stop.{Stop}
-use Rattle.read_grammar.specs.declared.stop.Stop.TheVariants.{Memory, Unexpected}
-use Rattle.read_grammar.specs.Reading.{Outcome, Parser, and_then, ended, ended_at, whole}
-use Rattle.read_grammar.proofs.Exact.{ok_is}
+use Rattle.read_types.specs.in_grammar.declared.stop.Stop.{Stop}
+use Rattle.read_types.specs.in_grammar.declared.stop.Stop.TheVariants.{Memory, Unexpected}
+use Rattle.read_types.specs.in_grammar.Reading.{Outcome, Parser, and_then, ended, ended_at, whole}
+use Rattle.read_types.proofs.in_grammar.Exact.{ok_is}
 use Rattle.graphql_read.specs.Calls.{end_of_text, end_of_text_at, all_of}
 
 -- ---- a text that is all tokens

@@ -14,6 +14,6 @@ pub mod Endings
 pub mod Texts
 pub mod Bounds
 pub mod Symbols
-pub use Rattle.read_grammar.proofs as in_grammar
+pub use Rattle.read_types.proofs.in_grammar as in_grammar
 pub use Rattle.read_tokens.proofs as in_tokens
 pub use Rattle.tree_operations.proofs as in_operations

@@ -2,15 +2,15 @@
 use Rattle.std.proofs.Common.{◌≡◌, ℕ, ◌+◌, Bool, true, false, ◌&&◌, List, [], ◌∷◌, take, drop, Option, Some, None, unwrap_or, refl, sym, subst, inl, inr}
 use Rattle.std.specs.List.{list_all}
 use Rattle.std.proofs.lemmas.Bool.{and_from, and_parts}
-use Rattle.tree_definitions.specs.Writable.{has_some}
+use Rattle.read_types.specs.in_definitions.Writable.{has_some}
 use Rattle.read_tokens.specs.declared.terminal.Terminal.{Terminal}
 use Rattle.read_tokens.specs.declared.token.TokenKind.{TokenKind}
 use Rattle.read_tokens.specs.Terminals.{terminal_of}
 use Rattle.read_tokens.specs.Input.{Token, Input, past}
 use Rattle.read_tokens.specs.Lex.{Piece, with_token, tokens_among, LexesFront}
-use Rattle.read_grammar.specs.Meaning.{Meaning}
-use Rattle.read_grammar.specs.Rules as rule
-use Rattle.read_grammar.specs.Rules.{Rule, one, ◌·◌, ◌<$>◌, ◌∣◌, nothing, optional, optional_unless}
+use Rattle.read_types.specs.in_grammar.Meaning.{Meaning}
+use Rattle.read_types.specs.in_grammar.Rules as rule
+use Rattle.read_types.specs.in_grammar.Rules.{Rule, one, ◌·◌, ◌<$>◌, ◌∣◌, nothing, optional, optional_unless}
 
 -- ---- the tokens of a text
 

@@ -4,19 +4,19 @@ use Rattle.std.specs.List.{list_all}
 use Rattle.std.proofs.lemmas.Bool.{and_from, and_parts}
 use Rattle.graphql_names.specs.Placed.{Text}
 use Rattle.tree_operations.specs.SelectionTree.{SelectionTrees}
-use Rattle.read_values.specs.in_directives.DirectiveTree.{DirectiveDefinitionTree}
-use Rattle.read_values.specs.in_values.Writable.{has_selection, selections_writable, directives_writable, directive_definition_writable}
-use Rattle.tree_definitions.specs.DefinitionTree.{DefinitionTree, Operation, Fragment, DirectiveDefinition, Schema, ScalarType, ObjectType, InterfaceType, UnionType, EnumType, InputObjectType, ExtendSchema, ExtendScalar, ExtendObject, ExtendInterface, ExtendUnion, ExtendEnum, ExtendInputObject}
-use Rattle.tree_definitions.specs.Writable.{has_some, schema_writable, fields_writable, enum_writable, input_object_writable, definition_writable, document_writable}
+use Rattle.tree_operations.specs.in_directives.DirectiveTree.{DirectiveDefinitionTree}
+use Rattle.read_types.specs.in_values.Writable.{has_selection, selections_writable, directives_writable, directive_definition_writable}
+use Rattle.read_types.specs.in_definitions.DefinitionTree.{DefinitionTree, Operation, Fragment, DirectiveDefinition, Schema, ScalarType, ObjectType, InterfaceType, UnionType, EnumType, InputObjectType, ExtendSchema, ExtendScalar, ExtendObject, ExtendInterface, ExtendUnion, ExtendEnum, ExtendInputObject}
+use Rattle.read_types.specs.in_definitions.Writable.{has_some, schema_writable, fields_writable, enum_writable, input_object_writable, definition_writable, document_writable}
 use Rattle.read_tokens.specs.Input.{Token}
-use Rattle.read_grammar.specs.Meaning.{Meaning, start}
-use Rattle.read_grammar.specs.Kinds.{is_extend}
-use Rattle.read_grammar.specs.Rules as rule
-use Rattle.read_grammar.specs.Rules.{◌·◌, ◌<$>◌, ◌∣◌}
-use Rattle.read_grammar.specs.TypeSystemGrammar.{KindTree, SchemaKind, ScalarKind, ObjectKind, InterfaceKind, UnionKind, EnumKind, InputObjectKind}
-use Rattle.read_grammar.specs.TypeSystemGrammar as y
-use Rattle.read_grammar.specs.Grammar as g
-use Rattle.read_grammar.specs.Grammar.{is_empty, definition_of, described, type_system_of, extended, extension_of, has_part, Derives, DerivesSelections}
+use Rattle.read_types.specs.in_grammar.Meaning.{Meaning, start}
+use Rattle.read_types.specs.in_grammar.Kinds.{is_extend}
+use Rattle.read_types.specs.in_grammar.Rules as rule
+use Rattle.read_types.specs.in_grammar.Rules.{◌·◌, ◌<$>◌, ◌∣◌}
+use Rattle.read_types.specs.in_grammar.TypeSystemGrammar.{KindTree, SchemaKind, ScalarKind, ObjectKind, InterfaceKind, UnionKind, EnumKind, InputObjectKind}
+use Rattle.read_types.specs.in_grammar.TypeSystemGrammar as y
+use Rattle.read_types.specs.in_grammar.Grammar as g
+use Rattle.read_types.specs.in_grammar.Grammar.{is_empty, definition_of, described, type_system_of, extended, extension_of, has_part, Derives, DerivesSelections}
 use Rattle.graphql_read.specs.Sound.{names_root}
 use Rattle.graphql_read.proofs.Makes.{AreTerminals, Makes, mapped, mark, seq, choice, such_that, maybe_any, one_or_more, located}
 use Rattle.graphql_read.proofs.MakesOperations.{selections_makes, operation_makes, fragment_makes}

@@ -3,15 +3,15 @@ use Rattle.std.proofs.Common.{◌≡◌, ℕ, zero, suc, Bool, true, ◌&&◌, L
 use Rattle.std.specs.List.{list_all}
 use Rattle.std.proofs.lemmas.Bool.{and_from, and_parts}
 use Rattle.tree_operations.specs.SelectionTree.{SelectionTree, SelectionTrees, no_selections}
-use Rattle.read_values.specs.in_values.Writable.{arguments_writable, directives_writable, default_writable, can_be_fragment, has_selection, selection_writable, selections_writable, variable_writable, variables_writable, operation_writable, fragment_writable}
-use Rattle.tree_definitions.specs.Writable.{has_some}
+use Rattle.read_types.specs.in_values.Writable.{arguments_writable, directives_writable, default_writable, can_be_fragment, has_selection, selection_writable, selections_writable, variable_writable, variables_writable, operation_writable, fragment_writable}
+use Rattle.read_types.specs.in_definitions.Writable.{has_some}
 use Rattle.tree_operations.specs.in_directives.declared.operation_type.OperationType.TheVariants.{Query, Mutation, Subscription}
-use Rattle.read_grammar.specs.Meaning.{Meaning, name_of}
-use Rattle.read_grammar.specs.Kinds.{is_fragment_name, is_colon, is_spread, is_on, is_fragment, is_query, is_mutation, is_subscription, is_open_brace, is_close_brace, is_open_paren, is_close_paren}
-use Rattle.read_grammar.specs.Rules.{Rule}
-use Rattle.read_grammar.specs.ValueGrammar.{constant, with_variables}
-use Rattle.read_grammar.specs.OperationGrammar as g
-use Rattle.read_grammar.specs.OperationGrammar.{selections_of, field_of, spread_of, inline_of, variable_definition_of, short_of, operation_of, fragment_of}
+use Rattle.read_types.specs.in_grammar.Meaning.{Meaning, name_of}
+use Rattle.read_types.specs.in_grammar.Kinds.{is_fragment_name, is_colon, is_spread, is_on, is_fragment, is_query, is_mutation, is_subscription, is_open_brace, is_close_brace, is_open_paren, is_close_paren}
+use Rattle.read_types.specs.in_grammar.Rules.{Rule}
+use Rattle.read_types.specs.in_grammar.ValueGrammar.{constant, with_variables}
+use Rattle.read_types.specs.in_grammar.OperationGrammar as g
+use Rattle.read_types.specs.in_grammar.OperationGrammar.{selections_of, field_of, spread_of, inline_of, variable_definition_of, short_of, operation_of, fragment_of}
 use Rattle.graphql_read.proofs.Makes.{Makes, token, mapped, mapped_any, mark, seq, choice, never, weaker, maybe, maybe_any, or_none, one_or_more, some_all, enclosed, located, three, four}
 use Rattle.graphql_read.proofs.MakesValues.{fragment_says, name_makes, variable_makes, maybe_arguments, maybe_directives, default_value_makes, type_makes}
 

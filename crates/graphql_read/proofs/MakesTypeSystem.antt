@@ -2,15 +2,15 @@
 use Rattle.std.proofs.Common.{ℕ, zero, suc, Bool, true, [], unwrap_or, refl}
 use Rattle.std.specs.List.{list_all}
 use Rattle.std.proofs.lemmas.Bool.{and_parts}
-use Rattle.read_values.specs.in_values.Writable.{default_writable, directives_writable, input_value_writable, input_values_writable, directive_definition_writable}
-use Rattle.read_values.specs.in_type_members.TypeSystemTree.{SchemaParts}
-use Rattle.tree_definitions.specs.Writable.{has_some, field_definition_writable, field_definitions_writable, enum_value_writable, enum_values_writable, schema_writable, fields_writable, enum_writable, input_object_writable}
-use Rattle.read_grammar.specs.Meaning.{Meaning, text_of}
-use Rattle.read_grammar.specs.Kinds.{is_string, is_colon, is_at, is_equals, is_ampersand, is_pipe, is_on, is_location, is_repeatable, is_implements, is_schema, is_scalar, is_type, is_interface, is_union, is_enum, is_input, is_directive, is_open_brace, is_close_brace, is_open_paren, is_close_paren}
-use Rattle.read_grammar.specs.Locations.{location_of}
-use Rattle.read_grammar.specs.ValueGrammar.{constant}
-use Rattle.read_grammar.specs.TypeSystemGrammar as g
-use Rattle.read_grammar.specs.TypeSystemGrammar.{KindTree, SchemaKind, ScalarKind, ObjectKind, InterfaceKind, UnionKind, EnumKind, InputObjectKind, root_of, schema_of, schema_extension_of, input_value_of, field_definition_of, enum_value_definition_of, scalar_of, fields_of, union_of, enum_of, input_object_of, directive_definition_of}
+use Rattle.read_types.specs.in_values.Writable.{default_writable, directives_writable, input_value_writable, input_values_writable, directive_definition_writable}
+use Rattle.read_types.specs.in_type_members.TypeSystemTree.{SchemaParts}
+use Rattle.read_types.specs.in_definitions.Writable.{has_some, field_definition_writable, field_definitions_writable, enum_value_writable, enum_values_writable, schema_writable, fields_writable, enum_writable, input_object_writable}
+use Rattle.read_types.specs.in_grammar.Meaning.{Meaning, text_of}
+use Rattle.read_types.specs.in_grammar.Kinds.{is_string, is_colon, is_at, is_equals, is_ampersand, is_pipe, is_on, is_location, is_repeatable, is_implements, is_schema, is_scalar, is_type, is_interface, is_union, is_enum, is_input, is_directive, is_open_brace, is_close_brace, is_open_paren, is_close_paren}
+use Rattle.read_types.specs.in_grammar.Locations.{location_of}
+use Rattle.read_types.specs.in_grammar.ValueGrammar.{constant}
+use Rattle.read_types.specs.in_grammar.TypeSystemGrammar as g
+use Rattle.read_types.specs.in_grammar.TypeSystemGrammar.{KindTree, SchemaKind, ScalarKind, ObjectKind, InterfaceKind, UnionKind, EnumKind, InputObjectKind, root_of, schema_of, schema_extension_of, input_value_of, field_definition_of, enum_value_definition_of, scalar_of, fields_of, union_of, enum_of, input_object_of, directive_definition_of}
 use Rattle.graphql_read.proofs.Makes.{Makes, any_token, mapped, mapped_any, mark, seq, choice, never, weaker, anyway, maybe, maybe_any, maybe_unless, or_none, or_none_unless, some_all, some_one, separated, enclosed, located}
 use Rattle.graphql_read.proofs.MakesValues.{name_makes, enum_value_makes, maybe_directives, default_value_makes, type_makes}
 use Rattle.graphql_read.proofs.MakesOperations.{operation_type_makes}

@@ -7,19 +7,19 @@ use Rattle.graphql_names.specs.Placed.{Placed, Text}
 use Rattle.tree_literals.specs.ValueTree.{ValueTree, NullTree, EnumTree, VariableTree, StringTree, FloatTree, IntTree, BooleanTree, ListTree, ObjectTree}
 use Rattle.tree_literals.specs.TypeTree.{TypeTree, NamedTree, NonNullNamedTree, NonNullListTree}
 use Rattle.tree_literals.specs.TypeTree as types
-use Rattle.read_values.specs.in_values.Writable.{is_text, type_writable, can_be_enum, can_be_fragment, value_writable, items_writable, entries_writable, arguments_writable, directive_writable, directives_writable}
+use Rattle.read_types.specs.in_values.Writable.{is_text, type_writable, can_be_enum, can_be_fragment, value_writable, items_writable, entries_writable, arguments_writable, directive_writable, directives_writable}
 use Rattle.read_tokens.specs.declared.terminal.Terminal.{Terminal}
 use Rattle.read_tokens.specs.declared.token.TokenKind.{TokenKind}
 use Rattle.read_tokens.specs.declared.token.TokenKind.TheVariants.{Bang, Dollar, Ampersand, OpenParen, CloseParen, Spread, Colon, Equals, At, OpenBracket, CloseBracket, OpenBrace, Pipe, CloseBrace, Int, Float, String, BlockString, Name}
 use Rattle.read_tokens.specs.Terminals.{words, spelled, terminal_of}
 use Rattle.read_tokens.specs.Input.{Token}
-use Rattle.read_grammar.specs.Meaning.{Meaning, name_of}
-use Rattle.read_grammar.specs.Kinds.{next_is, is_name, is_enum_value, is_fragment_name, is_string, is_int, is_float, is_true, is_false, is_null, is_dollar, is_colon, is_at, is_equals, is_bang, is_open_bracket, is_close_bracket, is_open_brace, is_close_brace, is_open_paren, is_close_paren}
-use Rattle.read_grammar.specs.Rules as rule
-use Rattle.read_grammar.specs.Rules.{Rule, ◌·◌, ◌<$>◌, ◌∣◌}
-use Rattle.read_grammar.specs.ValueGrammar as g
-use Rattle.read_grammar.specs.ValueGrammar.{Const, constant, items_of, entries_of, argument_of, directive_of, type_of}
-use Rattle.read_grammar.proofs.Tests.{subset, from_subset}
+use Rattle.read_types.specs.in_grammar.Meaning.{Meaning, name_of}
+use Rattle.read_types.specs.in_grammar.Kinds.{next_is, is_name, is_enum_value, is_fragment_name, is_string, is_int, is_float, is_true, is_false, is_null, is_dollar, is_colon, is_at, is_equals, is_bang, is_open_bracket, is_close_bracket, is_open_brace, is_close_brace, is_open_paren, is_close_paren}
+use Rattle.read_types.specs.in_grammar.Rules as rule
+use Rattle.read_types.specs.in_grammar.Rules.{Rule, ◌·◌, ◌<$>◌, ◌∣◌}
+use Rattle.read_types.specs.in_grammar.ValueGrammar as g
+use Rattle.read_types.specs.in_grammar.ValueGrammar.{Const, constant, items_of, entries_of, argument_of, directive_of, type_of}
+use Rattle.read_types.proofs.in_grammar.Tests.{subset, from_subset}
 use Rattle.graphql_read.proofs.Makes.{IsTerminal, Makes, token, any_token, mapped, mapped_any, mark, seq, choice, never, maybe_any, or_none, several, some_all, enclosed, located}
 
 -- ---- what a name is not

@@ -5,11 +5,11 @@ use Rattle.tree_operations.specs.in_directives.declared.operation_type.Operation
 use Rattle.graphql_names.specs.Placed.{Placed, Text}
 use Rattle.tree_literals.specs.TypeTree.{TypeTree, NamedTree, NonNullNamedTree, ListTree as ListTypeTree, NonNullListTree}
 use Rattle.tree_literals.specs.ValueTree.{ValueTree, EnumTree, VariableTree, ListTree, ObjectTree, no_items, item_then, no_entries, entry_then}
-use Rattle.read_values.specs.in_directives.DirectiveTree.{Directives, InputValueTree}
+use Rattle.tree_operations.specs.in_directives.DirectiveTree.{Directives, InputValueTree}
 use Rattle.tree_operations.specs.SelectionTree.{FieldHead, SelectionTrees, FieldTree, SpreadTree, InlineTree, no_selections, selection_then}
 use Rattle.tree_operations.specs.OperationTree.{VariableDefinitionTree}
-use Rattle.read_values.specs.in_type_members.TypeSystemTree.{FieldDefinitionTree, SchemaParts, ScalarParts, FieldsParts, UnionParts, EnumParts, InputObjectParts}
-use Rattle.tree_definitions.specs.DefinitionTree.{DefinitionTree, Operation, Fragment, DirectiveDefinition, Schema, ScalarType, ObjectType, InterfaceType, UnionType, EnumType, InputObjectType, ExtendSchema, ExtendScalar, ExtendObject, ExtendInterface, ExtendUnion, ExtendEnum, ExtendInputObject}
+use Rattle.read_types.specs.in_type_members.TypeSystemTree.{FieldDefinitionTree, SchemaParts, ScalarParts, FieldsParts, UnionParts, EnumParts, InputObjectParts}
+use Rattle.read_types.specs.in_definitions.DefinitionTree.{DefinitionTree, Operation, Fragment, DirectiveDefinition, Schema, ScalarType, ObjectType, InterfaceType, UnionType, EnumType, InputObjectType, ExtendSchema, ExtendScalar, ExtendObject, ExtendInterface, ExtendUnion, ExtendEnum, ExtendInputObject}
 use Rattle.graphql_read.specs.EachPlace.{all_in_type, all_in_selections, all_in_definition}
 
 -- no place below the number may fail

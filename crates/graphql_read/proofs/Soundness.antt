@@ -4,9 +4,9 @@ use Rattle.graphql_names.specs.declared.span.FileId.{FileId}
 use Rattle.graphql_names.specs.Placed.{Place}
 use Rattle.tree_literals.specs.TypeTree.{TypeTree}
 use Rattle.tree_operations.specs.SelectionTree.{SelectionTrees}
-use Rattle.tree_definitions.specs.DefinitionTree.{DefinitionTree}
-use Rattle.read_grammar.specs.Grammar.{Derives, DerivesType, DerivesSelections}
-use Rattle.read_operations.specs.in_read_values.Meanings.{in_file, string_of}
+use Rattle.read_types.specs.in_definitions.DefinitionTree.{DefinitionTree}
+use Rattle.read_types.specs.in_grammar.Grammar.{Derives, DerivesType, DerivesSelections}
+use Rattle.read_types.specs.in_read_operations.Meanings.{in_file, string_of}
 use Rattle.graphql_read.specs.Reads.{HasTree}
 use Rattle.graphql_read.specs.Sound.{IsSound, IsSoundType, AreSound}
 use Rattle.graphql_read.proofs.Makes.{are_terminals}

@@ -1,9 +1,9 @@
 -- What rules make stands where it was read.
 use Rattle.std.proofs.Common.{◌≡◌, ℕ, Bool, true, false, ◌&&◌, sym, subst}
 use Rattle.std.proofs.lemmas.Bool.{and_from}
-use Rattle.read_grammar.specs.Meaning.{Meaning, begin_of}
-use Rattle.read_grammar.specs.Rules as rule
-use Rattle.read_grammar.specs.Rules.{Rule}
+use Rattle.read_types.specs.in_grammar.Meaning.{Meaning, begin_of}
+use Rattle.read_types.specs.in_grammar.Rules as rule
+use Rattle.read_types.specs.in_grammar.Rules.{Rule}
 use Rattle.graphql_read.proofs.Makes.{Makes, four}
 
 -- each place passes that the meaning gives

@@ -4,17 +4,17 @@ use Rattle.std.proofs.Common.{◌≡◌, ◌≢◌, ℕ, ◌+◌, ◌-◌, ◌^�
 use Rattle.graphql_names.specs.Placed.{Place, Text}
 use Rattle.tree_literals.specs.TypeTree.{TypeTree}
 use Rattle.tree_operations.specs.SelectionTree.{SelectionTrees}
-use Rattle.read_values.specs.in_directives.DirectiveTree.{DirectiveDefinitionTree}
-use Rattle.tree_definitions.specs.DefinitionTree.{DefinitionTree, Operation, Fragment}
+use Rattle.tree_operations.specs.in_directives.DirectiveTree.{DirectiveDefinitionTree}
+use Rattle.read_types.specs.in_definitions.DefinitionTree.{DefinitionTree, Operation, Fragment}
 use Rattle.read_tokens.specs.Input.{Token}
-use Rattle.read_grammar.specs.Meaning.{Meaning, start}
-use Rattle.read_grammar.specs.Kinds.{is_extend}
-use Rattle.read_grammar.specs.Places.{place_if, place_in, meaning_in}
-use Rattle.read_grammar.specs.Rules.{◌<$>◌, ◌∣◌}
-use Rattle.read_grammar.specs.TypeSystemGrammar.{KindTree, SchemaKind, ScalarKind, ObjectKind, InterfaceKind, UnionKind, EnumKind, InputObjectKind}
-use Rattle.read_grammar.specs.TypeSystemGrammar as y
-use Rattle.read_grammar.specs.Grammar as g
-use Rattle.read_grammar.specs.Grammar.{described, type_system_of, extended, extension_of, has_part, Derives, DerivesType, DerivesSelections}
+use Rattle.read_types.specs.in_grammar.Meaning.{Meaning, start}
+use Rattle.read_types.specs.in_grammar.Kinds.{is_extend}
+use Rattle.read_types.specs.in_grammar.Places.{place_if, place_in, meaning_in}
+use Rattle.read_types.specs.in_grammar.Rules.{◌<$>◌, ◌∣◌}
+use Rattle.read_types.specs.in_grammar.TypeSystemGrammar.{KindTree, SchemaKind, ScalarKind, ObjectKind, InterfaceKind, UnionKind, EnumKind, InputObjectKind}
+use Rattle.read_types.specs.in_grammar.TypeSystemGrammar as y
+use Rattle.read_types.specs.in_grammar.Grammar as g
+use Rattle.read_types.specs.in_grammar.Grammar.{described, type_system_of, extended, extension_of, has_part, Derives, DerivesType, DerivesSelections}
 use Rattle.graphql_read.specs.EachPlace.{all_in_any, all_in_text, all_in_type, all_in_directives, all_in_input_values, all_in_directive_definition, all_in_selections, all_in_definition, all_in_document}
 use Rattle.graphql_read.specs.Sound.{is_own}
 use Rattle.graphql_read.proofs.Makes.{AreTerminals, Makes, mapped, mark, seq, choice, such_that, some_all, three}

@@ -4,13 +4,13 @@ use Rattle.std.specs.List.{list_all}
 use Rattle.std.proofs.lemmas.Bool.{and_from, and_parts}
 use Rattle.tree_operations.specs.SelectionTree.{SelectionTree, SelectionTrees, no_selections}
 use Rattle.read_tokens.specs.Input.{end_of}
-use Rattle.read_grammar.specs.Meaning.{Meaning, name_of}
-use Rattle.read_grammar.specs.Kinds.{is_fragment_name, is_colon, is_spread, is_on, is_fragment, is_open_brace, is_close_brace, is_open_paren, is_close_paren}
-use Rattle.read_grammar.specs.Rules as rule
-use Rattle.read_grammar.specs.Rules.{Rule}
-use Rattle.read_grammar.specs.ValueGrammar.{constant, with_variables, name, default_value}
-use Rattle.read_grammar.specs.OperationGrammar as g
-use Rattle.read_grammar.specs.OperationGrammar.{selections_of, field_of, spread_of, inline_of, variable_definition_of, short_of, operation_of, fragment_of}
+use Rattle.read_types.specs.in_grammar.Meaning.{Meaning, name_of}
+use Rattle.read_types.specs.in_grammar.Kinds.{is_fragment_name, is_colon, is_spread, is_on, is_fragment, is_open_brace, is_close_brace, is_open_paren, is_close_paren}
+use Rattle.read_types.specs.in_grammar.Rules as rule
+use Rattle.read_types.specs.in_grammar.Rules.{Rule}
+use Rattle.read_types.specs.in_grammar.ValueGrammar.{constant, with_variables, name, default_value}
+use Rattle.read_types.specs.in_grammar.OperationGrammar as g
+use Rattle.read_types.specs.in_grammar.OperationGrammar.{selections_of, field_of, spread_of, inline_of, variable_definition_of, short_of, operation_of, fragment_of}
 use Rattle.graphql_read.specs.EachPlace.{all_in_any, all_in_text, all_in_node, all_in_nodes, all_in_type, all_in_default, all_in_arguments, all_in_directives, all_in_selection, all_in_selections, all_in_variable, all_in_operation, all_in_fragment}
 use Rattle.graphql_read.proofs.Makes.{Makes, any_token, mapped, mark, seq, choice, never, maybe, or_none, some_all, enclosed, three, four}
 use Rattle.graphql_read.proofs.MakesOperations.{operation_type_makes}

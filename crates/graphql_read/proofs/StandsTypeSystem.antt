@@ -1,16 +1,16 @@
 -- Each place in definitions of the type system is one that the meaning gives.
 use Rattle.std.proofs.Common.{◌≡◌, ℕ, zero, suc, Bool, true, false, ◌&&◌, [], unwrap_or, refl}
 use Rattle.std.proofs.lemmas.Bool.{and_parts}
-use Rattle.tree_definitions.specs.Writable.{has_some}
-use Rattle.read_grammar.specs.Meaning.{Meaning, text_of}
+use Rattle.read_types.specs.in_definitions.Writable.{has_some}
+use Rattle.read_types.specs.in_grammar.Meaning.{Meaning, text_of}
 use Rattle.read_tokens.specs.Input.{end_of}
 use Rattle.read_tokens.specs.declared.terminal.Terminal.{Terminal}
-use Rattle.read_grammar.specs.Kinds.{is_string, is_colon, is_at, is_equals, is_ampersand, is_pipe, is_on, is_location, is_repeatable, is_implements, is_schema, is_scalar, is_type, is_interface, is_union, is_enum, is_input, is_directive, is_open_brace, is_close_brace, is_open_paren, is_close_paren}
-use Rattle.read_grammar.specs.Locations.{location_of}
-use Rattle.read_grammar.specs.Rules as rule
-use Rattle.read_grammar.specs.ValueGrammar.{constant, name, directives}
-use Rattle.read_grammar.specs.TypeSystemGrammar as g
-use Rattle.read_grammar.specs.TypeSystemGrammar.{KindTree, SchemaKind, ScalarKind, ObjectKind, InterfaceKind, UnionKind, EnumKind, InputObjectKind, root_of, schema_of, schema_extension_of, input_value_of, field_definition_of, enum_value_definition_of, scalar_of, fields_of, union_of, enum_of, input_object_of, directive_definition_of}
+use Rattle.read_types.specs.in_grammar.Kinds.{is_string, is_colon, is_at, is_equals, is_ampersand, is_pipe, is_on, is_location, is_repeatable, is_implements, is_schema, is_scalar, is_type, is_interface, is_union, is_enum, is_input, is_directive, is_open_brace, is_close_brace, is_open_paren, is_close_paren}
+use Rattle.read_types.specs.in_grammar.Locations.{location_of}
+use Rattle.read_types.specs.in_grammar.Rules as rule
+use Rattle.read_types.specs.in_grammar.ValueGrammar.{constant, name, directives}
+use Rattle.read_types.specs.in_grammar.TypeSystemGrammar as g
+use Rattle.read_types.specs.in_grammar.TypeSystemGrammar.{KindTree, SchemaKind, ScalarKind, ObjectKind, InterfaceKind, UnionKind, EnumKind, InputObjectKind, root_of, schema_of, schema_extension_of, input_value_of, field_definition_of, enum_value_definition_of, scalar_of, fields_of, union_of, enum_of, input_object_of, directive_definition_of}
 use Rattle.graphql_read.specs.EachPlace.{all_in_any, all_in_text, all_in_texts, all_in_node, all_in_nodes, all_in_type, all_in_default, all_in_directives, all_in_input_value, all_in_input_values, all_in_directive_definition, all_in_field_definition, all_in_enum_value, all_in_root, all_in_schema, all_in_scalar, all_in_fields, all_in_union, all_in_enum, all_in_input_object}
 use Rattle.graphql_read.proofs.Makes.{Makes, any_token, mapped, mapped_any, mark, seq, choice, never, weaker, maybe, maybe_any, or_none, or_none_unless, some_all, separated, enclosed, three, four}
 use Rattle.graphql_read.proofs.MakesOperations.{operation_type_makes}

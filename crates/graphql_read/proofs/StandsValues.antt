@@ -7,12 +7,12 @@ use Rattle.tree_literals.specs.ValueTree.{ValueTree, NullTree, EnumTree, Variabl
 use Rattle.tree_literals.specs.TypeTree.{TypeTree, NamedTree, NonNullNamedTree, NonNullListTree}
 use Rattle.tree_literals.specs.TypeTree as types
 use Rattle.read_tokens.specs.Input.{end_of}
-use Rattle.read_grammar.specs.Meaning.{Meaning, name_of}
-use Rattle.read_grammar.specs.Kinds.{is_name, is_enum_value, is_string, is_int, is_float, is_true, is_false, is_null, is_dollar, is_colon, is_at, is_equals, is_bang, is_open_bracket, is_close_bracket, is_open_brace, is_close_brace, is_open_paren, is_close_paren}
-use Rattle.read_grammar.specs.Rules as rule
-use Rattle.read_grammar.specs.Rules.{Rule, ◌·◌, ◌<$>◌, ◌∣◌}
-use Rattle.read_grammar.specs.ValueGrammar as g
-use Rattle.read_grammar.specs.ValueGrammar.{Const, constant, items_of, entries_of, argument_of, directive_of, non_null, type_of}
+use Rattle.read_types.specs.in_grammar.Meaning.{Meaning, name_of}
+use Rattle.read_types.specs.in_grammar.Kinds.{is_name, is_enum_value, is_string, is_int, is_float, is_true, is_false, is_null, is_dollar, is_colon, is_at, is_equals, is_bang, is_open_bracket, is_close_bracket, is_open_brace, is_close_brace, is_open_paren, is_close_paren}
+use Rattle.read_types.specs.in_grammar.Rules as rule
+use Rattle.read_types.specs.in_grammar.Rules.{Rule, ◌·◌, ◌<$>◌, ◌∣◌}
+use Rattle.read_types.specs.in_grammar.ValueGrammar as g
+use Rattle.read_types.specs.in_grammar.ValueGrammar.{Const, constant, items_of, entries_of, argument_of, directive_of, non_null, type_of}
 use Rattle.graphql_read.specs.EachPlace.{all_in_type, all_in_value, all_in_items, all_in_entries, all_in_argument, all_in_arguments, all_in_directive, all_in_directives}
 use Rattle.graphql_read.proofs.Makes.{Makes, any_token, mapped, mark, seq, choice, never, maybe_any, or_none, several, some_all, enclosed, three}
 use Rattle.graphql_read.proofs.Stands.{Gives, stands}

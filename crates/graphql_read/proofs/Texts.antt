@@ -5,21 +5,21 @@ use Rattle.read_tokens.specs.declared.terminal.Terminal.{Terminal}
 use Rattle.read_tokens.specs.Input.{Token, Input, Ending, Ended, NoTokenAt, next}
 use Rattle.read_tokens.specs.Cursor.{EndsAs, is_stuck_at, input_from}
 use Rattle.read_tokens.proofs.Lexed.{ends_as}
-use Rattle.read_grammar.specs.declared.stop.Stop.{Stop}
-use Rattle.read_grammar.specs.declared.stop.Stop.TheVariants.{Memory, Unexpected, Nesting}
-use Rattle.read_grammar.specs.Rules.{Rule}
-use Rattle.read_grammar.specs.Grammar.{DerivesAs}
-use Rattle.read_grammar.specs.Depth.{depth}
-use Rattle.read_grammar.specs.Faults as faults
-use Rattle.read_grammar.specs.Faults.{Symbol, BeginsSome, Says}
-use Rattle.read_grammar.specs.Stops.{fault_of, unexpected_at}
-use Rattle.read_grammar.specs.Reading.{Parser, ended, ended_at, whole}
-use Rattle.read_grammar.proofs.Tests.{Test}
-use Rattle.read_grammar.proofs.Keeps as kept
-use Rattle.read_grammar.proofs.Keeps.{Keeps, ending_of}
-use Rattle.read_grammar.proofs.Parses.{Parses}
-use Rattle.read_grammar.proofs.Theorems as t
-use Rattle.read_grammar.proofs.Viable.{Viable}
+use Rattle.read_types.specs.in_grammar.declared.stop.Stop.{Stop}
+use Rattle.read_types.specs.in_grammar.declared.stop.Stop.TheVariants.{Memory, Unexpected, Nesting}
+use Rattle.read_types.specs.in_grammar.Rules.{Rule}
+use Rattle.read_types.specs.in_grammar.Grammar.{DerivesAs}
+use Rattle.read_types.specs.in_grammar.Depth.{depth}
+use Rattle.read_types.specs.in_grammar.Faults as faults
+use Rattle.read_types.specs.in_grammar.Faults.{Symbol, BeginsSome, Says}
+use Rattle.read_types.specs.in_grammar.Stops.{fault_of, unexpected_at}
+use Rattle.read_types.specs.in_grammar.Reading.{Parser, ended, ended_at, whole}
+use Rattle.read_types.proofs.in_grammar.Tests.{Test}
+use Rattle.read_types.proofs.in_grammar.Keeps as kept
+use Rattle.read_types.proofs.in_grammar.Keeps.{Keeps, ending_of}
+use Rattle.read_types.proofs.in_grammar.Parses.{Parses}
+use Rattle.read_types.proofs.in_grammar.Theorems as t
+use Rattle.read_types.proofs.in_grammar.Viable.{Viable}
 use Rattle.graphql_read.specs.Calls.{all_of}
 use Rattle.graphql_read.specs.Reads.{ReadsWithin, IsDue}
 use Rattle.graphql_read.proofs.Endings.{AtEnd, ends_whole, not_stuck, lexed_whole, all_ok, all_err}

@@ -3,8 +3,8 @@ use Rattle.std.specs.Prelude.{Option, Some, None, Ok, Err, if◌then◌else◌}
 use Rattle.read_tokens.specs.declared.terminal.Terminal.{Terminal}
 use Rattle.read_tokens.specs.Input.{next}
 use Rattle.read_tokens.specs.Cursor.{is_stuck}
-use Rattle.read_grammar.specs.declared.stop.Stop.TheVariants.{Unexpected}
-use Rattle.read_grammar.specs.Reading.{Parser, and_then}
+use Rattle.read_types.specs.in_grammar.declared.stop.Stop.TheVariants.{Unexpected}
+use Rattle.read_types.specs.in_grammar.Reading.{Parser, and_then}
 
 -- nothing is left, and no text behind the tokens that is none
 abbrev pub end_of_text_at : Option Terminal → Parser (Unit {0})

@@ -4,11 +4,11 @@ use Rattle.std.specs.declared.alloc.Global.{Global}
 use Rattle.graphql_names.specs.Placed.{Place}
 use Rattle.tree_operations.specs.SelectionTree.{SelectionTrees, selection_tree, selection_trees}
 use Rattle.tree_operations.specs.declared.selection.Selection.{Selection}
-use Rattle.tree_definitions.specs.DefinitionTree.{DefinitionTree, definition_tree}
-use Rattle.tree_definitions.specs.Sources.{Source}
-use Rattle.tree_definitions.specs.declared.definition.Definition.{Definition}
-use Rattle.read_grammar.specs.Faults as faults
-use Rattle.read_grammar.specs.Faults.{Symbol, Fault}
+use Rattle.read_types.specs.in_definitions.DefinitionTree.{DefinitionTree, definition_tree}
+use Rattle.read_types.specs.in_definitions.Sources.{Source}
+use Rattle.read_types.specs.in_definitions.declared.definition.Definition.{Definition}
+use Rattle.read_types.specs.in_grammar.Faults as faults
+use Rattle.read_types.specs.in_grammar.Faults.{Symbol, Fault}
 use Rattle.graphql_read.specs.Reads.{NestingBound, ReadsWithin}
 use Rattle.graphql_read.specs.declared.fault.SyntaxFaultKind.{SyntaxFaultKind}
 use Rattle.graphql_read.specs.declared.fault.SyntaxFaultKind.TheVariants.{NoToken, Unexpected, End}

@@ -3,8 +3,8 @@ use Rattle.std.specs.Prelude.{ℕ, ◌<◌, ◌≤◌, List}
 use Rattle.read_tokens.specs.Input.{Token, Ending}
 use Rattle.read_tokens.specs.Lex.{LexesFront, Lex}
 use Rattle.read_tokens.specs.Cursor.{EndsAs}
-use Rattle.read_grammar.specs.Depth.{depth}
-use Rattle.read_grammar.specs.Faults.{Symbol, Fault, Says}
+use Rattle.read_types.specs.in_grammar.Depth.{depth}
+use Rattle.read_types.specs.in_grammar.Faults.{Symbol, Fault, Says}
 
 -- The text is these tokens, and they are a text of the symbol with this tree.
 pub record HasTree {A : Type 0} (symbol : Symbol A) (text : List ℕ) (tree : A) : Type 0 where

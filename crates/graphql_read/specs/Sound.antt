@@ -5,9 +5,9 @@ use Rattle.graphql_names.specs.Places.{is_built_in}
 use Rattle.graphql_names.specs.Placed.{Place}
 use Rattle.tree_literals.specs.TypeTree.{TypeTree}
 use Rattle.tree_operations.specs.SelectionTree.{SelectionTrees}
-use Rattle.read_values.specs.in_values.Writable.{type_writable, has_selection, selections_writable}
-use Rattle.tree_definitions.specs.DefinitionTree.{DefinitionTree, Schema}
-use Rattle.tree_definitions.specs.Writable.{has_some, document_writable}
+use Rattle.read_types.specs.in_values.Writable.{type_writable, has_selection, selections_writable}
+use Rattle.read_types.specs.in_definitions.DefinitionTree.{DefinitionTree, Schema}
+use Rattle.read_types.specs.in_definitions.Writable.{has_some, document_writable}
 use Rattle.graphql_read.specs.EachPlace.{all_in_type, all_in_selections, all_in_document}
 
 -- a schema definition names a root (section 3.3)

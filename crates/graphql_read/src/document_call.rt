@@ -1,12 +1,12 @@
 //! Documents, from texts (section 2.2).
 ghost use Rattle.std.specs.Prelude.{◌≡◌, IfOk, IfErr, [], ◌∷◌, map};
 ghost use Rattle.std.specs.Rc.{rc_str_bytes};
-ghost use Rattle.tree_definitions.specs.DefinitionTree.{document_tree};
-ghost use Rattle.tree_definitions.specs.Sources.{source_of, numbered_source, sources_of};
-ghost use Rattle.read_grammar.specs.DocumentReading as reading;
-ghost use Rattle.read_grammar.specs.Grammar.{Derives};
-ghost use Rattle.read_grammar.specs.Reading as read;
-ghost use Rattle.read_operations.specs.in_read_values.Meanings.{in_file};
+ghost use Rattle.read_types.specs.in_definitions.DefinitionTree.{document_tree};
+ghost use Rattle.read_types.specs.in_definitions.Sources.{source_of, numbered_source, sources_of};
+ghost use Rattle.read_types.specs.in_grammar.DocumentReading as reading;
+ghost use Rattle.read_types.specs.in_grammar.Grammar.{Derives};
+ghost use Rattle.read_types.specs.in_grammar.Reading as read;
+ghost use Rattle.read_types.specs.in_read_operations.Meanings.{in_file};
 ghost use Rattle.graphql_read.specs.Calls.{all_of};
 ghost use Rattle.graphql_read.specs.ReadFaults.{fault_view, definitions_tree, unnamed_source, IsEachTreeUnlessMemory, LiesIn, KeepsToBound};
 ghost use Rattle.graphql_read.specs.Reads.{ReadsWithin, IsDue};
@@ -17,14 +17,13 @@ use crate::fault::ReadFault;
 use crate::finish::{end_of_text, fault};
 use graphql_names::FileId;
 use indexmap::IndexMap;
-use read_grammar::Stop;
 use read_tokens::Source;
+use read_types::{Definition, Document, SourceFile, Stop};
 use std::alloc::{AllocError, Global};
 use std::rc::RcStr;
-use tree_definitions::{Definition, Document, SourceFile};
 
 /// Document, and nothing after it.
-#[tactic(auto, unfolding(read_grammar::specs::DocumentReading::document))]
+#[tactic(auto, unfolding(read_types::specs::in_grammar::DocumentReading::document))]
 fn whole_document(
     alloc: Global,
     tokens: &mut Source<'_>,

@@ -1,21 +1,20 @@
 //! Definitions and documents (section 2.2).
 ghost use Rattle.std.specs.Prelude.{◌≡◌, map};
 ghost use Rattle.read_tokens.specs.Input as input;
-ghost use Rattle.tree_definitions.specs.DefinitionTree.{definition_tree};
-ghost use Rattle.read_grammar.specs.Begins as begins;
-ghost use Rattle.read_grammar.specs.Kinds as kinds;
-ghost use Rattle.read_grammar.specs.DocumentReading as reading;
-ghost use Rattle.read_grammar.specs.Reading as read;
-ghost use Rattle.read_operations.specs.in_read_values.Meanings.{in_file};
+ghost use Rattle.read_types.specs.in_definitions.DefinitionTree.{definition_tree};
+ghost use Rattle.read_types.specs.in_grammar.Begins as begins;
+ghost use Rattle.read_types.specs.in_grammar.Kinds as kinds;
+ghost use Rattle.read_types.specs.in_grammar.DocumentReading as reading;
+ghost use Rattle.read_types.specs.in_grammar.Reading as read;
+ghost use Rattle.read_types.specs.in_read_operations.Meanings.{in_file};
 
 use graphql_names::FileId;
-use read_grammar::Stop;
-use read_operations::{placed_fragment, placed_operation};
 use read_tokens::{Source, Terminal};
-use read_types::{type_system_definition, type_system_extension};
-use read_values::next_is;
+use read_types::{
+    Definition, Stop, next_is, placed_fragment, placed_operation, type_system_definition,
+    type_system_extension,
+};
 use std::alloc::Global;
-use tree_definitions::Definition;
 
 /// Whether an operation may begin with the next token.
 fn begins_operation(tokens: &Source<'_>) -> bool
@@ -61,7 +60,7 @@ fn begins_definition(tokens: &Source<'_>) -> bool
 }
 
 /// Definition: OperationDefinition, FragmentDefinition, TypeSystemDefinition or TypeSystemExtension.
-#[tactic(auto, unfolding(read_grammar::specs::DocumentReading::definition))]
+#[tactic(auto, unfolding(read_types::specs::in_grammar::DocumentReading::definition))]
 fn definition(
     alloc: Global,
     tokens: &mut Source<'_>,

@@ -1,15 +1,14 @@
 //! The end of a text, and the fault where reading stops.
 ghost use Rattle.std.specs.Prelude.{◌≡◌};
 ghost use Rattle.read_tokens.specs.Cursor.{next_offset};
-ghost use Rattle.read_grammar.specs.Reading.{Reads};
-ghost use Rattle.read_grammar.specs.Stops.{unexpected_at, fault_of};
+ghost use Rattle.read_types.specs.in_grammar.Reading.{Reads};
+ghost use Rattle.read_types.specs.in_grammar.Stops.{unexpected_at, fault_of};
 ghost use Rattle.graphql_read.specs.Calls.{end_of_text};
 ghost use Rattle.graphql_read.specs.ReadFaults.{fault_at, fault_view};
 
 use crate::fault::{ReadFault, SyntaxFault, SyntaxFaultKind};
-use read_grammar::Stop;
 use read_tokens::Source;
-use read_values::begin;
+use read_types::{Stop, begin};
 
 /// Whether the text ends here.
 pub fn end_of_text(tokens: &Source<'_>) -> Result<(), Stop>

@@ -1,9 +1,9 @@
 //! Selections, from texts (section 2.4).
 ghost use Rattle.std.specs.Prelude.{IfOk, IfErr};
-ghost use Rattle.read_grammar.specs.OperationReading as operations;
-ghost use Rattle.read_grammar.specs.Reading as read;
-ghost use Rattle.read_grammar.specs.Grammar.{DerivesSelections};
-ghost use Rattle.read_operations.specs.in_read_values.Meanings.{in_file};
+ghost use Rattle.read_types.specs.in_grammar.OperationReading as operations;
+ghost use Rattle.read_types.specs.in_grammar.Reading as read;
+ghost use Rattle.read_types.specs.in_grammar.Grammar.{DerivesSelections};
+ghost use Rattle.read_types.specs.in_read_operations.Meanings.{in_file};
 ghost use Rattle.graphql_read.specs.Calls.{all_of};
 ghost use Rattle.graphql_read.specs.ReadFaults.{fault_view, selections_tree, IsEachTreeUnlessMemory, LiesIn, KeepsToBound};
 ghost use Rattle.graphql_read.specs.Reads.{ReadsWithin, IsDue};
@@ -12,9 +12,8 @@ ghost use Rattle.graphql_read.specs.Sound.{AreSound};
 use crate::fault::ReadFault;
 use crate::finish::{end_of_text, fault};
 use graphql_names::FileId;
-use read_grammar::Stop;
-use read_operations::selections;
 use read_tokens::Source;
+use read_types::{Stop, selections};
 use std::alloc::Global;
 use std::rc::RcStr;
 use tree_operations::Selection;

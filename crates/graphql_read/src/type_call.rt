@@ -1,10 +1,10 @@
 //! References to types, from texts (section 2.11).
 ghost use Rattle.std.specs.Prelude.{IfOk, IfErr};
 ghost use Rattle.tree_literals.specs.TypeTree.{type_tree};
-ghost use Rattle.read_grammar.specs.ValueReading as values;
-ghost use Rattle.read_grammar.specs.Reading as read;
-ghost use Rattle.read_grammar.specs.Grammar.{DerivesType};
-ghost use Rattle.read_operations.specs.in_read_values.Meanings.{in_file};
+ghost use Rattle.read_types.specs.in_grammar.ValueReading as values;
+ghost use Rattle.read_types.specs.in_grammar.Reading as read;
+ghost use Rattle.read_types.specs.in_grammar.Grammar.{DerivesType};
+ghost use Rattle.read_types.specs.in_read_operations.Meanings.{in_file};
 ghost use Rattle.graphql_read.specs.Calls.{all_of};
 ghost use Rattle.graphql_read.specs.ReadFaults.{fault_view, IsEachTreeUnlessMemory, LiesIn, KeepsToBound};
 ghost use Rattle.graphql_read.specs.Reads.{ReadsWithin, IsDue};
@@ -13,9 +13,8 @@ ghost use Rattle.graphql_read.specs.Sound.{IsSoundType};
 use crate::fault::ReadFault;
 use crate::finish::{end_of_text, fault};
 use graphql_names::FileId;
-use read_grammar::Stop;
 use read_tokens::Source;
-use read_values::ty;
+use read_types::{Stop, ty};
 use std::alloc::Global;
 use std::rc::RcStr;
 use tree_literals::Type;

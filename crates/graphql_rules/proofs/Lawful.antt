@@ -1,8 +1,8 @@
 -- What follows for the schema that is left, where no rule breaks of the schema that was given.
 use Rattle.std.proofs.Common.{◌≡◌, refl, sym, subst}
 use Rattle.graphql_names.specs.Placed.{Place}
-use Rattle.graphql_schema.specs.SchemaOf.{schema_tree}
-use Rattle.graphql_schema.specs.declared.schema.Schema.{Schema}
+use Rattle.rule_cycles.specs.in_schema.SchemaOf.{schema_tree}
+use Rattle.rule_cycles.specs.in_schema.declared.schema.Schema.{Schema}
 use Rattle.schema_components.specs.Names.{Entries}
 use Rattle.rule_definitions.specs.in_schema_types.SchemaTree.{SchemaType, SchemaTree}
 use Rattle.rule_definitions.specs.Distinct.{AreAllDistinct}

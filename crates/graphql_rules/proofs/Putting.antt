@@ -24,8 +24,8 @@ use Rattle.schema_types.specs.declared.kinds.InputObjectType.{InputObjectType}
 use Rattle.schema_types.specs.SchemaTree.{SchemaType, SchemaTree}
 use Rattle.schema_types.specs.Addresses.{under, type_at}
 use Rattle.schema_types.specs.SchemaView.{types_view, definitions_view}
-use Rattle.graphql_schema.specs.SchemaOf.{schema_tree}
-use Rattle.graphql_schema.specs.declared.schema.Schema.{Schema}
+use Rattle.rule_cycles.specs.in_schema.SchemaOf.{schema_tree}
+use Rattle.rule_cycles.specs.in_schema.declared.schema.Schema.{Schema}
 use Rattle.rule_definitions.specs.Names.{scalar_names}
 use Rattle.rule_definitions.specs.Kept.{is_dropped, is_missing, is_inside, is_inside_arguments, is_inside_field, is_inside_type, built_in_scalar, kept, validated, is_referenced}
 use Rattle.graphql_rules.specs.Putting.{put_under, and_kept, and_missing}

@@ -14,7 +14,7 @@ use Rattle.tree_directives.specs.declared.directive.Directive.{Directive}
 use Rattle.tree_directives.specs.declared.directive_location.DirectiveLocation.{DirectiveLocation}
 use Rattle.tree_directives.specs.declared.input_value.InputValueDefinition.{InputValueDefinition}
 use Rattle.tree_operations.specs.declared.operation.VariableDefinition.{VariableDefinition}
-use Rattle.graphql_schema.specs.declared.schema.Schema.{Schema}
+use Rattle.rule_cycles.specs.in_schema.declared.schema.Schema.{Schema}
 use Rattle.rule_definitions.specs.in_schema_types.Addresses.{place_at}
 use Rattle.rule_definitions.specs.Diagnostics.{DisallowedVariableUsage}
 use Rattle.rule_definitions.specs.Faults.{wrong}
@@ -25,7 +25,7 @@ use Rattle.rule_definitions.specs.GivenValues.{Variables}
 use Rattle.rule_definitions.specs.VariableUsage.{IsVariableUsageAllowed}
 use Rattle.rule_definitions.specs.Uses.{UsesBreak}
 use Rattle.rule_definitions.specs.Told.{PlacedFault}
-use Rattle.rule_values.specs.Wanting.{variables_of}
+use Rattle.rule_uses.specs.in_rule_values.Wanting.{variables_of}
 use Rattle.rule_uses.specs.Trees.{tree_of}
 use Rattle.graphql_faults.specs.DetailsView.{diagnostics_of}
 use Rattle.graphql_faults.specs.declared.diagnostic_list.DiagnosticList.{DiagnosticList}

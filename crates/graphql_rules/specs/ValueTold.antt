@@ -12,7 +12,7 @@ use Rattle.rule_definitions.specs.in_schema_types.Addresses.{place_at}
 use Rattle.rule_definitions.specs.Judged.{judged}
 use Rattle.rule_definitions.specs.Accepts.{Accepts}
 use Rattle.rule_definitions.specs.Values.{ValueBreaks}
-use Rattle.rule_values.specs.Wanting.{wanted_type, variables_of}
+use Rattle.rule_uses.specs.in_rule_values.Wanting.{wanted_type, variables_of}
 use Rattle.graphql_faults.specs.DetailsTree.{Telling}
 use Rattle.graphql_rules.specs.Appends.{Appends}
 

@@ -10,9 +10,8 @@ ghost use Rattle.graphql_rules.specs.Given.{Each, LeadsToDirective, UsesTold, Us
 
 use graphql_faults::DiagnosticList;
 use graphql_names::Node;
-use graphql_schema::Schema;
-use rule_uses::{check_arguments_alone, check_directives, usage_fault};
-use rule_values::DefinedVariables;
+use rule_cycles::Schema;
+use rule_uses::{DefinedVariables, check_arguments_alone, check_directives, usage_fault};
 use std::alloc::{AllocError, Global};
 use std::ops::Deref;
 use tree_directives::{Argument, Directive, DirectiveLocation, InputValueDefinition};

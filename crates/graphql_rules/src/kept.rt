@@ -4,7 +4,7 @@ ghost use Rattle.graphql_names.specs.NameSyntax.{IsName};
 ghost use Rattle.graphql_names.specs.Placed.{name_tree};
 ghost use Rattle.schema_types.specs.SchemaView.{types_view};
 ghost use Rattle.schema_types.specs.TypeView.{extended_type};
-ghost use Rattle.graphql_schema.specs.SchemaOf.{schema_tree};
+ghost use Rattle.rule_cycles.specs.in_schema.SchemaOf.{schema_tree};
 ghost use Rattle.schema_types.specs.BuiltIn.{built_in, name as bare_name};
 ghost use Rattle.rule_definitions.specs.Names.{scalar_names};
 ghost use Rattle.rule_definitions.specs.Kept.{is_dropped, is_missing, built_in_scalar, validated};
@@ -12,8 +12,8 @@ ghost use Rattle.graphql_rules.specs.Putting.{put_under, and_kept, and_missing};
 
 use crate::references::is_referenced;
 use graphql_names::{FileId, Name, Node, SourceSpan};
-use graphql_schema::Schema;
 use indexmap::IndexMap;
+use rule_cycles::Schema;
 use schema_components::DirectiveList;
 use schema_types::{ExtendedType, ScalarType};
 use std::alloc::{AllocError, Global};

@@ -7,11 +7,11 @@ ghost use Rattle.tree_directives.specs.DirectiveTree.{input_value_tree, directiv
 ghost use Rattle.tree_type_members.specs.TypeSystemTree.{field_definition_tree};
 ghost use Rattle.schema_components.specs.Given.{component_tree};
 ghost use Rattle.schema_types.specs.TypeView.{extended_type};
-ghost use Rattle.graphql_schema.specs.SchemaOf.{schema_tree};
+ghost use Rattle.rule_cycles.specs.in_schema.SchemaOf.{schema_tree};
 ghost use Rattle.rule_definitions.specs.Kept.{is_inside, is_inside_arguments, is_inside_field, is_inside_type, is_referenced};
 
 use graphql_names::Node;
-use graphql_schema::Schema;
+use rule_cycles::Schema;
 use schema_components::Component;
 use schema_types::ExtendedType;
 use tree_directives::{DirectiveDefinition, InputValueDefinition};

@@ -4,7 +4,7 @@ ghost use Rattle.rule_definitions.specs.Names.{scalar_names};
 ghost use Rattle.graphql_rules.specs.Scalars.{IsNoted, Notes};
 
 use graphql_names::Name;
-use graphql_schema::Schema;
+use rule_cycles::Schema;
 
 /// Which of the five built-in scalars (section 3.5) something refers to.
 #[derive(Clone, Copy, PartialEq, Eq)]

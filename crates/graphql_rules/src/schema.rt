@@ -1,6 +1,6 @@
 //! Every rule on a schema.
 ghost use Rattle.std.specs.Prelude.{◌≡◌, IfOk, OnOk, OnErr};
-ghost use Rattle.graphql_schema.specs.SchemaOf.{schema_tree};
+ghost use Rattle.rule_cycles.specs.in_schema.SchemaOf.{schema_tree};
 ghost use Rattle.fault_data.specs.FaultView.{faults_of};
 ghost use Rattle.rule_definitions.specs.Distinct.{AreAllDistinct};
 ghost use Rattle.rule_definitions.specs.Judged.{judged};
@@ -13,9 +13,8 @@ ghost use Rattle.graphql_rules.specs.SchemaTold.{TellsSchema, SchemaTold, ValidS
 use crate::kept::kept_types;
 use fault_data::Fault;
 use graphql_faults::DiagnosticList;
-use graphql_schema::Schema;
-use graphql_schema::laws::names_differ;
-use rule_cycles::check_cycles;
+use rule_cycles::laws::names_differ;
+use rule_cycles::{Schema, check_cycles};
 use rule_interfaces::check_interfaces;
 use rule_types::check_types;
 use rule_uses::check_schema_directives;

@@ -1,13 +1,13 @@
 //! Rules on values.
 ghost use Rattle.std.specs.Prelude.{◌≡◌, ◌↔◌, OnOk, OnErr};
-ghost use Rattle.graphql_schema.specs.SchemaOf.{schema_tree};
+ghost use Rattle.rule_cycles.specs.in_schema.SchemaOf.{schema_tree};
 ghost use Rattle.graphql_faults.specs.DetailsView.{diagnostics_of, BeginsAs};
 ghost use Rattle.graphql_rules.specs.ValueTold.{ValueTold, TypeAccepts};
 
 use graphql_faults::DiagnosticList;
 use graphql_names::Node;
-use graphql_schema::Schema;
-use rule_values::{DefinedVariables, check_value};
+use rule_cycles::Schema;
+use rule_uses::{DefinedVariables, check_value};
 use std::alloc::{AllocError, Global};
 use tree_literals::{Type, Value};
 use tree_operations::VariableDefinition;

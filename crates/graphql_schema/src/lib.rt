@@ -26,7 +26,7 @@ pub use builder::SchemaBuilder;
 pub use field_lookup::FieldLookupError;
 pub use implementers::{Implementers, ImplementersNames};
 pub use schema::Schema;
-pub use schema_building::{BuilderRefusal, OrphanExtensionTypes};
+pub use schema_building::{BuilderRefusal, OrphanExtensionTypes, add_sources};
 pub use schema_components::{
     Component, ComponentName, ComponentOrigin, DirectiveList, ExtensionId, Extensions,
     NamedComponents,
@@ -36,3 +36,5 @@ pub use schema_writing::{
     EnumType, ExtendedType, InputObjectType, InterfaceType, ObjectType, Origins, RootOperations,
     ScalarType, SchemaDefinition, TypeKind, UnionType,
 };
+
+// Of the crates beneath, for those above.

@@ -6,10 +6,10 @@ use Rattle.std.specs.Str.{bytes_eq}
 use Rattle.graphql_names.specs.Placed.{Place, Placed, node_tree}
 use Rattle.schema_components.specs.Names.{Entries, same_text}
 use Rattle.schema_types.specs.TypeView.{name_text}
-use Rattle.graphql_schema.proofs.DistinctFacts.{distinct_entries}
+use Rattle.rule_fragments.proofs.in_schema.DistinctFacts.{distinct_entries}
 use Rattle.document_typed_operations.specs.TypedDocument.{TypedFragment, typed_fragment_tree, typed_document_tree}
 use Rattle.document_typed_operations.specs.declared.document.ExecutableDocument.{ExecutableDocument}
-use Rattle.document_typing.specs.DocumentView.{meant_by_fragment, document_meant}
+use Rattle.rule_fragments.specs.in_typing.DocumentView.{meant_by_fragment, document_meant}
 
 meant_keys : (es : Entries (Placed Place (TypedFragment Place))) → keys_of (map (λ e. (e.0, meant_by_fragment e.1)) es) ≡ keys_of es
 meant_keys [] = refl

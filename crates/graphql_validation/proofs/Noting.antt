@@ -11,8 +11,8 @@ use Rattle.document_meaning.specs.MeantTree.{MeantOperation, MeantFragment, Mean
 use Rattle.rule_definitions.specs.Words.{AtSomeIndex}
 use Rattle.rule_document_definitions.specs.Selected.{own}
 use Rattle.rule_definitions.proofs.Listing.{index_append}
-use Rattle.rule_document_ground.specs.Reach.{Member, IsReach}
-use Rattle.rule_document_ground.proofs.Bridge.{from_map, to_map}
+use Rattle.rule_fragments.specs.in_ground.Reach.{Member, IsReach}
+use Rattle.rule_fragments.proofs.in_ground.Bridge.{from_map, to_map}
 use Rattle.graphql_validation.specs.Operations.{ReachesNamed, NotesNames, with_fragments}
 
 -- one name more

@@ -14,18 +14,18 @@ use Rattle.document_typed_selections.specs.TypedTree.{typed_set_tree}
 use Rattle.document_typed_operations.specs.declared.operation.Fragment.{Fragment}
 use Rattle.document_typed_operations.specs.declared.operation.Operation.{Operation}
 use Rattle.document_meaning.specs.MeantTree.{MeantOperation, MeantFragment, MeantDocument}
-use Rattle.document_typing.specs.DocumentView.{operation_meant}
-use Rattle.document_typing.specs.Meanings.{meanings}
-use Rattle.document_typing.specs.TypedByPlace.{IsTyped}
+use Rattle.rule_fragments.specs.in_typing.DocumentView.{operation_meant}
+use Rattle.rule_fragments.specs.in_typing.Meanings.{meanings}
+use Rattle.rule_fragments.specs.in_typing.TypedByPlace.{IsTyped}
 use Rattle.rule_definitions.specs.Judged.{judged}
 use Rattle.rule_definitions.specs.Told.{PlacedFault}
 use Rattle.rule_document_definitions.specs.Fragments.{UndefinedFragmentAt, InvalidFragmentTargetAt, InvalidFragmentSpreadAt}
 use Rattle.rule_document_definitions.specs.Selected.{InOperation, operation_name, own}
 use Rattle.rule_document_definitions.specs.Selections.{SelectionsBreak}
 use Rattle.rule_document_definitions.specs.Told.{place_or_built_in, places_in}
-use Rattle.rule_document_ground.specs.Reach.{Member, IsReachOf, meant_fragments}
-use Rattle.rule_document_ground.specs.declared.lists.Reach.{Reach}
-use Rattle.rule_document_ground.proofs.OfDocuments.{ReachesFrom}
+use Rattle.rule_fragments.specs.in_ground.Reach.{Member, IsReachOf, meant_fragments}
+use Rattle.rule_fragments.specs.in_ground.declared.lists.Reach.{Reach}
+use Rattle.rule_fragments.proofs.in_ground.OfDocuments.{ReachesFrom}
 use Rattle.rule_selections.specs.Typed.{ReachesTyped}
 use Rattle.rule_selections.specs.Settled.{StandIn}
 use Rattle.rule_selections.proofs.Instead.{reached_more}

@@ -9,7 +9,7 @@ use Rattle.graphql_faults.specs.DetailsTree.{of_rule, of_document}
 use Rattle.rule_document_definitions.specs.DocumentFaults.{Broken, OfData, OfDocument, OfLimit}
 use Rattle.rule_document_definitions.specs.Told.{PlacedDocumentFault}
 use Rattle.rule_definitions.proofs.Lists.{not_in_nil, only, Contains-first}
-use Rattle.rule_document_ground.proofs.Bridge.{from_map, to_map}
+use Rattle.rule_fragments.proofs.in_ground.Bridge.{from_map, to_map}
 use Rattle.rule_merging.proofs.Behind.{breaches_told}
 use Rattle.graphql_validation.specs.Operations.{bound_told, all_told}
 use Rattle.graphql_validation.specs.Told.{Telling}

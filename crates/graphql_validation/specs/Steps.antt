@@ -8,7 +8,7 @@ use Rattle.schema_types.specs.SchemaTree.{SchemaTree}
 use Rattle.schema_types.specs.Plain.{plain}
 use Rattle.document_typed_operations.specs.declared.operation.Fragment.{Fragment}
 use Rattle.document_meaning.specs.MeantTree.{MeantOperation, MeantDocument}
-use Rattle.document_typing.specs.Meanings.{meanings}
+use Rattle.rule_fragments.specs.in_typing.Meanings.{meanings}
 use Rattle.fault_data.specs.Adds.{Adds}
 use Rattle.fault_data.specs.FaultView.{faults_of}
 use Rattle.graphql_faults.specs.DetailsTree.{of_document}
@@ -20,8 +20,8 @@ use Rattle.rule_document_definitions.specs.Merging.{FieldsMerge}
 use Rattle.rule_document_definitions.specs.Reached.{AtOperation}
 use Rattle.rule_document_definitions.specs.Selected.{operations}
 use Rattle.rule_document_definitions.specs.Told.{PlacedDocumentFault}
-use Rattle.rule_document_ground.specs.NotedNames.{noted_names}
-use Rattle.rule_document_ground.specs.Reach.{meant_fragments}
+use Rattle.rule_fragments.specs.in_ground.NotedNames.{noted_names}
+use Rattle.rule_fragments.specs.in_ground.Reach.{meant_fragments}
 use Rattle.rule_fragments.specs.Possible.{ArePossibleIfFound}
 use Rattle.rule_fragments.specs.Used.{AreUnderOwnNames, AreUsed}
 use Rattle.rule_fragments.specs.declared.possible_types.PossibleTypes.{PossibleTypes}

@@ -1,6 +1,6 @@
 //! What is judged without a schema, operation by operation.
 ghost use Rattle.std.specs.Prelude.{IfOk, OnOk};
-ghost use Rattle.document_typing.specs.DocumentView.{document_meant, operation_meant};
+ghost use Rattle.rule_fragments.specs.in_typing.DocumentView.{document_meant, operation_meant};
 ghost use Rattle.fault_data.specs.Adds.{Adds};
 ghost use Rattle.fault_data.specs.FaultView.{faults_of};
 ghost use Rattle.graphql_validation.specs.Steps.{FindsAlone, NotesReached, FindsAllAlone, NotesAllReached, TellsAlone};
@@ -9,8 +9,7 @@ use crate::found::{Found, check_fragments, note_fragments};
 use document_typed_operations::{ExecutableDocument, Operation};
 use fault_data::Fault;
 use graphql_names::Node;
-use rule_document_ground::reach;
-use rule_fragments::check_spreads;
+use rule_fragments::{check_spreads, reach};
 use rule_selections::check_selections_alone;
 use rule_variables::check_variables_alone;
 use std::alloc::{AllocError, Global};

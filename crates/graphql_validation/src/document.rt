@@ -1,11 +1,11 @@
 //! Every rule on a document under a schema.
 ghost use Rattle.std.specs.Prelude.{◌≡◌, ◌↔◌, [], false, IsTrue, OnErr, OnOk};
-ghost use Rattle.graphql_schema.specs.SchemaOf.{schema_tree};
-ghost use Rattle.document_typing.specs.DocumentView.{document_meant};
+ghost use Rattle.rule_fragments.specs.in_schema.SchemaOf.{schema_tree};
+ghost use Rattle.rule_fragments.specs.in_typing.DocumentView.{document_meant};
 ghost use Rattle.rule_document_definitions.specs.Selected.{operations};
 ghost use Rattle.fault_data.specs.FaultView.{faults_of};
 ghost use Rattle.graphql_faults.specs.DetailsView.{diagnostics_of, BeginsAs};
-ghost use Rattle.rule_document_ground.specs.Broken.{brokens_of};
+ghost use Rattle.rule_fragments.specs.in_ground.Broken.{brokens_of};
 ghost use Rattle.graphql_validation.specs.TellsDocument.{TypedDocumentTold, SilenceMeansValid, ValidMeansSilence};
 ghost use Rattle.graphql_validation.specs.Steps.{TellsMerging, AllMerge};
 
@@ -15,7 +15,7 @@ use crate::under_schema::faults_under;
 use document_typed_operations::ExecutableDocument;
 use fault_data::Fault;
 use graphql_faults::DiagnosticList;
-use graphql_schema::Schema;
+use rule_fragments::Schema;
 use rule_merging::{Breach, FieldsInSetCanMerge};
 use rule_subscriptions::{document_breaches, passes_path_bound};
 use std::alloc::{AllocError, Global};

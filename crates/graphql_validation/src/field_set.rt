@@ -1,12 +1,12 @@
 //! Every rule on a field set.
 ghost use Rattle.std.specs.Prelude.{◌≡◌, None, IfOk, OnErr, OnOk};
 ghost use Rattle.graphql_names.specs.Placed.{Place};
-ghost use Rattle.graphql_schema.specs.SchemaOf.{schema_tree};
+ghost use Rattle.rule_fragments.specs.in_schema.SchemaOf.{schema_tree};
 ghost use Rattle.rule_document_definitions.specs.FieldSets.{document_of_set};
 ghost use Rattle.graphql_faults.specs.DetailsView.{diagnostics_of, BeginsAs};
 ghost use Rattle.document_typed_operations.specs.TypedDocument.{typed_operation_tree};
 ghost use Rattle.document_typed_selections.specs.TypedTree.{typed_set_tree};
-ghost use Rattle.document_typing.specs.DocumentView.{document_meant};
+ghost use Rattle.rule_fragments.specs.in_typing.DocumentView.{document_meant};
 ghost use Rattle.graphql_validation.specs.Operations.{query_on};
 ghost use Rattle.graphql_validation.specs.Told.{set_meant, TypedFieldSetTold, SilenceMeansValidSet, ValidSetMeansSilence};
 
@@ -15,8 +15,8 @@ use crate::under_schema::faults_under;
 use document_typed_operations::{ExecutableDocument, FieldSet, Operation, OperationMap};
 use graphql_faults::DiagnosticList;
 use graphql_names::Node;
-use graphql_schema::Schema;
 use indexmap::IndexMap;
+use rule_fragments::Schema;
 use rule_subscriptions::passes_path_bound;
 use std::alloc::{AllocError, Global};
 use tree_directives::{DirectiveList, OperationType};

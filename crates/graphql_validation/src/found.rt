@@ -3,9 +3,9 @@ ghost use Rattle.std.specs.Prelude.{◌≡◌, [], IfOk, OnOk};
 ghost use Rattle.std.specs.List.{IsDistinct};
 ghost use Rattle.std.specs.Map.{keys_of};
 ghost use Rattle.std.specs.Str.{bytes_eq};
-ghost use Rattle.document_typing.specs.DocumentView.{document_meant};
-ghost use Rattle.rule_document_ground.specs.Reach.{reached_fragments_of};
-ghost use Rattle.rule_document_ground.specs.NotedNames.{noted_names};
+ghost use Rattle.rule_fragments.specs.in_typing.DocumentView.{document_meant};
+ghost use Rattle.rule_fragments.specs.in_ground.Reach.{reached_fragments_of};
+ghost use Rattle.rule_fragments.specs.in_ground.NotedNames.{noted_names};
 ghost use Rattle.fault_data.specs.FaultView.{faults_of};
 ghost use Rattle.graphql_validation.specs.Operations.{with_fragments};
 ghost use Rattle.graphql_validation.specs.Steps.{TellsFragments};
@@ -14,8 +14,7 @@ use document_typed_operations::ExecutableDocument;
 use fault_data::Fault;
 use graphql_names::Name;
 use indexmap::IndexSet;
-use rule_document_ground::{Reach, note_name};
-use rule_fragments::{check_cycles, check_unused};
+use rule_fragments::{Reach, check_cycles, check_unused, note_name};
 use std::alloc::{AllocError, Global};
 
 /// The faults that were found so far, and the names of the fragments that the operations so far reach.

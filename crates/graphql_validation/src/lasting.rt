@@ -1,7 +1,7 @@
 //! The rules that stay broken whatever is added to a document.
 ghost use Rattle.std.specs.Prelude.{OnErr, OnOk};
-ghost use Rattle.graphql_schema.specs.SchemaOf.{schema_tree};
-ghost use Rattle.document_typing.specs.DocumentView.{document_meant};
+ghost use Rattle.rule_fragments.specs.in_schema.SchemaOf.{schema_tree};
+ghost use Rattle.rule_fragments.specs.in_typing.DocumentView.{document_meant};
 ghost use Rattle.graphql_faults.specs.DetailsView.{diagnostics_of, BeginsAs};
 ghost use Rattle.graphql_validation.specs.TellsLasting.{TypedLastingTold};
 
@@ -9,7 +9,7 @@ use crate::told::append_all;
 use crate::under_schema::faults_under;
 use document_typed_operations::ExecutableDocument;
 use graphql_faults::DiagnosticList;
-use graphql_schema::Schema;
+use rule_fragments::Schema;
 use rule_lasting::{keep_lasting_breaches, keep_lasting_faults};
 use rule_subscriptions::document_breaches;
 use std::alloc::{AllocError, Global};

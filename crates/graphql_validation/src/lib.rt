@@ -23,6 +23,6 @@ mod under_schema;
 pub use document::validate_executable_document;
 pub use field_set::validate_field_set;
 pub use lasting::tell_lasting_faults;
-pub use rule_document_ground::FieldSelection;
+pub use rule_fragments::FieldSelection;
 pub use rule_merging::FieldsInSetCanMerge;
 pub use standalone::validate_standalone_executable;

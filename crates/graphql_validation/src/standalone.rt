@@ -1,6 +1,6 @@
 //! Every rule on a document without a schema.
 ghost use Rattle.std.specs.Prelude.{OnErr, OnOk};
-ghost use Rattle.document_typing.specs.DocumentView.{document_meant};
+ghost use Rattle.rule_fragments.specs.in_typing.DocumentView.{document_meant};
 ghost use Rattle.graphql_faults.specs.DetailsView.{diagnostics_of, BeginsAs};
 ghost use Rattle.graphql_validation.specs.Told.{NamedAloneTold, SilenceMeansValidAlone, ValidAloneMeansSilence};
 

@@ -3,7 +3,7 @@ ghost use Rattle.std.specs.Prelude.{◌≡◌, ◌++◌, map, OnErr, OnOk};
 ghost use Rattle.fault_data.specs.FaultView.{faults_of};
 ghost use Rattle.graphql_faults.specs.DetailsTree.{of_document};
 ghost use Rattle.graphql_faults.specs.DetailsView.{diagnostics_of, BeginsAs};
-ghost use Rattle.rule_document_ground.specs.Broken.{brokens_of};
+ghost use Rattle.rule_fragments.specs.in_ground.Broken.{brokens_of};
 ghost use Rattle.graphql_validation.specs.Operations.{bound_told, all_told};
 ghost use Rattle.graphql_validation.specs.Steps.{AddsDetails};
 

@@ -2,7 +2,7 @@
 use Rattle.std.proofs.Common.{◌≡◌, Bool, ap}
 use Rattle.std.specs.Bool.{Decides}
 use denote.Enum.Bare.{same_true, true_same}
-use Rattle.graphql_names.specs.Placed.{name_tree, unplaced_text}
+use Rattle.tree_literals.specs.in_names.Placed.{name_tree, unplaced_text}
 use Rattle.tree_literals.specs.TypeTree.{type_tree, unplaced_type}
 use Rattle.tree_literals.specs.ValueTree.{value_tree, unplaced_value}
 use Rattle.tree_operations.specs.OperationTree.{VariableDefinitionTree, OperationTree, FragmentTree, variable_definition_tree, operation_tree, fragment_tree, unplaced_variable_definition, unplaced_operation, unplaced_fragment}
@@ -15,8 +15,8 @@ use Rattle.tree_operations.specs.in_directives.declared.operation_type.Operation
 use Rattle.tree_operations.specs.declared.operation.VariableDefinition.{VariableDefinition}
 use Rattle.tree_operations.specs.declared.operation.OperationDefinition.{OperationDefinition}
 use Rattle.tree_operations.specs.declared.operation.FragmentDefinition.{FragmentDefinition}
-use Rattle.tree_directives.specs.contracts.operation_type.OperationType.{the_type}
-use Rattle.tree_directives.specs.contracts.operation_type.OperationTypePartialEq.TheImpl as operation_type
+use Rattle.tree_operations.specs.in_directives.contracts.operation_type.OperationType.{the_type}
+use Rattle.tree_operations.specs.in_directives.contracts.operation_type.OperationTypePartialEq.TheImpl as operation_type
 use Rattle.tree_operations.specs.contracts.operation.VariableDefinitionPartialEq.TheImpl as variable
 use Rattle.tree_operations.specs.contracts.operation.OperationDefinitionPartialEq.TheImpl as operation
 use Rattle.tree_operations.specs.contracts.operation.FragmentDefinitionPartialEq.TheImpl as fragment

@@ -1,7 +1,7 @@
 -- `==` of two references to types says whether their trees are the same, places aside.
 use Rattle.std.proofs.Common.{◌≡◌, Bool, refl, ap, ◌∙◌, subst}
 use Rattle.std.specs.Bool.{Decides}
-use Rattle.graphql_names.specs.Placed.{Place, name_tree}
+use Rattle.tree_literals.specs.in_names.Placed.{Place, name_tree}
 use Rattle.tree_literals.specs.TypeTree.{TypeTree, NamedTree, NonNullNamedTree, ListTree, NonNullListTree, type_tree, type_tree_step, unplaced_type}
 use Rattle.graphql_values.proofs.Decided.{through, carried, name_decides}
 use Rattle.tree_literals.specs.declared.ty.«Type».{«Type»}

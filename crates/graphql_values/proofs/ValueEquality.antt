@@ -5,10 +5,10 @@ use Rattle.std.specs.Cmp.{booleans_Decides}
 use Rattle.std.specs.Cmp.Lexicographic.{pointwise}
 use Rattle.std.specs.String.{string_bytes}
 use Rattle.std.proofs.lemmas.Slice.Eq.{bytes_eq-Decides}
-use Rattle.graphql_names.specs.Node.{content}
-use Rattle.graphql_names.specs.declared.name.Name.{Name}
-use Rattle.graphql_names.specs.declared.node.Node.{Node}
-use Rattle.graphql_names.specs.Placed.{Place, name_tree}
+use Rattle.tree_literals.specs.in_names.Node.{content}
+use Rattle.tree_literals.specs.in_names.declared.name.Name.{Name}
+use Rattle.tree_literals.specs.in_names.declared.node.Node.{Node}
+use Rattle.tree_literals.specs.in_names.Placed.{Place, name_tree}
 use Rattle.tree_literals.specs.ValueTree.{ValueTree, NullTree, EnumTree, VariableTree, StringTree, FloatTree, IntTree, BooleanTree, ListTree, ObjectTree, item_then, entry_then, item_trees, entry_trees, value_tree, value_tree_step, unplaced_value, unplaced_items, unplaced_entries}
 use Rattle.graphql_values.proofs.Decided.{Each, through, carried, pair_decides, name_decides}
 use Rattle.tree_literals.proofs.Trees.{item_trees-map, entry_trees-map}

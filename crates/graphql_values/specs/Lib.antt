@@ -1,15 +1,15 @@
 pub mod Writable
 pub mod OperationQueries
 pub mod TreeLaws
-pub use Rattle.graphql_names.specs.Placed
-pub use Rattle.tree_operations.specs.in_printing.Joined
-pub use Rattle.tree_operations.specs.in_printing.Puts
-pub use Rattle.tree_operations.specs.in_printing.Shown
-pub use Rattle.tree_operations.specs.in_printing.Levels
-pub use Rattle.tree_operations.specs.in_printing.EscapeRuns
-pub use Rattle.tree_operations.specs.in_printing.LineLayout
-pub use Rattle.tree_operations.specs.in_printing.StringLayout
-pub use Rattle.tree_operations.specs.in_printing.Serialized
+pub use Rattle.tree_literals.specs.in_names.Placed
+pub use Rattle.tree_operations.specs.in_literals.Joined
+pub use Rattle.tree_operations.specs.in_literals.Puts
+pub use Rattle.tree_operations.specs.in_literals.Shown
+pub use Rattle.tree_operations.specs.in_literals.Levels
+pub use Rattle.tree_operations.specs.in_literals.EscapeRuns
+pub use Rattle.tree_operations.specs.in_literals.LineLayout
+pub use Rattle.tree_operations.specs.in_literals.StringLayout
+pub use Rattle.tree_operations.specs.in_literals.Serialized
 pub use Rattle.tree_literals.specs.NumberSyntax
 pub use Rattle.tree_literals.specs.NumberValue
 pub use Rattle.tree_literals.specs.TypeTree
@@ -32,5 +32,5 @@ pub use Rattle.tree_operations.specs.OperationLayout
 pub use Rattle.tree_operations.specs.OperationWritable
 pub use Rattle.tree_operations.specs.in_directives as in_directives
 pub use Rattle.tree_literals.specs as in_literals
-pub use Rattle.graphql_names.specs as in_names
+pub use Rattle.tree_literals.specs.in_names as in_names
 pub use Rattle.tree_operations.specs as in_operations

@@ -1,7 +1,7 @@
 -- What the laws of the trees say: of types that may stand for each other, and of directives that are written to by name (GraphQL,
 -- October 2021, sections 2.12 and 5.8.5).
 use Rattle.std.specs.Prelude.{◌≡◌, ℕ, List, slice_set}
-use Rattle.graphql_names.specs.declared.node.Node.{Node}
+use Rattle.tree_literals.specs.in_names.declared.node.Node.{Node}
 use Rattle.tree_literals.specs.TypeTree.{TypeTree, unplaced_type}
 use Rattle.tree_literals.specs.TypeQueries.{AreTypesCompatible}
 use Rattle.tree_operations.specs.in_directives.DirectiveNodes.{node_has_name}

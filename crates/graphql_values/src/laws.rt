@@ -11,9 +11,8 @@ ghost use Rattle.tree_operations.specs.SelectionParts.{field_tree, spread_tree, 
 ghost use Rattle.tree_operations.specs.OperationTree.{variable_definition_tree, operation_tree, fragment_tree, unplaced_variable_definition, unplaced_operation, unplaced_fragment};
 ghost use Rattle.graphql_values.specs.TreeLaws.{AreCompatibleThrough, AreSameBothWays, with_nth_named};
 
-use graphql_names::Node;
 use std::alloc::{AllocError, Global};
-use tree_literals::{IntValue, Type, Value};
+use tree_literals::{IntValue, Node, Type, Value};
 use tree_operations::{
     Argument, Directive, DirectiveDefinition, DirectiveList, Field, FragmentDefinition,
     FragmentSpread, InlineFragment, InputValueDefinition, OperationDefinition, Selection,

@@ -14,11 +14,15 @@
 pub mod laws;
 mod ty_macro;
 
-pub use graphql_names::{FileId, Name, Node, NodeStr, SourceSpan};
-pub use tree_literals::{FloatValue, IntValue, NamedType, Type, Value};
+pub use tree_literals::{
+    FileId, FloatValue, IntValue, Name, NamedType, Node, NodeStr, SourceSpan, Spent, Type, Value,
+};
 pub use tree_operations::{
     Argument, ArgumentByNameError, Cause, Directive, DirectiveDefinition, DirectiveList,
     DirectiveLocation, Field, FragmentDefinition, FragmentSpread, InlineFragment,
     InputValueDefinition, Named, NamedDirectives, OperationDefinition, OperationType, Selection,
-    Serialize, Tree, VariableDefinition, WriteFault, get_named_mut,
+    Serialize, Tree, VariableDefinition, WriteFault, begins_output, get_named_mut, put_fragment,
+    put_operation,
 };
+
+// Of the crates beneath, for those above.

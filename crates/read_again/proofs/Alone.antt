@@ -1,30 +1,30 @@
 -- Types, values, operations, fragments, selections and documents: what is printed of each is a text of its symbol, of one tree alone.
 use Rattle.std.proofs.Common.{◌≡◌, ℕ, Bool, true, List, ◌∷◌, refl, le_refl}
 use Rattle.std.specs.List.{list_all}
-use Rattle.read_again.specs.in_printing.LineLayout.{Prefix}
-use Rattle.read_values.specs.in_literals.ValueLayout.{type_text, value_text}
-use Rattle.read_values.specs.in_operations.OperationLayout.{operation_text, fragment_text}
+use Rattle.read_again.specs.in_literals.LineLayout.{Prefix}
+use Rattle.read_operations.specs.in_literals.ValueLayout.{type_text, value_text}
+use Rattle.read_operations.specs.in_operations.OperationLayout.{operation_text, fragment_text}
 use Rattle.graphql_names.specs.Placed.{Place}
-use Rattle.read_values.specs.in_values.Writable.{value_writable, has_selection, selections_writable, operation_writable, fragment_writable}
-use Rattle.read_values.specs.in_literals.TypeTree.{TypeTree, unplaced_type}
-use Rattle.read_values.specs.in_literals.ValueTree.{ValueTree, unplaced_value}
-use Rattle.read_values.specs.in_operations.SelectionTree.{SelectionTrees, unplaced_selections}
-use Rattle.read_values.specs.in_operations.OperationTree.{OperationTree, FragmentTree, unplaced_operation, unplaced_fragment}
-use Rattle.read_values.specs.in_definitions.DefinitionTree.{DefinitionTree, unplaced_document}
-use Rattle.read_values.specs.in_definitions.DocumentLayout.{document_text}
-use Rattle.read_values.specs.in_definitions.Writable.{definition_writable}
-use Rattle.read_values.specs.in_grammar.Meaning.{Meaning}
-use Rattle.read_values.specs.in_grammar.Grammar.{DerivesAs, Derives, DerivesType, DerivesSelections, document}
-use Rattle.read_values.specs.in_grammar.ValueGrammar.{Const, value, type}
-use Rattle.read_values.specs.in_grammar.OperationGrammar.{selections, operation_definition, fragment_definition}
-use Rattle.read_values.specs.in_grammar.ValueReading as v
-use Rattle.read_values.specs.in_grammar.OperationReading as o
-use Rattle.read_values.proofs.in_grammar.Parses.{any_count}
-use Rattle.read_values.proofs.in_grammar.Values.{value_parses}
-use Rattle.read_values.proofs.in_grammar.Operations.{operation_definition_parses, fragment_definition_parses}
-use Rattle.read_values.proofs.in_grammar.Theorems.{one_tree}
-use Rattle.read_values.proofs.in_grammar.Laws.{one_document, one_type, one_selections}
-use Rattle.read_values.specs.Meanings.{string_of}
+use Rattle.read_operations.specs.in_values.Writable.{value_writable, has_selection, selections_writable, operation_writable, fragment_writable}
+use Rattle.read_operations.specs.in_literals.TypeTree.{TypeTree, unplaced_type}
+use Rattle.read_operations.specs.in_literals.ValueTree.{ValueTree, unplaced_value}
+use Rattle.read_operations.specs.in_operations.SelectionTree.{SelectionTrees, unplaced_selections}
+use Rattle.read_operations.specs.in_operations.OperationTree.{OperationTree, FragmentTree, unplaced_operation, unplaced_fragment}
+use Rattle.read_operations.specs.in_definitions.DefinitionTree.{DefinitionTree, unplaced_document}
+use Rattle.read_operations.specs.in_definitions.DocumentLayout.{document_text}
+use Rattle.read_operations.specs.in_definitions.Writable.{definition_writable}
+use Rattle.read_operations.specs.in_grammar.Meaning.{Meaning}
+use Rattle.read_operations.specs.in_grammar.Grammar.{DerivesAs, Derives, DerivesType, DerivesSelections, document}
+use Rattle.read_operations.specs.in_grammar.ValueGrammar.{Const, value, type}
+use Rattle.read_operations.specs.in_grammar.OperationGrammar.{selections, operation_definition, fragment_definition}
+use Rattle.read_operations.specs.in_grammar.ValueReading as v
+use Rattle.read_operations.specs.in_grammar.OperationReading as o
+use Rattle.read_operations.proofs.in_grammar.Parses.{any_count}
+use Rattle.read_operations.proofs.in_grammar.Values.{value_parses}
+use Rattle.read_operations.proofs.in_grammar.Operations.{operation_definition_parses, fragment_definition_parses}
+use Rattle.read_operations.proofs.in_grammar.Theorems.{one_tree}
+use Rattle.read_operations.proofs.in_grammar.Laws.{one_document, one_type, one_selections}
+use Rattle.read_operations.specs.Meanings.{string_of}
 use Rattle.read_again.specs.Literals.{LiteralsRead}
 use Rattle.read_again.specs.SelectionsLayout.{selections_text}
 use Rattle.read_again.specs.ReadsAlone.{ReadsAlone}

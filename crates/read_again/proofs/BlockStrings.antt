@@ -1,8 +1,8 @@
 -- What is printed as a block string is read as it was.
 use Rattle.std.proofs.Common.{◌≡◌, ◌⊎◌, ℕ, Bool, true, false, not, ◌&&◌, List, [], ◌∷◌, ◌++◌, length, Some, refl, sym, ap, ◌∙◌, subst, arith, append-nil, append_assoc}
 use Rattle.std.specs.List.{list_any}
-use Rattle.tree_printing.specs.LineLayout.{line_start}
-use Rattle.tree_printing.specs.StringLayout.{text_lines, has_byte, first_is_blank, last_is_blank, is_at_margin, can_be_block_string, block_text}
+use Rattle.tree_literals.specs.LineLayout.{line_start}
+use Rattle.tree_literals.specs.StringLayout.{text_lines, has_byte, first_is_blank, last_is_blank, is_at_margin, can_be_block_string, block_text}
 use Rattle.read_tokens.specs.Bytes.{run_len, replaced, between}
 use Rattle.read_tokens.specs.Blocks.{quotes, block_character_len, block_character_at, block_len, raw_value, without_indent, without_blank_front, without_blank_back, formatted, block_string_value, block_value}
 use Rattle.read_tokens.specs.Tokens.{string_at, token_at, of_kind}

@@ -2,30 +2,30 @@
 use Rattle.std.proofs.Common.{◌≡◌, ◌≤◌, ◌+◌, ◌⊎◌, inl, inr, ℕ, Bool, true, not, ◌&&◌, ◌||◌, List, [], ◌∷◌, ◌++◌, map, codes, Option, option_map, refl, sym, ap, ◌∙◌}
 use Rattle.std.proofs.lemmas.Bool.{and_parts}
 use Rattle.graphql_names.specs.NameSyntax as names
-use Rattle.read_again.specs.in_printing.Joined.{joined}
-use Rattle.read_again.specs.in_printing.LineLayout.{Prefix, set_text, texts_of}
-use Rattle.read_again.specs.in_printing.StringLayout.{description_text}
-use Rattle.read_values.specs.in_directives.DirectiveLayout.{directives_text}
-use Rattle.read_values.specs.in_directives.InputLayout.{input_value_text, argument_definitions_text, repeatable_text, locations_text, directive_definition_text}
-use Rattle.read_values.specs.in_directives.declared.directive_location.DirectiveLocation.{DirectiveLocation}
-use Rattle.read_values.specs.in_type_members.TypeSystemLayout.{names_text, head_text, field_definition_text, enum_value_text, schema_text, extend}
-use Rattle.read_values.specs.in_type_members.PartsWritable.{has_some, schema_writable, fields_writable, enum_writable, input_object_writable, schema_extension_writable}
+use Rattle.read_again.specs.in_literals.Joined.{joined}
+use Rattle.read_again.specs.in_literals.LineLayout.{Prefix, set_text, texts_of}
+use Rattle.read_again.specs.in_literals.StringLayout.{description_text}
+use Rattle.read_operations.specs.in_directives.DirectiveLayout.{directives_text}
+use Rattle.read_operations.specs.in_directives.InputLayout.{input_value_text, argument_definitions_text, repeatable_text, locations_text, directive_definition_text}
+use Rattle.read_operations.specs.in_directives.declared.directive_location.DirectiveLocation.{DirectiveLocation}
+use Rattle.read_operations.specs.in_type_members.TypeSystemLayout.{names_text, head_text, field_definition_text, enum_value_text, schema_text, extend}
+use Rattle.read_operations.specs.in_type_members.PartsWritable.{has_some, schema_writable, fields_writable, enum_writable, input_object_writable, schema_extension_writable}
 use Rattle.graphql_names.specs.Placed.{Text, unplaced_text, unplaced_node}
-use Rattle.read_values.specs.in_values.Writable.{directives_writable, input_values_writable, is_none_of, directive_definition_writable}
-use Rattle.read_values.specs.in_directives.DirectiveTree.{Directives, InputValues, DirectiveDefinitionTree, unplaced_directives, unplaced_input_value, unplaced_directive_definition}
-use Rattle.read_values.specs.in_type_members.TypeSystemTree.{SchemaParts, ScalarParts, FieldsParts, UnionParts, EnumParts, InputObjectParts, unplaced_schema, unplaced_scalar, unplaced_fields, unplaced_union, unplaced_enum, unplaced_input_object}
-use Rattle.read_values.specs.in_definitions.DefinitionTree.{DefinitionTree, Operation, Fragment, DirectiveDefinition, Schema, ScalarType, ObjectType, InterfaceType, UnionType, EnumType, InputObjectType, ExtendSchema, ExtendScalar, ExtendObject, ExtendInterface, ExtendUnion, ExtendEnum, ExtendInputObject, unplaced_definition}
-use Rattle.read_values.specs.in_definitions.DocumentLayout.{definition_text}
-use Rattle.read_values.specs.in_definitions.Writable.{definition_writable}
-use Rattle.read_values.specs.in_tokens.Terminals.{words}
-use Rattle.read_values.specs.in_grammar.Meaning.{Meaning}
-use Rattle.read_values.specs.in_grammar.Kinds.{is_extend}
-use Rattle.read_values.specs.in_grammar.Rules as rule
-use Rattle.read_values.specs.in_grammar.Rules.{Rule, ◌<$>◌, ◌∣◌, such_that}
-use Rattle.read_values.specs.in_grammar.ValueGrammar.{constant}
-use Rattle.read_values.specs.in_grammar.OperationGrammar.{operation_definition, fragment_definition}
-use Rattle.read_values.specs.in_grammar.TypeSystemGrammar.{KindTree, SchemaKind, ScalarKind, ObjectKind, InterfaceKind, UnionKind, EnumKind, InputObjectKind, schema_definition, schema_extension, scalar_type, object_type, interface_type, union_type, enum_type, input_object_type, type_definition, directive_definition}
-use Rattle.read_values.specs.in_grammar.Grammar.{is_empty, has_part, described, type_system_of, extended, extension_of, type_system_definition, type_system_extension, definition}
+use Rattle.read_operations.specs.in_values.Writable.{directives_writable, input_values_writable, is_none_of, directive_definition_writable}
+use Rattle.read_operations.specs.in_directives.DirectiveTree.{Directives, InputValues, DirectiveDefinitionTree, unplaced_directives, unplaced_input_value, unplaced_directive_definition}
+use Rattle.read_operations.specs.in_type_members.TypeSystemTree.{SchemaParts, ScalarParts, FieldsParts, UnionParts, EnumParts, InputObjectParts, unplaced_schema, unplaced_scalar, unplaced_fields, unplaced_union, unplaced_enum, unplaced_input_object}
+use Rattle.read_operations.specs.in_definitions.DefinitionTree.{DefinitionTree, Operation, Fragment, DirectiveDefinition, Schema, ScalarType, ObjectType, InterfaceType, UnionType, EnumType, InputObjectType, ExtendSchema, ExtendScalar, ExtendObject, ExtendInterface, ExtendUnion, ExtendEnum, ExtendInputObject, unplaced_definition}
+use Rattle.read_operations.specs.in_definitions.DocumentLayout.{definition_text}
+use Rattle.read_operations.specs.in_definitions.Writable.{definition_writable}
+use Rattle.read_operations.specs.in_tokens.Terminals.{words}
+use Rattle.read_operations.specs.in_grammar.Meaning.{Meaning}
+use Rattle.read_operations.specs.in_grammar.Kinds.{is_extend}
+use Rattle.read_operations.specs.in_grammar.Rules as rule
+use Rattle.read_operations.specs.in_grammar.Rules.{Rule, ◌<$>◌, ◌∣◌, such_that}
+use Rattle.read_operations.specs.in_grammar.ValueGrammar.{constant}
+use Rattle.read_operations.specs.in_grammar.OperationGrammar.{operation_definition, fragment_definition}
+use Rattle.read_operations.specs.in_grammar.TypeSystemGrammar.{KindTree, SchemaKind, ScalarKind, ObjectKind, InterfaceKind, UnionKind, EnumKind, InputObjectKind, schema_definition, schema_extension, scalar_type, object_type, interface_type, union_type, enum_type, input_object_type, type_definition, directive_definition}
+use Rattle.read_operations.specs.in_grammar.Grammar.{is_empty, has_part, described, type_system_of, extended, extension_of, type_system_definition, type_system_extension, definition}
 use Rattle.read_again.specs.Printed.{Follow, ends_word, begins_definition, ends_definition, Printed}
 use Rattle.read_again.specs.Literals.{LiteralsRead}
 use Rattle.read_again.specs.WellFormed.{is_white_prefix, directives_well_formed, input_values_well_formed, schema_well_formed, scalar_well_formed, fields_well_formed, union_well_formed, enum_well_formed, input_object_well_formed, input_values_depth, directives_depth, schema_depth, fields_depth, enum_depth, input_object_depth}

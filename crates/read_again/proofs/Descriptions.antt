@@ -1,9 +1,9 @@
 -- What is printed of a description is read as it was.
 use Rattle.std.proofs.Common.{◌≡◌, ℕ, Bool, true, false, cond, ◌&&◌, List, ◌++◌, Some, None, refl, inl, inr}
 use Rattle.std.proofs.lemmas.Bool.{and_parts}
-use Rattle.tree_printing.specs.Joined.{joined}
-use Rattle.tree_printing.specs.LineLayout.{Prefix, break_text}
-use Rattle.tree_printing.specs.StringLayout.{has_byte, can_be_block_string, quoted_text, block_text, description_string}
+use Rattle.tree_literals.specs.Joined.{joined}
+use Rattle.tree_literals.specs.LineLayout.{Prefix, break_text}
+use Rattle.tree_literals.specs.StringLayout.{has_byte, can_be_block_string, quoted_text, block_text, description_string}
 use Rattle.read_again.specs.Readings.{IsReadAs, MayFollow, IsWhitePrefix}
 use Rattle.read_again.proofs.Quoted.{quoted_is_token, quoted_value}
 use Rattle.read_again.proofs.BlockStrings.{block_is_token, block_value_is}

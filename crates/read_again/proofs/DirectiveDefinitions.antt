@@ -1,25 +1,25 @@
 -- Definitions of directives, behind their descriptions, are read as they are printed, under both kinds of layout.
 use Rattle.std.proofs.Common.{◌≡◌, ◌≤◌, ◌+◌, ℕ, Bool, true, false, List, [], ◌∷◌, ◌++◌, map, codes, Option, None, is_some, refl, sym, ap, ◌∙◌, append-nil, arith}
 use Rattle.graphql_names.specs.NameSyntax as names
-use Rattle.read_again.specs.in_printing.Joined.{joined, further_text}
-use Rattle.read_again.specs.in_printing.LineLayout.{Prefix}
-use Rattle.read_values.specs.in_directives.DirectivePlaces.{location_keyword}
-use Rattle.read_values.specs.in_directives.DirectiveLayout.{directives_text}
-use Rattle.read_values.specs.in_directives.InputLayout.{argument_definitions_text, repeatable_text, locations_text}
+use Rattle.read_again.specs.in_literals.Joined.{joined, further_text}
+use Rattle.read_again.specs.in_literals.LineLayout.{Prefix}
+use Rattle.read_operations.specs.in_directives.DirectivePlaces.{location_keyword}
+use Rattle.read_operations.specs.in_directives.DirectiveLayout.{directives_text}
+use Rattle.read_operations.specs.in_directives.InputLayout.{argument_definitions_text, repeatable_text, locations_text}
 use Rattle.graphql_names.specs.Placed.{unplaced_node}
-use Rattle.read_values.specs.in_values.Writable.{directives_writable, input_values_writable}
-use Rattle.read_values.specs.in_directives.DirectiveTree.{Directives, InputValues, DirectiveDefinitionTree, unplaced_directives, unplaced_input_value, unplaced_directive_definition}
-use Rattle.read_values.specs.in_directives.declared.directive_location.DirectiveLocation.{DirectiveLocation}
-use Rattle.read_values.specs.in_directives.declared.directive_location.DirectiveLocation.TheVariants as location
-use Rattle.read_values.specs.in_tokens.declared.token.TokenKind.TheVariants as t
-use Rattle.read_values.specs.in_tokens.Input.{Token}
-use Rattle.read_values.specs.in_tokens.Terminals.{words, terminal_of}
-use Rattle.read_values.specs.in_grammar.Meaning.{Meaning}
-use Rattle.read_values.specs.in_grammar.Kinds.{is_location, is_pipe, is_directive, is_repeatable, is_on}
-use Rattle.read_values.specs.in_grammar.Locations.{location_of}
-use Rattle.read_values.specs.in_grammar.Rules.{Rule, one, mark, ◌·◌, ◌<$>◌, optional, many}
-use Rattle.read_values.specs.in_grammar.ValueGrammar.{constant}
-use Rattle.read_values.specs.in_grammar.TypeSystemGrammar.{directive_definition_of, directive_locations, directive_definition}
+use Rattle.read_operations.specs.in_values.Writable.{directives_writable, input_values_writable}
+use Rattle.read_operations.specs.in_directives.DirectiveTree.{Directives, InputValues, DirectiveDefinitionTree, unplaced_directives, unplaced_input_value, unplaced_directive_definition}
+use Rattle.read_operations.specs.in_directives.declared.directive_location.DirectiveLocation.{DirectiveLocation}
+use Rattle.read_operations.specs.in_directives.declared.directive_location.DirectiveLocation.TheVariants as location
+use Rattle.read_operations.specs.in_tokens.declared.token.TokenKind.TheVariants as t
+use Rattle.read_operations.specs.in_tokens.Input.{Token}
+use Rattle.read_operations.specs.in_tokens.Terminals.{words, terminal_of}
+use Rattle.read_operations.specs.in_grammar.Meaning.{Meaning}
+use Rattle.read_operations.specs.in_grammar.Kinds.{is_location, is_pipe, is_directive, is_repeatable, is_on}
+use Rattle.read_operations.specs.in_grammar.Locations.{location_of}
+use Rattle.read_operations.specs.in_grammar.Rules.{Rule, one, mark, ◌·◌, ◌<$>◌, optional, many}
+use Rattle.read_operations.specs.in_grammar.ValueGrammar.{constant}
+use Rattle.read_operations.specs.in_grammar.TypeSystemGrammar.{directive_definition_of, directive_locations, directive_definition}
 use Rattle.read_again.specs.Printed.{any, ends_word, Printed}
 use Rattle.read_again.specs.Literals.{LiteralsRead}
 use Rattle.read_again.specs.WellFormed.{is_white_prefix, directives_well_formed, directives_depth, input_values_well_formed, input_values_depth}

@@ -1,17 +1,17 @@
 -- Default values, arguments and directives are read as they are printed.
 use Rattle.std.proofs.Common.{◌≡◌, ◌≤◌, ℕ, zero, suc, true, List, [], ◌∷◌, ◌++◌, Option, Some, None, option_map, refl, ap, arith}
 use Rattle.std.proofs.lemmas.Bool.{and_parts}
-use Rattle.read_again.specs.in_printing.Joined.{joined}
-use Rattle.read_again.specs.in_printing.LineLayout.{texts_of}
-use Rattle.read_values.specs.in_literals.ValueLayout.{value_text, default_text}
-use Rattle.read_values.specs.in_directives.DirectiveLayout.{argument_text, arguments_text, directive_text, directives_text}
+use Rattle.read_again.specs.in_literals.Joined.{joined}
+use Rattle.read_again.specs.in_literals.LineLayout.{texts_of}
+use Rattle.read_operations.specs.in_literals.ValueLayout.{value_text, default_text}
+use Rattle.read_operations.specs.in_directives.DirectiveLayout.{argument_text, arguments_text, directive_text, directives_text}
 use Rattle.graphql_names.specs.Placed.{Placed, unplaced_node}
-use Rattle.read_values.specs.in_values.Writable.{default_writable, argument_writable, arguments_writable, directive_writable, directives_writable}
-use Rattle.read_values.specs.in_literals.ValueTree.{ValueTree, unplaced_value}
-use Rattle.read_values.specs.in_directives.DirectiveTree.{ArgumentTree, Arguments, DirectiveTree, Directives, unplaced_argument, unplaced_arguments, unplaced_directive, unplaced_directives}
-use Rattle.read_values.specs.in_grammar.Meaning.{Meaning}
-use Rattle.read_values.specs.in_grammar.Rules.{optional}
-use Rattle.read_values.specs.in_grammar.ValueGrammar.{Const, constant, argument_of, directive_of, value, default_value, argument, arguments, directive, directives}
+use Rattle.read_operations.specs.in_values.Writable.{default_writable, argument_writable, arguments_writable, directive_writable, directives_writable}
+use Rattle.read_operations.specs.in_literals.ValueTree.{ValueTree, unplaced_value}
+use Rattle.read_operations.specs.in_directives.DirectiveTree.{ArgumentTree, Arguments, DirectiveTree, Directives, unplaced_argument, unplaced_arguments, unplaced_directive, unplaced_directives}
+use Rattle.read_operations.specs.in_grammar.Meaning.{Meaning}
+use Rattle.read_operations.specs.in_grammar.Rules.{optional}
+use Rattle.read_operations.specs.in_grammar.ValueGrammar.{Const, constant, argument_of, directive_of, value, default_value, argument, arguments, directive, directives}
 use Rattle.read_again.specs.Printed.{any, ends_word, Printed}
 use Rattle.read_again.specs.Literals.{LiteralsRead}
 use Rattle.read_again.specs.WellFormed.{default_well_formed, argument_well_formed, arguments_well_formed, directive_well_formed, directives_well_formed, default_depth, argument_depth, arguments_depth, directive_depth, directives_depth}

@@ -2,21 +2,21 @@
 use Rattle.std.proofs.Common.{◌≡◌, ◌≤◌, ℕ, Bool, true, false, cond, ◌&&◌, List, [], ◌∷◌, ◌++◌, map, Some, None, Option, refl, sym, ap, ◌∙◌, subst, arith, append-nil, append_assoc}
 use Rattle.std.specs.List.{list_all}
 use Rattle.std.proofs.lemmas.Bool.{and_parts}
-use Rattle.read_again.specs.in_printing.Joined.{joined}
-use Rattle.read_again.specs.in_printing.LineLayout.{Prefix, line_start, start_text}
-use Rattle.read_again.specs.in_printing.StringLayout.{has_byte, can_be_block_string, quoted_text, block_text, description_text}
-use Rattle.read_values.specs.in_operations.OperationLayout.{begins_output}
-use Rattle.read_values.specs.in_operations.OperationQueries.{operation_keyword}
-use Rattle.read_values.specs.in_directives.declared.operation_type.OperationType.{OperationType}
-use Rattle.read_values.specs.in_directives.declared.operation_type.OperationType.TheVariants.{Query, Mutation, Subscription}
+use Rattle.read_again.specs.in_literals.Joined.{joined}
+use Rattle.read_again.specs.in_literals.LineLayout.{Prefix, line_start, start_text}
+use Rattle.read_again.specs.in_literals.StringLayout.{has_byte, can_be_block_string, quoted_text, block_text, description_text}
+use Rattle.read_operations.specs.in_operations.OperationLayout.{begins_output}
+use Rattle.read_operations.specs.in_operations.OperationQueries.{operation_keyword}
+use Rattle.read_operations.specs.in_directives.declared.operation_type.OperationType.{OperationType}
+use Rattle.read_operations.specs.in_directives.declared.operation_type.OperationType.TheVariants.{Query, Mutation, Subscription}
 use Rattle.graphql_names.specs.Placed.{Text}
-use Rattle.read_values.specs.in_definitions.DefinitionTree.{DefinitionTree, Operation, Fragment, DirectiveDefinition, Schema, ScalarType, ObjectType, InterfaceType, UnionType, EnumType, InputObjectType, ExtendSchema, ExtendScalar, ExtendObject, ExtendInterface, ExtendUnion, ExtendEnum, ExtendInputObject, unplaced_definition, unplaced_document}
-use Rattle.read_values.specs.in_definitions.DocumentLayout.{definition_text, between_text, next_definition_text, end_text, document_text}
-use Rattle.read_values.specs.in_definitions.Writable.{definition_writable}
-use Rattle.read_values.specs.in_tokens.Tokens.{is_ignored_byte}
-use Rattle.read_values.specs.in_grammar.Meaning.{Meaning}
-use Rattle.read_values.specs.in_grammar.Rules.{many}
-use Rattle.read_values.specs.in_grammar.Grammar.{definition, document}
+use Rattle.read_operations.specs.in_definitions.DefinitionTree.{DefinitionTree, Operation, Fragment, DirectiveDefinition, Schema, ScalarType, ObjectType, InterfaceType, UnionType, EnumType, InputObjectType, ExtendSchema, ExtendScalar, ExtendObject, ExtendInterface, ExtendUnion, ExtendEnum, ExtendInputObject, unplaced_definition, unplaced_document}
+use Rattle.read_operations.specs.in_definitions.DocumentLayout.{definition_text, between_text, next_definition_text, end_text, document_text}
+use Rattle.read_operations.specs.in_definitions.Writable.{definition_writable}
+use Rattle.read_operations.specs.in_tokens.Tokens.{is_ignored_byte}
+use Rattle.read_operations.specs.in_grammar.Meaning.{Meaning}
+use Rattle.read_operations.specs.in_grammar.Rules.{many}
+use Rattle.read_operations.specs.in_grammar.Grammar.{definition, document}
 use Rattle.read_again.specs.Printed.{ends_word, begins_definition, ends_definition, Printed}
 use Rattle.read_again.specs.Literals.{LiteralsRead}
 use Rattle.read_again.specs.WellFormed.{is_white_prefix, depths}

@@ -1,18 +1,18 @@
 -- The depth of tokens is that of the tree that they derive.
 use Rattle.std.proofs.Common.{◌≡◌, ℕ, List, Option, ◌⊎◌, inl, inr, refl, ap, arith}
 use Rattle.graphql_names.specs.Placed.{Text}
-use Rattle.read_values.specs.in_literals.TypeTree.{TypeTree}
-use Rattle.read_values.specs.in_directives.DirectiveTree.{DirectiveDefinitionTree}
-use Rattle.read_values.specs.in_operations.SelectionTree.{SelectionTrees}
-use Rattle.read_values.specs.in_definitions.DefinitionTree.{DefinitionTree, Operation, Fragment}
-use Rattle.read_values.specs.in_tokens.Input.{Token}
-use Rattle.read_values.specs.in_grammar.Meaning.{Meaning, start}
-use Rattle.read_values.specs.in_grammar.Depth.{depth}
-use Rattle.read_values.specs.in_grammar.Kinds.{is_extend}
-use Rattle.read_values.specs.in_grammar.Rules.{Rule}
-use Rattle.read_values.specs.in_grammar.TypeSystemGrammar.{KindTree, SchemaKind, ScalarKind, ObjectKind, InterfaceKind, UnionKind, EnumKind, InputObjectKind}
-use Rattle.read_values.specs.in_grammar.Grammar as g
-use Rattle.read_values.specs.in_grammar.Grammar.{DerivesAs, Derives, DerivesType, DerivesSelections, type_system_of, described, extension_of, extended, has_part}
+use Rattle.read_operations.specs.in_literals.TypeTree.{TypeTree}
+use Rattle.read_operations.specs.in_directives.DirectiveTree.{DirectiveDefinitionTree}
+use Rattle.read_operations.specs.in_operations.SelectionTree.{SelectionTrees}
+use Rattle.read_operations.specs.in_definitions.DefinitionTree.{DefinitionTree, Operation, Fragment}
+use Rattle.read_operations.specs.in_tokens.Input.{Token}
+use Rattle.read_operations.specs.in_grammar.Meaning.{Meaning, start}
+use Rattle.read_operations.specs.in_grammar.Depth.{depth}
+use Rattle.read_operations.specs.in_grammar.Kinds.{is_extend}
+use Rattle.read_operations.specs.in_grammar.Rules.{Rule}
+use Rattle.read_operations.specs.in_grammar.TypeSystemGrammar.{KindTree, SchemaKind, ScalarKind, ObjectKind, InterfaceKind, UnionKind, EnumKind, InputObjectKind}
+use Rattle.read_operations.specs.in_grammar.Grammar as g
+use Rattle.read_operations.specs.in_grammar.Grammar.{DerivesAs, Derives, DerivesType, DerivesSelections, type_system_of, described, extension_of, extended, has_part}
 use Rattle.read_again.specs.TreeDepth.{directive_definition_depth, type_depth, selections_depth, definition_depth, document_depth}
 use Rattle.read_again.proofs.Nests.{Nests, flat, mapped, skip, choice, such_that, maybe_flat, located, one_or_more}
 use Rattle.read_again.proofs.ValuesNest.{type_nests}

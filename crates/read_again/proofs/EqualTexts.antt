@@ -2,24 +2,24 @@
 use Rattle.std.specs.Prelude.{◌↔◌}
 use Rattle.std.proofs.Common.{◌≡◌, ℕ, Bool, true, List, ◌∷◌, sym, ap, subst, ◌∙◌}
 use Rattle.std.specs.List.{list_all}
-use Rattle.read_again.specs.in_printing.LineLayout.{Prefix}
-use Rattle.read_values.specs.in_literals.ValueLayout.{type_text, value_text}
-use Rattle.read_values.specs.in_operations.OperationLayout.{operation_text, fragment_text}
-use Rattle.read_values.specs.in_tokens.Lex.{Lex}
+use Rattle.read_again.specs.in_literals.LineLayout.{Prefix}
+use Rattle.read_operations.specs.in_literals.ValueLayout.{type_text, value_text}
+use Rattle.read_operations.specs.in_operations.OperationLayout.{operation_text, fragment_text}
+use Rattle.read_operations.specs.in_tokens.Lex.{Lex}
 use Rattle.graphql_names.specs.Placed.{Place}
-use Rattle.read_values.specs.in_values.Writable.{value_writable, has_selection, selections_writable, operation_writable, fragment_writable}
-use Rattle.read_values.specs.in_literals.TypeTree.{TypeTree, unplaced_type}
-use Rattle.read_values.specs.in_literals.ValueTree.{ValueTree, unplaced_value}
-use Rattle.read_values.specs.in_operations.SelectionTree.{SelectionTrees, unplaced_selections}
-use Rattle.read_values.specs.in_operations.OperationTree.{OperationTree, FragmentTree, unplaced_operation, unplaced_fragment}
-use Rattle.read_values.specs.in_definitions.DefinitionTree.{DefinitionTree, unplaced_document}
-use Rattle.read_values.specs.in_definitions.DocumentLayout.{document_text}
-use Rattle.read_values.specs.in_definitions.Writable.{definition_writable}
-use Rattle.read_values.specs.in_grammar.Faults.{Symbol}
-use Rattle.read_values.specs.in_grammar.Meaning.{Meaning}
-use Rattle.read_values.specs.in_grammar.Places.{meaning_in}
-use Rattle.read_values.specs.in_grammar.ValueGrammar.{Const}
-use Rattle.read_values.specs.Meanings.{string_of}
+use Rattle.read_operations.specs.in_values.Writable.{value_writable, has_selection, selections_writable, operation_writable, fragment_writable}
+use Rattle.read_operations.specs.in_literals.TypeTree.{TypeTree, unplaced_type}
+use Rattle.read_operations.specs.in_literals.ValueTree.{ValueTree, unplaced_value}
+use Rattle.read_operations.specs.in_operations.SelectionTree.{SelectionTrees, unplaced_selections}
+use Rattle.read_operations.specs.in_operations.OperationTree.{OperationTree, FragmentTree, unplaced_operation, unplaced_fragment}
+use Rattle.read_operations.specs.in_definitions.DefinitionTree.{DefinitionTree, unplaced_document}
+use Rattle.read_operations.specs.in_definitions.DocumentLayout.{document_text}
+use Rattle.read_operations.specs.in_definitions.Writable.{definition_writable}
+use Rattle.read_operations.specs.in_grammar.Faults.{Symbol}
+use Rattle.read_operations.specs.in_grammar.Meaning.{Meaning}
+use Rattle.read_operations.specs.in_grammar.Places.{meaning_in}
+use Rattle.read_operations.specs.in_grammar.ValueGrammar.{Const}
+use Rattle.read_operations.specs.Meanings.{string_of}
 use Rattle.read_again.specs.ReadsAlone.{ReadsAlone}
 use Rattle.read_again.specs.SelectionsLayout.{selections_text}
 use Rattle.read_again.specs.WellFormed.{is_white_prefix, type_well_formed, value_well_formed, selections_well_formed, operation_well_formed, fragment_well_formed}

@@ -3,7 +3,7 @@ use Rattle.std.proofs.Common.{◌≡◌, ◌⊎◌, ℕ, zero, suc, ◌+◌, ◌
 use Rattle.std.specs.List.{list_all, list_any, onto_first, flat_map}
 use Rattle.std.proofs.lemmas.Bool.{and_parts, and_from, cases_order}
 use Rattle.std.proofs.lemmas.Grind.{common_steps}
-use Rattle.tree_printing.specs.StringLayout.{text_lines, has_byte, is_at_margin, first_is_blank, last_is_blank, can_be_block_string}
+use Rattle.tree_literals.specs.StringLayout.{text_lines, has_byte, is_at_margin, first_is_blank, last_is_blank, can_be_block_string}
 use Rattle.read_tokens.specs.Bytes.{begins_by}
 use Rattle.read_tokens.specs.Tokens.{is_in_line}
 use Rattle.read_tokens.specs.Blocks.{ends_line, is_line_feed, lines_of, is_white_space, is_blank, indent_of, least, common_indent, or_zero, without_indent, without_blank_front, without_blank_back, formatted, block_string_value, block_value, raw_value}

@@ -3,22 +3,22 @@ use Rattle.std.proofs.Common.{◌≡◌, ◌⊎◌, ℕ, ◌+◌, ◌==◌, Bool
 use Rattle.std.specs.List.{prefix_len}
 use Rattle.std.proofs.lemmas.Bool.{and_parts, or_cases}
 use Rattle.graphql_names.specs.NameSyntax.{is_name_start, is_name_continue}
-use Rattle.read_again.specs.in_printing.LineLayout.{Prefix, Leveled, set_text, texts_of}
+use Rattle.read_again.specs.in_literals.LineLayout.{Prefix, Leveled, set_text, texts_of}
 use Rattle.graphql_names.specs.Placed.{Placed, unplaced_node}
-use Rattle.read_values.specs.in_tokens.declared.terminal.Terminal.{Terminal}
-use Rattle.read_values.specs.in_tokens.declared.token.TokenKind.{TokenKind}
-use Rattle.read_values.specs.in_tokens.declared.token.TokenKind.TheVariants as t
-use Rattle.read_values.specs.in_tokens.Bytes.{begins_with}
-use Rattle.read_values.specs.in_tokens.Strings.{quoted_len}
-use Rattle.read_values.specs.in_tokens.Blocks.{quotes, block_len}
-use Rattle.read_values.specs.in_tokens.Input.{Token, next_of}
-use Rattle.read_values.specs.in_tokens.Tokens.{is_ignored_byte, of_kind, ignored_at, string_at, token_at}
-use Rattle.read_values.specs.in_tokens.Terminals.{words, terminal_of}
-use Rattle.read_values.specs.in_tokens.Lex.{Piece, piece_of, piece_at, ArePieces, with_token, tokens_among}
-use Rattle.read_values.specs.in_grammar.Meaning.{Meaning}
-use Rattle.read_values.specs.in_grammar.Kinds.{is_open_brace, is_close_brace}
-use Rattle.read_values.specs.in_grammar.Rules as rule
-use Rattle.read_values.specs.in_grammar.Rules.{Rule, lacks, optional_unless, some, between}
+use Rattle.read_operations.specs.in_tokens.declared.terminal.Terminal.{Terminal}
+use Rattle.read_operations.specs.in_tokens.declared.token.TokenKind.{TokenKind}
+use Rattle.read_operations.specs.in_tokens.declared.token.TokenKind.TheVariants as t
+use Rattle.read_operations.specs.in_tokens.Bytes.{begins_with}
+use Rattle.read_operations.specs.in_tokens.Strings.{quoted_len}
+use Rattle.read_operations.specs.in_tokens.Blocks.{quotes, block_len}
+use Rattle.read_operations.specs.in_tokens.Input.{Token, next_of}
+use Rattle.read_operations.specs.in_tokens.Tokens.{is_ignored_byte, of_kind, ignored_at, string_at, token_at}
+use Rattle.read_operations.specs.in_tokens.Terminals.{words, terminal_of}
+use Rattle.read_operations.specs.in_tokens.Lex.{Piece, piece_of, piece_at, ArePieces, with_token, tokens_among}
+use Rattle.read_operations.specs.in_grammar.Meaning.{Meaning}
+use Rattle.read_operations.specs.in_grammar.Kinds.{is_open_brace, is_close_brace}
+use Rattle.read_operations.specs.in_grammar.Rules as rule
+use Rattle.read_operations.specs.in_grammar.Rules.{Rule, lacks, optional_unless, some, between}
 use Rattle.read_again.specs.Printed.{Follow, any, ends_word, begins_definition, ends_definition, LexesAt, Printed}
 use Rattle.read_again.specs.WellFormed.{is_white_prefix}
 use Rattle.read_again.proofs.Sequences.{from_here, ignored_piece, saying, before_any}

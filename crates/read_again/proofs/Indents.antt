@@ -3,7 +3,7 @@ use Rattle.std.proofs.Common.{◌≡◌, ℕ, ◌+◌, ◌≤◌, min, Bool, tru
 use Rattle.std.specs.List.{list_all, list_any, onto_first, flat_map}
 use Rattle.std.proofs.lemmas.Bool.{and_parts, and_left, and_right, not-true}
 use Rattle.std.proofs.lemmas.List.{drop_at, drop_all}
-use Rattle.tree_printing.specs.StringLayout.{text_lines, is_at_margin, first_is_blank, last_is_blank}
+use Rattle.tree_literals.specs.StringLayout.{text_lines, is_at_margin, first_is_blank, last_is_blank}
 use Rattle.read_tokens.specs.Blocks.{is_white_space, is_blank, indent_of, least, common_indent, or_zero, without_indent, without_blank_front, without_blank_back, formatted}
 use Rattle.read_tokens.specs.Values.{AtMost}
 use Rattle.read_again.proofs.Written.{indented}

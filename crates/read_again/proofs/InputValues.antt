@@ -1,22 +1,22 @@
 -- Descriptions and definitions of input values are read as they are printed, under both kinds of layout.
 use Rattle.std.proofs.Common.{◌≡◌, ◌≤◌, ◌+◌, ℕ, zero, suc, Bool, true, false, cond, List, [], ◌∷◌, ◌++◌, map, Option, Some, None, option_map, refl, sym, ap, subst, ◌∙◌, append_assoc, append-nil, arith}
 use Rattle.std.proofs.lemmas.Bool.{and_parts}
-use Rattle.read_again.specs.in_printing.Joined.{joined}
-use Rattle.read_again.specs.in_printing.LineLayout.{Prefix, break_text}
-use Rattle.read_again.specs.in_printing.StringLayout.{description_string, description_text}
-use Rattle.read_values.specs.in_literals.ValueLayout.{default_text}
-use Rattle.read_values.specs.in_directives.DirectiveLayout.{directives_text}
-use Rattle.read_values.specs.in_directives.InputLayout.{input_value_text, stand_on_lines, arguments_in_line, arguments_on_lines, argument_definitions_text}
+use Rattle.read_again.specs.in_literals.Joined.{joined}
+use Rattle.read_again.specs.in_literals.LineLayout.{Prefix, break_text}
+use Rattle.read_again.specs.in_literals.StringLayout.{description_string, description_text}
+use Rattle.read_operations.specs.in_literals.ValueLayout.{default_text}
+use Rattle.read_operations.specs.in_directives.DirectiveLayout.{directives_text}
+use Rattle.read_operations.specs.in_directives.InputLayout.{input_value_text, stand_on_lines, arguments_in_line, arguments_on_lines, argument_definitions_text}
 use Rattle.graphql_names.specs.Placed.{Placed, Text, unplaced_text, unplaced_node}
-use Rattle.read_values.specs.in_values.Writable.{input_value_writable, input_values_writable}
-use Rattle.read_values.specs.in_literals.TypeTree.{TypeTree}
-use Rattle.read_values.specs.in_literals.ValueTree.{ValueTree}
-use Rattle.read_values.specs.in_directives.DirectiveTree.{Directives, InputValueTree, InputValues, unplaced_input_value}
-use Rattle.read_values.specs.in_grammar.Meaning.{Meaning, text_of}
-use Rattle.read_values.specs.in_grammar.Kinds.{is_string}
-use Rattle.read_values.specs.in_grammar.Rules.{Rule, ◌·◌, optional}
-use Rattle.read_values.specs.in_grammar.ValueGrammar.{constant}
-use Rattle.read_values.specs.in_grammar.TypeSystemGrammar.{input_value_of, description, input_value_definition, arguments_definition}
+use Rattle.read_operations.specs.in_values.Writable.{input_value_writable, input_values_writable}
+use Rattle.read_operations.specs.in_literals.TypeTree.{TypeTree}
+use Rattle.read_operations.specs.in_literals.ValueTree.{ValueTree}
+use Rattle.read_operations.specs.in_directives.DirectiveTree.{Directives, InputValueTree, InputValues, unplaced_input_value}
+use Rattle.read_operations.specs.in_grammar.Meaning.{Meaning, text_of}
+use Rattle.read_operations.specs.in_grammar.Kinds.{is_string}
+use Rattle.read_operations.specs.in_grammar.Rules.{Rule, ◌·◌, optional}
+use Rattle.read_operations.specs.in_grammar.ValueGrammar.{constant}
+use Rattle.read_operations.specs.in_grammar.TypeSystemGrammar.{input_value_of, description, input_value_definition, arguments_definition}
 use Rattle.read_again.specs.Printed.{Follow, any, ends_word, Printed}
 use Rattle.read_again.specs.Literals.{IsStringToken, LiteralsRead}
 use Rattle.read_again.specs.WellFormed.{depths, is_white_prefix, input_value_well_formed, input_values_well_formed, input_value_depth, input_values_depth}

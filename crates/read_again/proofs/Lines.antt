@@ -2,13 +2,13 @@
 use Rattle.std.proofs.Common.{◌≡◌, ℕ, zero, suc, ◌+◌, ◌==◌, Bool, true, false, ◌||◌, subst, List, [], ◌∷◌, ◌++◌, Some, None, refl, sym, ap, ◌∙◌, append_assoc, append-nil}
 use Rattle.std.specs.List.{list_all}
 use Rattle.std.proofs.lemmas.Bool.{and_parts}
-use Rattle.read_again.specs.in_printing.Joined.{joined}
-use Rattle.read_again.specs.in_printing.StringLayout.{is_tab_or_space}
-use Rattle.read_again.specs.in_printing.LineLayout.{Prefix, Leveled, line_start, start_text, break_text, members_text, braced_text, set_text}
-use Rattle.read_values.specs.in_tokens.Tokens.{is_ignored_byte}
-use Rattle.read_values.specs.in_tokens.Input.{Token, Ending}
-use Rattle.read_values.specs.in_grammar.Kinds.{is_open_brace, is_close_brace}
-use Rattle.read_values.specs.in_grammar.Rules.{Rule, many, some, between}
+use Rattle.read_again.specs.in_literals.Joined.{joined}
+use Rattle.read_again.specs.in_literals.StringLayout.{is_tab_or_space}
+use Rattle.read_again.specs.in_literals.LineLayout.{Prefix, Leveled, line_start, start_text, break_text, members_text, braced_text, set_text}
+use Rattle.read_operations.specs.in_tokens.Tokens.{is_ignored_byte}
+use Rattle.read_operations.specs.in_tokens.Input.{Token, Ending}
+use Rattle.read_operations.specs.in_grammar.Kinds.{is_open_brace, is_close_brace}
+use Rattle.read_operations.specs.in_grammar.Rules.{Rule, many, some, between}
 use Rattle.read_again.specs.Printed.{Follow, any, ends_word, before, ReadsUpTo, Printed}
 use Rattle.read_again.specs.WellFormed.{is_white_prefix}
 use Rattle.read_again.proofs.Sequences.{ends_before, seq, mapped, ignored}

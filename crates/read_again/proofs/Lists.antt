@@ -1,6 +1,6 @@
 -- Texts with separators between them.
 use Rattle.std.proofs.Common.{◌≡◌, ℕ, true, List, [], ◌∷◌, ◌++◌, sym, ap, ◌∙◌, append_assoc, append-nil}
-use Rattle.read_again.specs.in_printing.Joined.{joined, further_text, separated}
+use Rattle.read_again.specs.in_literals.Joined.{joined, further_text, separated}
 use Rattle.read_again.specs.Printed.{ends_word}
 
 -- a separator, a text, and those behind them

@@ -4,19 +4,19 @@ use Rattle.std.specs.Str.{bytes_eq}
 use lib.Pointwise.{bytes_decides}
 use Rattle.std.proofs.lemmas.Bool.{and_parts}
 use Rattle.graphql_names.specs.NameSyntax as names
-use Rattle.read_again.specs.in_printing.StringLayout.{quoted_text}
-use Rattle.read_values.specs.in_literals.NumberSyntax.{is_int_value, is_float_value}
-use Rattle.read_values.specs.in_literals.ValueLayout.{boolean_text}
+use Rattle.read_again.specs.in_literals.StringLayout.{quoted_text}
+use Rattle.read_operations.specs.in_literals.NumberSyntax.{is_int_value, is_float_value}
+use Rattle.read_operations.specs.in_literals.ValueLayout.{boolean_text}
 use Rattle.graphql_names.specs.Placed.{Text}
-use Rattle.read_values.specs.in_values.Writable.{is_text, can_be_enum}
-use Rattle.read_values.specs.in_literals.ValueTree.{ValueTree, NullTree, EnumTree, VariableTree, StringTree, FloatTree, IntTree, BooleanTree, unplaced_value}
-use Rattle.read_values.specs.in_tokens.declared.token.TokenKind.TheVariants as t
-use Rattle.read_values.specs.in_tokens.Input.{Token}
-use Rattle.read_values.specs.in_tokens.Terminals.{words, terminal_of}
-use Rattle.read_values.specs.in_grammar.Meaning.{Meaning}
-use Rattle.read_values.specs.in_grammar.Kinds.{is_enum_value, is_string, is_int, is_float, is_true, is_false, is_null}
-use Rattle.read_values.specs.in_grammar.Rules.{Rule, mark, ◌<$>◌, ◌∣◌, unless}
-use Rattle.read_values.specs.in_grammar.ValueGrammar.{Const, with_variables, variable, int_value, float_value, string_value, boolean_value, null_value, enum_value, any_value}
+use Rattle.read_operations.specs.in_values.Writable.{is_text, can_be_enum}
+use Rattle.read_operations.specs.in_literals.ValueTree.{ValueTree, NullTree, EnumTree, VariableTree, StringTree, FloatTree, IntTree, BooleanTree, unplaced_value}
+use Rattle.read_operations.specs.in_tokens.declared.token.TokenKind.TheVariants as t
+use Rattle.read_operations.specs.in_tokens.Input.{Token}
+use Rattle.read_operations.specs.in_tokens.Terminals.{words, terminal_of}
+use Rattle.read_operations.specs.in_grammar.Meaning.{Meaning}
+use Rattle.read_operations.specs.in_grammar.Kinds.{is_enum_value, is_string, is_int, is_float, is_true, is_false, is_null}
+use Rattle.read_operations.specs.in_grammar.Rules.{Rule, mark, ◌<$>◌, ◌∣◌, unless}
+use Rattle.read_operations.specs.in_grammar.ValueGrammar.{Const, with_variables, variable, int_value, float_value, string_value, boolean_value, null_value, enum_value, any_value}
 use Rattle.read_again.specs.Printed.{Follow, any, ends_word, Printed}
 use Rattle.read_again.specs.Literals.{NumbersRead, StringsRead}
 use Rattle.read_again.proofs.Sequences.{seq, mapped, left, right, nothing_more}

@@ -3,7 +3,7 @@ use Rattle.std.proofs.Common.{◌≡◌, ℕ, Bool, true, false, cond, ◌&&◌,
 use Rattle.std.specs.List.{list_all}
 use Rattle.std.proofs.lemmas.Bool.{and_parts, and_left, and_right}
 use Rattle.std.proofs.lemmas.Grind.{common_steps}
-use Rattle.tree_printing.specs.StringLayout.{is_quotes, block_escaped}
+use Rattle.tree_literals.specs.StringLayout.{is_quotes, block_escaped}
 use Rattle.read_tokens.specs.Bytes.{begins_with}
 use Rattle.read_tokens.specs.Blocks.{quotes, escaped_quotes, block_character_len, block_character_at, is_white_space}
 use Rattle.read_again.proofs.Between.{NoMark, none_begin}

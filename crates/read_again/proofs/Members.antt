@@ -1,12 +1,12 @@
 -- Lists of nodes on lines of their own.
 use Rattle.std.proofs.Common.{◌≡◌, ℕ, ◌+◌, true, List, [], ◌∷◌, ◌++◌, map, refl, sym, ap, subst, append_assoc}
-use Rattle.read_again.specs.in_printing.Joined.{joined}
-use Rattle.read_again.specs.in_printing.LineLayout.{Prefix, Leveled, break_text, members_text, texts_of}
+use Rattle.read_again.specs.in_literals.Joined.{joined}
+use Rattle.read_again.specs.in_literals.LineLayout.{Prefix, Leveled, break_text, members_text, texts_of}
 use Rattle.graphql_names.specs.Placed.{Placed, unplaced_node}
-use Rattle.read_values.specs.in_grammar.Meaning.{Meaning}
-use Rattle.read_values.specs.in_grammar.Kinds.{is_open_paren, is_close_paren}
-use Rattle.read_values.specs.in_grammar.Rules as rule
-use Rattle.read_values.specs.in_grammar.Rules.{Rule, many, some, between}
+use Rattle.read_operations.specs.in_grammar.Meaning.{Meaning}
+use Rattle.read_operations.specs.in_grammar.Kinds.{is_open_paren, is_close_paren}
+use Rattle.read_operations.specs.in_grammar.Rules as rule
+use Rattle.read_operations.specs.in_grammar.Rules.{Rule, many, some, between}
 use Rattle.read_again.specs.Printed.{any, ends_word, Printed}
 use Rattle.read_again.specs.WellFormed.{is_white_prefix}
 use Rattle.read_again.proofs.Sequences.{seq, mapped, placed, ignored, more, no_more, as_text, saying}

@@ -3,16 +3,16 @@ use Rattle.std.proofs.Common.{◌≡◌, ℕ, Bool, true, List, [], ◌∷◌, �
 use Rattle.std.specs.List.{list_all}
 use Rattle.std.proofs.lemmas.Bool.{and_parts}
 use Rattle.graphql_names.specs.NameSyntax as names
-use Rattle.read_again.specs.in_printing.Joined.{joined, further_text}
-use Rattle.read_values.specs.in_type_members.TypeSystemLayout.{name_text, names_text}
+use Rattle.read_again.specs.in_literals.Joined.{joined, further_text}
+use Rattle.read_operations.specs.in_type_members.TypeSystemLayout.{name_text, names_text}
 use Rattle.graphql_names.specs.Placed.{Text, unplaced_text}
-use Rattle.read_values.specs.in_tokens.declared.terminal.Terminal.{Terminal}
-use Rattle.read_values.specs.in_tokens.Terminals.{words}
-use Rattle.read_values.specs.in_grammar.Meaning.{Meaning}
-use Rattle.read_values.specs.in_grammar.Kinds.{is_implements, is_ampersand, is_pipe}
-use Rattle.read_values.specs.in_grammar.Rules.{mark, ◌·◌, ◌<$>◌, optional, many, separated}
-use Rattle.read_values.specs.in_grammar.ValueGrammar.{name}
-use Rattle.read_values.specs.in_grammar.TypeSystemGrammar.{implements_interfaces, union_member_types}
+use Rattle.read_operations.specs.in_tokens.declared.terminal.Terminal.{Terminal}
+use Rattle.read_operations.specs.in_tokens.Terminals.{words}
+use Rattle.read_operations.specs.in_grammar.Meaning.{Meaning}
+use Rattle.read_operations.specs.in_grammar.Kinds.{is_implements, is_ampersand, is_pipe}
+use Rattle.read_operations.specs.in_grammar.Rules.{mark, ◌·◌, ◌<$>◌, optional, many, separated}
+use Rattle.read_operations.specs.in_grammar.ValueGrammar.{name}
+use Rattle.read_operations.specs.in_grammar.TypeSystemGrammar.{implements_interfaces, union_member_types}
 use Rattle.read_again.specs.Printed.{any, ends_word, Printed}
 use Rattle.read_again.proofs.Sequences.{seq, seq_word, mapped, ignored, given, left_out, more, no_more, as_text, saying}
 use Rattle.read_again.proofs.Tokens.{any_name, keyword}

@@ -4,19 +4,19 @@ use Rattle.std.proofs.lemmas.Bool.{and_parts}
 use Rattle.std.specs.Prelude.{None}
 use Rattle.std.specs.List.{list_all}
 use Rattle.graphql_names.specs.Placed.{Place}
-use Rattle.tree_printing.specs.LineLayout.{Prefix}
-use Rattle.read_values.specs.in_literals.TypeTree.{TypeTree, unplaced_type}
-use Rattle.read_values.specs.in_literals.ValueLayout.{type_text}
-use Rattle.read_values.specs.in_operations.SelectionTree.{SelectionTrees, unplaced_selections}
-use Rattle.read_values.specs.in_values.Writable.{has_selection, selections_writable}
-use Rattle.read_values.specs.in_definitions.DefinitionTree.{DefinitionTree, unplaced_document}
-use Rattle.read_values.specs.in_definitions.DocumentLayout.{document_text}
-use Rattle.read_values.specs.in_definitions.Writable.{has_some, definition_writable, document_writable}
-use Rattle.read_values.specs.in_grammar.Meaning.{Meaning}
-use Rattle.read_values.specs.in_grammar.Depth.{depth}
-use Rattle.read_values.specs.in_grammar.Faults.{Symbol}
-use Rattle.read_values.specs.in_grammar.Grammar.{Derives, DerivesType, DerivesSelections}
-use Rattle.read_values.specs.Meanings.{string_of}
+use Rattle.tree_literals.specs.LineLayout.{Prefix}
+use Rattle.read_operations.specs.in_literals.TypeTree.{TypeTree, unplaced_type}
+use Rattle.read_operations.specs.in_literals.ValueLayout.{type_text}
+use Rattle.read_operations.specs.in_operations.SelectionTree.{SelectionTrees, unplaced_selections}
+use Rattle.read_operations.specs.in_values.Writable.{has_selection, selections_writable}
+use Rattle.read_operations.specs.in_definitions.DefinitionTree.{DefinitionTree, unplaced_document}
+use Rattle.read_operations.specs.in_definitions.DocumentLayout.{document_text}
+use Rattle.read_operations.specs.in_definitions.Writable.{has_some, definition_writable, document_writable}
+use Rattle.read_operations.specs.in_grammar.Meaning.{Meaning}
+use Rattle.read_operations.specs.in_grammar.Depth.{depth}
+use Rattle.read_operations.specs.in_grammar.Faults.{Symbol}
+use Rattle.read_operations.specs.in_grammar.Grammar.{Derives, DerivesType, DerivesSelections}
+use Rattle.read_operations.specs.Meanings.{string_of}
 use Rattle.read_again.specs.ReadsAlone.{ReadsAlone}
 use Rattle.read_again.specs.WellFormed.{is_white_prefix, type_well_formed, selections_well_formed}
 use Rattle.read_again.specs.Definitions.{definition_well_formed}

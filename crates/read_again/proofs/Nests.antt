@@ -1,13 +1,13 @@
 -- The depth of the tokens ahead of a rule is the greater of what the rule's tree has and of the depth of the tokens behind it.
 use Rattle.std.proofs.Common.{◌≡◌, ℕ, suc, ◌+◌, ◌-◌, max, Bool, true, false, cond, List, [], ◌∷◌, Option, Some, None, unwrap_or, ◌⊎◌, inl, inr, refl, sym, ap, ◌∙◌, arith}
-use Rattle.read_values.specs.in_tokens.declared.terminal.Terminal.{Terminal}
-use Rattle.read_values.specs.in_tokens.Input.{Token, Input}
-use Rattle.read_values.specs.in_grammar.Meaning.{Meaning}
-use Rattle.read_values.specs.in_grammar.Kinds.{next_is}
-use Rattle.read_values.specs.in_grammar.Depth.{is_opening, is_closing, depth}
-use Rattle.read_values.specs.in_grammar.Rules as g
-use Rattle.read_values.specs.in_grammar.Rules.{Rule, one, mark, ◌·◌, ◌<$>◌, ◌∣◌, nothing, optional, optional_unless, many, some, between, separated, placed}
-use Rattle.read_values.proofs.in_grammar.Tests.{Test, apart, from_apart, subset, from_subset}
+use Rattle.read_operations.specs.in_tokens.declared.terminal.Terminal.{Terminal}
+use Rattle.read_operations.specs.in_tokens.Input.{Token, Input}
+use Rattle.read_operations.specs.in_grammar.Meaning.{Meaning}
+use Rattle.read_operations.specs.in_grammar.Kinds.{next_is}
+use Rattle.read_operations.specs.in_grammar.Depth.{is_opening, is_closing, depth}
+use Rattle.read_operations.specs.in_grammar.Rules as g
+use Rattle.read_operations.specs.in_grammar.Rules.{Rule, one, mark, ◌·◌, ◌<$>◌, ◌∣◌, nothing, optional, optional_unless, many, some, between, separated, placed}
+use Rattle.read_operations.proofs.in_grammar.Tests.{Test, apart, from_apart, subset, from_subset}
 use Rattle.read_again.specs.TreeDepth.{deepest, bracketed, deep_if_any}
 
 -- what the rule reads nests as deep as is said of its tree

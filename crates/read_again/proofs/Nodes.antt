@@ -2,14 +2,14 @@
 use Rattle.std.proofs.Common.{◌≡◌, ◌≤◌, ℕ, Bool, true, List, [], ◌∷◌, ◌++◌, map, codes, Option, unwrap_or, refl, ap, ◌∙◌, append_assoc, arith}
 use Rattle.std.specs.List.{list_all}
 use Rattle.std.proofs.lemmas.Bool.{and_parts}
-use Rattle.read_again.specs.in_printing.Joined.{joined, further_text}
-use Rattle.read_again.specs.in_printing.LineLayout.{parenthesized_text, texts_of}
+use Rattle.read_again.specs.in_literals.Joined.{joined, further_text}
+use Rattle.read_again.specs.in_literals.LineLayout.{parenthesized_text, texts_of}
 use Rattle.graphql_names.specs.Placed.{Placed, unplaced_node}
-use Rattle.read_values.specs.in_tokens.Tokens.{is_ignored_byte}
-use Rattle.read_values.specs.in_grammar.Meaning.{Meaning}
-use Rattle.read_values.specs.in_grammar.Kinds.{is_open_paren, is_close_paren}
-use Rattle.read_values.specs.in_grammar.Rules as rule
-use Rattle.read_values.specs.in_grammar.Rules.{Rule, optional, many, some, between}
+use Rattle.read_operations.specs.in_tokens.Tokens.{is_ignored_byte}
+use Rattle.read_operations.specs.in_grammar.Meaning.{Meaning}
+use Rattle.read_operations.specs.in_grammar.Kinds.{is_open_paren, is_close_paren}
+use Rattle.read_operations.specs.in_grammar.Rules as rule
+use Rattle.read_operations.specs.in_grammar.Rules.{Rule, optional, many, some, between}
 use Rattle.read_again.specs.Printed.{Follow, any, ends_word, Printed}
 use Rattle.read_again.specs.WellFormed.{depths}
 use Rattle.read_again.proofs.Sequences.{seq, mapped, placed, ignored, more, one_or_more, no_more, given, left_out, as_text, saying}

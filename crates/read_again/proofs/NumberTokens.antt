@@ -5,12 +5,12 @@ use Rattle.std.specs.Char.{is_ascii_digit}
 use Rattle.std.proofs.lemmas.Bool.{and_parts, or_cases, or_parts, or_from}
 use Rattle.std.proofs.lemmas.Grind.{common_steps}
 use Rattle.graphql_names.specs.NameSyntax.{is_name_start, is_name_continue}
-use Rattle.read_values.specs.in_literals.NumberSyntax.{is_digits, is_nothing, has_leading_zero, is_natural, without_minus, without_sign, is_int_value, is_fraction, is_exponent, followed_by, is_float_tail, is_float_value}
-use Rattle.read_values.specs.in_tokens.Bytes.{begins_by}
-use Rattle.read_values.specs.in_tokens.Numbers.{is_point, sign_len, whole_len, digits_behind, fraction_len, is_exponent_mark, is_sign, exponent_len, goes_on, number_kind, number_at}
-use Rattle.read_values.specs.in_tokens.Tokens.{token_at}
-use Rattle.read_values.specs.in_tokens.declared.token.TokenKind.{TokenKind}
-use Rattle.read_values.specs.in_tokens.declared.token.TokenKind.TheVariants as t
+use Rattle.read_operations.specs.in_literals.NumberSyntax.{is_digits, is_nothing, has_leading_zero, is_natural, without_minus, without_sign, is_int_value, is_fraction, is_exponent, followed_by, is_float_tail, is_float_value}
+use Rattle.read_operations.specs.in_tokens.Bytes.{begins_by}
+use Rattle.read_operations.specs.in_tokens.Numbers.{is_point, sign_len, whole_len, digits_behind, fraction_len, is_exponent_mark, is_sign, exponent_len, goes_on, number_kind, number_at}
+use Rattle.read_operations.specs.in_tokens.Tokens.{token_at}
+use Rattle.read_operations.specs.in_tokens.declared.token.TokenKind.{TokenKind}
+use Rattle.read_operations.specs.in_tokens.declared.token.TokenKind.TheVariants as t
 use Rattle.read_again.specs.Printed.{ends_word}
 use Rattle.read_again.specs.Literals.{NumbersRead}
 use Rattle.read_again.proofs.Tokens.{drop_front, whole_run}

@@ -2,27 +2,27 @@
 use Rattle.std.proofs.Common.{◌≡◌, ◌≤◌, ◌+◌, ℕ, zero, suc, Bool, true, false, cond, ◌&&◌, List, [], ◌∷◌, ◌++◌, map, codes, Option, Some, None, option_map, refl, ap, arith}
 use Rattle.std.proofs.lemmas.Bool.{and_parts}
 use Rattle.graphql_names.specs.NameSyntax as names
-use Rattle.read_again.specs.in_printing.Joined.{joined}
-use Rattle.read_again.specs.in_printing.LineLayout.{Prefix, braced_text, set_text, texts_of}
-use Rattle.read_values.specs.in_literals.ValueLayout.{default_text}
-use Rattle.read_values.specs.in_directives.DirectiveLayout.{directives_text}
-use Rattle.read_values.specs.in_operations.OperationQueries.{operation_keyword}
-use Rattle.read_values.specs.in_operations.OperationLayout.{selection_texts, is_query, variable_text, variables_text, is_none, is_empty, is_bare_query, operation_name_text, full_operation_text, operation_text, fragment_text}
-use Rattle.read_values.specs.in_directives.declared.operation_type.OperationType.{OperationType}
-use Rattle.read_values.specs.in_directives.declared.operation_type.OperationType.TheVariants.{Query, Mutation, Subscription}
+use Rattle.read_again.specs.in_literals.Joined.{joined}
+use Rattle.read_again.specs.in_literals.LineLayout.{Prefix, braced_text, set_text, texts_of}
+use Rattle.read_operations.specs.in_literals.ValueLayout.{default_text}
+use Rattle.read_operations.specs.in_directives.DirectiveLayout.{directives_text}
+use Rattle.read_operations.specs.in_operations.OperationQueries.{operation_keyword}
+use Rattle.read_operations.specs.in_operations.OperationLayout.{selection_texts, is_query, variable_text, variables_text, is_none, is_empty, is_bare_query, operation_name_text, full_operation_text, operation_text, fragment_text}
+use Rattle.read_operations.specs.in_directives.declared.operation_type.OperationType.{OperationType}
+use Rattle.read_operations.specs.in_directives.declared.operation_type.OperationType.TheVariants.{Query, Mutation, Subscription}
 use Rattle.graphql_names.specs.Placed.{Placed, Text, unplaced_text, unplaced_node}
-use Rattle.read_values.specs.in_values.Writable.{directives_writable, has_selection, selections_writable, variable_writable, variables_writable, operation_writable, fragment_writable}
-use Rattle.read_values.specs.in_literals.TypeTree.{TypeTree}
-use Rattle.read_values.specs.in_literals.ValueTree.{ValueTree}
-use Rattle.read_values.specs.in_directives.DirectiveTree.{Directives, unplaced_directives}
-use Rattle.read_values.specs.in_operations.SelectionTree.{SelectionTrees}
-use Rattle.read_values.specs.in_operations.OperationTree.{VariableDefinitionTree, OperationTree, FragmentTree, unplaced_variable_definition, unplaced_operation, unplaced_fragment}
-use Rattle.read_values.specs.in_tokens.Terminals.{words}
-use Rattle.read_values.specs.in_grammar.Meaning.{Meaning}
-use Rattle.read_values.specs.in_grammar.Kinds as kind
-use Rattle.read_values.specs.in_grammar.Rules.{mark, ◌·◌, ◌<$>◌, ◌∣◌, optional}
-use Rattle.read_values.specs.in_grammar.ValueGrammar.{constant, with_variables, name, directives}
-use Rattle.read_values.specs.in_grammar.OperationGrammar.{variable_definition_of, short_of, operation_of, fragment_of, operation_type, type_condition, selection_set, variable_definition, variable_definitions, operation_definition, fragment_definition}
+use Rattle.read_operations.specs.in_values.Writable.{directives_writable, has_selection, selections_writable, variable_writable, variables_writable, operation_writable, fragment_writable}
+use Rattle.read_operations.specs.in_literals.TypeTree.{TypeTree}
+use Rattle.read_operations.specs.in_literals.ValueTree.{ValueTree}
+use Rattle.read_operations.specs.in_directives.DirectiveTree.{Directives, unplaced_directives}
+use Rattle.read_operations.specs.in_operations.SelectionTree.{SelectionTrees}
+use Rattle.read_operations.specs.in_operations.OperationTree.{VariableDefinitionTree, OperationTree, FragmentTree, unplaced_variable_definition, unplaced_operation, unplaced_fragment}
+use Rattle.read_operations.specs.in_tokens.Terminals.{words}
+use Rattle.read_operations.specs.in_grammar.Meaning.{Meaning}
+use Rattle.read_operations.specs.in_grammar.Kinds as kind
+use Rattle.read_operations.specs.in_grammar.Rules.{mark, ◌·◌, ◌<$>◌, ◌∣◌, optional}
+use Rattle.read_operations.specs.in_grammar.ValueGrammar.{constant, with_variables, name, directives}
+use Rattle.read_operations.specs.in_grammar.OperationGrammar.{variable_definition_of, short_of, operation_of, fragment_of, operation_type, type_condition, selection_set, variable_definition, variable_definitions, operation_definition, fragment_definition}
 use Rattle.read_again.specs.Printed.{any, ends_word, Printed}
 use Rattle.read_again.specs.Literals.{LiteralsRead}
 use Rattle.read_again.specs.WellFormed.{directives_well_formed, selections_well_formed, is_white_prefix, name_well_formed, variable_well_formed, variables_well_formed, operation_well_formed, fragment_well_formed, variable_depth, variables_depth, operation_depth, fragment_depth}

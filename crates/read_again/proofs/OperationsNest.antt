@@ -1,13 +1,13 @@
 -- How deep selections, operations and fragments nest, by the grammar.
 use Rattle.std.proofs.Common.{◌≡◌, ℕ, zero, suc, max, List, [], ◌∷◌, refl, sym, ap, ◌∙◌, arith}
-use Rattle.read_values.specs.in_operations.SelectionTree.{SelectionTree, SelectionTrees, no_selections}
-use Rattle.read_values.specs.in_tokens.Input.{Input}
-use Rattle.read_values.specs.in_grammar.Meaning.{Meaning, name_of}
-use Rattle.read_values.specs.in_grammar.Kinds.{is_fragment_name, is_colon, is_spread, is_on, is_fragment, is_query, is_mutation, is_subscription, is_open_brace, is_close_brace, is_open_paren, is_close_paren}
-use Rattle.read_values.specs.in_grammar.Rules.{Rule, some}
-use Rattle.read_values.specs.in_grammar.ValueGrammar.{constant, with_variables}
-use Rattle.read_values.specs.in_grammar.OperationGrammar as g
-use Rattle.read_values.specs.in_grammar.OperationGrammar.{selections_of, field_of, spread_of, inline_of, variable_definition_of, short_of, operation_of, fragment_of}
+use Rattle.read_operations.specs.in_operations.SelectionTree.{SelectionTree, SelectionTrees, no_selections}
+use Rattle.read_operations.specs.in_tokens.Input.{Input}
+use Rattle.read_operations.specs.in_grammar.Meaning.{Meaning, name_of}
+use Rattle.read_operations.specs.in_grammar.Kinds.{is_fragment_name, is_colon, is_spread, is_on, is_fragment, is_query, is_mutation, is_subscription, is_open_brace, is_close_brace, is_open_paren, is_close_paren}
+use Rattle.read_operations.specs.in_grammar.Rules.{Rule, some}
+use Rattle.read_operations.specs.in_grammar.ValueGrammar.{constant, with_variables}
+use Rattle.read_operations.specs.in_grammar.OperationGrammar as g
+use Rattle.read_operations.specs.in_grammar.OperationGrammar.{selections_of, field_of, spread_of, inline_of, variable_definition_of, short_of, operation_of, fragment_of}
 use Rattle.read_again.specs.TreeDepth.{deepest, selection_depth, selections_depth, set_depth, variable_depth, variables_depth, operation_depth, fragment_depth}
 use Rattle.read_again.proofs.Nests.{Nests, Flat, token, flat, mapped, both, skip, choice, never, maybe, maybe_or, maybe_flat, located, one_or_more, enclosed_by, enclosed_some}
 use Rattle.read_again.proofs.ValuesNest.{name_flat, variable_flat, default_nests, arguments_nests, directives_nests, type_nests}

@@ -1,10 +1,10 @@
 -- Each punctuator is read as it is printed, whatever is behind it.
 use Rattle.std.proofs.Common.{◌≡◌, [], ◌∷◌, refl}
-use Rattle.read_values.specs.in_tokens.declared.token.TokenKind.TheVariants as t
-use Rattle.read_values.specs.in_tokens.Tokens.{ignored_at, token_at}
-use Rattle.read_values.specs.in_tokens.Lex.{piece_at}
-use Rattle.read_values.specs.in_grammar.Kinds.{is_bang, is_dollar, is_ampersand, is_open_paren, is_close_paren, is_spread, is_colon, is_equals, is_at, is_open_bracket, is_close_bracket, is_open_brace, is_pipe, is_close_brace}
-use Rattle.read_values.specs.in_grammar.Rules.{mark}
+use Rattle.read_operations.specs.in_tokens.declared.token.TokenKind.TheVariants as t
+use Rattle.read_operations.specs.in_tokens.Tokens.{ignored_at, token_at}
+use Rattle.read_operations.specs.in_tokens.Lex.{piece_at}
+use Rattle.read_operations.specs.in_grammar.Kinds.{is_bang, is_dollar, is_ampersand, is_open_paren, is_close_paren, is_spread, is_colon, is_equals, is_at, is_open_bracket, is_close_bracket, is_open_brace, is_pipe, is_close_brace}
+use Rattle.read_operations.specs.in_grammar.Rules.{mark}
 use Rattle.read_again.specs.Printed.{any, Printed}
 use Rattle.read_again.proofs.Tokens.{marked}
 

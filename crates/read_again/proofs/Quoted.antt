@@ -4,9 +4,9 @@ use Rattle.std.specs.Char.{encode_utf8}
 use Rattle.std.specs.Prelude.{nat_lt}
 use Rattle.std.proofs.lemmas.Bool.{cases_order}
 use Rattle.std.proofs.lemmas.Grind.{common_steps}
-use Rattle.tree_printing.specs.Joined.{joined}
-use Rattle.tree_printing.specs.StringLayout.{escaped_byte, escaped_text, quoted_text}
-use Rattle.tree_printing.specs.EscapeRuns.{must_escape}
+use Rattle.tree_literals.specs.Joined.{joined}
+use Rattle.tree_literals.specs.StringLayout.{escaped_byte, escaped_text, quoted_text}
+use Rattle.tree_literals.specs.EscapeRuns.{must_escape}
 use Rattle.read_tokens.specs.Bytes.{begins_with, run_len, replaced, between}
 use Rattle.read_tokens.specs.Strings.{unicode_at, escape_at, part_len, part_at, quoted_len, string_value}
 use Rattle.read_tokens.specs.Blocks.{quotes, block_len}

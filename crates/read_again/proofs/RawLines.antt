@@ -3,7 +3,7 @@ use Rattle.std.proofs.Common.{◌≡◌, ℕ, Bool, true, false, cond, ◌||◌,
 use Rattle.std.specs.List.{list_all, onto_first}
 use Rattle.std.proofs.lemmas.Bool.{and_parts, and_from, not-true}
 use Rattle.std.proofs.lemmas.Grind.{common_steps}
-use Rattle.tree_printing.specs.StringLayout.{text_lines, has_byte}
+use Rattle.tree_literals.specs.StringLayout.{text_lines, has_byte}
 use Rattle.read_tokens.specs.Tokens.{is_in_line}
 use Rattle.read_tokens.specs.Blocks.{ends_line, lines_of, is_white_space}
 use Rattle.read_tokens.specs.Blocks as b

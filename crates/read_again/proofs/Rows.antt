@@ -2,17 +2,17 @@
 use Rattle.std.specs.Prelude.{◌≡◌, ℕ, true, List, [], ◌∷◌, codes, None, Some}
 use Rattle.std.specs.List.{list_all}
 use Rattle.std.proofs.Common.{refl}
-use Rattle.read_again.specs.in_printing.Joined.{joined}
-use Rattle.read_values.specs.in_literals.ValueLayout.{value_text}
-use Rattle.read_values.specs.in_directives.declared.operation_type.OperationType.TheVariants.{Query}
+use Rattle.read_again.specs.in_literals.Joined.{joined}
+use Rattle.read_operations.specs.in_literals.ValueLayout.{value_text}
+use Rattle.read_operations.specs.in_directives.declared.operation_type.OperationType.TheVariants.{Query}
 use Rattle.graphql_names.specs.Placed.{Text}
-use Rattle.read_values.specs.in_values.Writable.{value_writable, selections_writable}
-use Rattle.read_values.specs.in_literals.TypeTree.{NamedTree}
-use Rattle.read_values.specs.in_literals.ValueTree.{ValueTree, StringTree, FloatTree, IntTree, ListTree, no_items, item_then}
-use Rattle.read_values.specs.in_operations.SelectionTree.{SelectionTrees, FieldTree, SpreadTree, no_selections, selection_then}
-use Rattle.read_values.specs.in_definitions.DefinitionTree.{DefinitionTree, Operation, UnionType, ObjectType, ExtendInterface}
-use Rattle.read_values.specs.in_definitions.DocumentLayout.{document_text}
-use Rattle.read_values.specs.in_definitions.Writable.{definition_writable}
+use Rattle.read_operations.specs.in_values.Writable.{value_writable, selections_writable}
+use Rattle.read_operations.specs.in_literals.TypeTree.{NamedTree}
+use Rattle.read_operations.specs.in_literals.ValueTree.{ValueTree, StringTree, FloatTree, IntTree, ListTree, no_items, item_then}
+use Rattle.read_operations.specs.in_operations.SelectionTree.{SelectionTrees, FieldTree, SpreadTree, no_selections, selection_then}
+use Rattle.read_operations.specs.in_definitions.DefinitionTree.{DefinitionTree, Operation, UnionType, ObjectType, ExtendInterface}
+use Rattle.read_operations.specs.in_definitions.DocumentLayout.{document_text}
+use Rattle.read_operations.specs.in_definitions.Writable.{definition_writable}
 use Rattle.read_again.specs.WellFormed.{value_well_formed, selections_well_formed}
 use Rattle.read_again.specs.SelectionsLayout.{selections_text}
 use Rattle.read_again.specs.Definitions.{definition_well_formed}

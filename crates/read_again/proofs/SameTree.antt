@@ -4,8 +4,8 @@ use Rattle.std.proofs.lemmas.Bool.{and_parts}
 use Rattle.std.specs.Prelude.{IfOk, IfErr, None}
 use Rattle.std.specs.List.{list_all}
 use Rattle.graphql_names.specs.declared.span.FileId.{FileId}
-use Rattle.tree_printing.specs.Joined.{joined}
-use Rattle.tree_printing.specs.LineLayout.{Prefix, standing}
+use Rattle.tree_literals.specs.Joined.{joined}
+use Rattle.tree_literals.specs.LineLayout.{Prefix, standing}
 use Rattle.tree_literals.specs.ValueLayout.{type_text}
 use Rattle.tree_literals.specs.TypeTree.{type_tree, unplaced_type}
 use Rattle.tree_literals.specs.declared.ty.«Type».{«Type»}
@@ -18,7 +18,7 @@ use Rattle.graphql_read.specs.in_grammar.Depth.{depth}
 use Rattle.graphql_read.specs.in_grammar.Faults as faults
 use Rattle.graphql_read.specs.in_grammar.Faults.{Symbol, IsTooDeep}
 use Rattle.graphql_read.specs.in_grammar.Grammar.{Derives, DerivesType}
-use Rattle.graphql_read.specs.in_read_values.Meanings.{in_file}
+use Rattle.graphql_read.specs.in_read_operations.Meanings.{in_file}
 use Rattle.graphql_read.specs.declared.fault.SyntaxFaultKind.{SyntaxFaultKind}
 use Rattle.graphql_read.specs.declared.fault.SyntaxFaultKind.TheVariants.{NoToken, Unexpected, End}
 use Rattle.graphql_read.specs.declared.fault.ReadFault.{ReadFault}

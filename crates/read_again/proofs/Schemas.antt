@@ -2,21 +2,21 @@
 use Rattle.std.proofs.Common.{◌≡◌, ◌≤◌, ◌+◌, ℕ, zero, suc, true, List, [], ◌∷◌, ◌++◌, map, codes, refl, arith}
 use Rattle.std.specs.List.{list_all}
 use Rattle.std.proofs.lemmas.Bool.{and_parts}
-use Rattle.read_again.specs.in_printing.Joined.{joined}
-use Rattle.read_again.specs.in_printing.LineLayout.{Prefix, set_text, texts_of}
-use Rattle.read_values.specs.in_directives.DirectiveLayout.{directives_text}
-use Rattle.read_values.specs.in_type_members.TypeSystemLayout.{root_text}
-use Rattle.read_values.specs.in_type_members.PartsWritable.{has_some}
+use Rattle.read_again.specs.in_literals.Joined.{joined}
+use Rattle.read_again.specs.in_literals.LineLayout.{Prefix, set_text, texts_of}
+use Rattle.read_operations.specs.in_directives.DirectiveLayout.{directives_text}
+use Rattle.read_operations.specs.in_type_members.TypeSystemLayout.{root_text}
+use Rattle.read_operations.specs.in_type_members.PartsWritable.{has_some}
 use Rattle.graphql_names.specs.Placed.{Placed, unplaced_node}
-use Rattle.read_values.specs.in_values.Writable.{directives_writable}
-use Rattle.read_values.specs.in_directives.DirectiveTree.{Directives}
-use Rattle.read_values.specs.in_type_members.TypeSystemTree.{RootOperationTree, SchemaParts, unplaced_root, unplaced_schema}
-use Rattle.read_values.specs.in_tokens.Terminals.{words}
-use Rattle.read_values.specs.in_grammar.Meaning.{Meaning}
-use Rattle.read_values.specs.in_grammar.Kinds.{is_schema, is_open_brace}
-use Rattle.read_values.specs.in_grammar.Rules.{optional_unless}
-use Rattle.read_values.specs.in_grammar.ValueGrammar.{constant}
-use Rattle.read_values.specs.in_grammar.TypeSystemGrammar.{schema_of, schema_extension_of, root_operation_type_definition, roots, schema_definition, schema_extension}
+use Rattle.read_operations.specs.in_values.Writable.{directives_writable}
+use Rattle.read_operations.specs.in_directives.DirectiveTree.{Directives}
+use Rattle.read_operations.specs.in_type_members.TypeSystemTree.{RootOperationTree, SchemaParts, unplaced_root, unplaced_schema}
+use Rattle.read_operations.specs.in_tokens.Terminals.{words}
+use Rattle.read_operations.specs.in_grammar.Meaning.{Meaning}
+use Rattle.read_operations.specs.in_grammar.Kinds.{is_schema, is_open_brace}
+use Rattle.read_operations.specs.in_grammar.Rules.{optional_unless}
+use Rattle.read_operations.specs.in_grammar.ValueGrammar.{constant}
+use Rattle.read_operations.specs.in_grammar.TypeSystemGrammar.{schema_of, schema_extension_of, root_operation_type_definition, roots, schema_definition, schema_extension}
 use Rattle.read_again.specs.Printed.{any, ends_word, ends_definition, Printed}
 use Rattle.read_again.specs.Literals.{LiteralsRead}
 use Rattle.read_again.specs.WellFormed.{is_white_prefix, root_well_formed, schema_well_formed, schema_depth}

@@ -2,21 +2,21 @@
 use Rattle.std.proofs.Common.{◌≡◌, ◌≤◌, ◌+◌, ℕ, zero, suc, true, ◌&&◌, List, [], ◌∷◌, ◌++◌, codes, Option, Some, None, unwrap_or, option_map, refl, sym, ap, ◌∙◌, append_assoc, append-nil, arith}
 use Rattle.std.proofs.lemmas.Bool.{and_parts}
 use Rattle.graphql_names.specs.NameSyntax as names
-use Rattle.read_again.specs.in_printing.Joined.{joined}
-use Rattle.read_again.specs.in_printing.LineLayout.{Prefix, start_text, members_text, braced_text, set_text, texts_of}
-use Rattle.read_values.specs.in_directives.DirectiveLayout.{argument_text, arguments_text, directives_text}
-use Rattle.read_values.specs.in_operations.OperationLayout.{alias_text, condition_text, spread_text, selection_text, selection_texts}
+use Rattle.read_again.specs.in_literals.Joined.{joined}
+use Rattle.read_again.specs.in_literals.LineLayout.{Prefix, start_text, members_text, braced_text, set_text, texts_of}
+use Rattle.read_operations.specs.in_directives.DirectiveLayout.{argument_text, arguments_text, directives_text}
+use Rattle.read_operations.specs.in_operations.OperationLayout.{alias_text, condition_text, spread_text, selection_text, selection_texts}
 use Rattle.graphql_names.specs.Placed.{Text, unplaced_text}
-use Rattle.read_values.specs.in_values.Writable.{directives_writable, can_be_fragment, head_writable, has_selection, selection_writable, selections_writable}
-use Rattle.read_values.specs.in_directives.DirectiveTree.{Arguments, Directives}
-use Rattle.read_values.specs.in_operations.SelectionTree.{FieldHead, SelectionTree, FieldTree, SpreadTree, InlineTree, SelectionTrees, no_selections, selection_then, unplaced_selection, unplaced_selections}
-use Rattle.read_values.specs.in_tokens.declared.token.TokenKind.TheVariants as t
-use Rattle.read_values.specs.in_tokens.Terminals.{words, terminal_of}
-use Rattle.read_values.specs.in_grammar.Meaning.{Meaning}
-use Rattle.read_values.specs.in_grammar.Kinds.{is_fragment_name, is_on}
-use Rattle.read_values.specs.in_grammar.Rules.{Rule, ◌·◌, ◌∣◌, optional, many}
-use Rattle.read_values.specs.in_grammar.ValueGrammar.{with_variables}
-use Rattle.read_values.specs.in_grammar.OperationGrammar.{selections_of, field_of, spread_of, inline_of, alias, field, type_condition, fragment_spread, inline_fragment, selection, selection_list, selection_set, selections}
+use Rattle.read_operations.specs.in_values.Writable.{directives_writable, can_be_fragment, head_writable, has_selection, selection_writable, selections_writable}
+use Rattle.read_operations.specs.in_directives.DirectiveTree.{Arguments, Directives}
+use Rattle.read_operations.specs.in_operations.SelectionTree.{FieldHead, SelectionTree, FieldTree, SpreadTree, InlineTree, SelectionTrees, no_selections, selection_then, unplaced_selection, unplaced_selections}
+use Rattle.read_operations.specs.in_tokens.declared.token.TokenKind.TheVariants as t
+use Rattle.read_operations.specs.in_tokens.Terminals.{words, terminal_of}
+use Rattle.read_operations.specs.in_grammar.Meaning.{Meaning}
+use Rattle.read_operations.specs.in_grammar.Kinds.{is_fragment_name, is_on}
+use Rattle.read_operations.specs.in_grammar.Rules.{Rule, ◌·◌, ◌∣◌, optional, many}
+use Rattle.read_operations.specs.in_grammar.ValueGrammar.{with_variables}
+use Rattle.read_operations.specs.in_grammar.OperationGrammar.{selections_of, field_of, spread_of, inline_of, alias, field, type_condition, fragment_spread, inline_fragment, selection, selection_list, selection_set, selections}
 use Rattle.read_again.specs.Printed.{Follow, any, ends_word, Printed}
 use Rattle.read_again.specs.Literals.{LiteralsRead}
 use Rattle.read_again.specs.SelectionsLayout.{selections_text}

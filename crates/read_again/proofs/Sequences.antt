@@ -2,12 +2,12 @@
 use Rattle.std.proofs.Common.{◌≡◌, ℕ, ◌+◌, true, List, [], ◌∷◌, ◌++◌, length, Some, None, refl, sym, subst, inl, inr, append_assoc, append-nil, length-append, arith}
 use Rattle.std.specs.List.{list_all}
 use Rattle.std.proofs.lemmas.Bool.{and_parts}
-use Rattle.read_values.specs.in_tokens.Input.{Token}
-use Rattle.read_values.specs.in_tokens.Tokens.{is_ignored_byte, ignored_at}
-use Rattle.read_values.specs.in_tokens.Lex.{piece_at}
-use Rattle.read_values.specs.in_grammar.Meaning.{Meaning, place_between}
-use Rattle.read_values.specs.in_grammar.Rules as rule
-use Rattle.read_values.specs.in_grammar.Rules.{Rule, one, ◌·◌, ◌<$>◌, ◌∣◌, optional, many, some}
+use Rattle.read_operations.specs.in_tokens.Input.{Token}
+use Rattle.read_operations.specs.in_tokens.Tokens.{is_ignored_byte, ignored_at}
+use Rattle.read_operations.specs.in_tokens.Lex.{piece_at}
+use Rattle.read_operations.specs.in_grammar.Meaning.{Meaning, place_between}
+use Rattle.read_operations.specs.in_grammar.Rules as rule
+use Rattle.read_operations.specs.in_grammar.Rules.{Rule, one, ◌·◌, ◌<$>◌, ◌∣◌, optional, many, some}
 use Rattle.read_again.specs.Printed.{Follow, any, ends_word, LexesAt, before, Printed}
 
 -- ---- what is behind

@@ -2,9 +2,9 @@
 use Rattle.std.proofs.Common.{◌≡◌, ℕ, Bool, true, false, cond, ◌&&◌, ◌==◌, List, [], ◌∷◌, ◌++◌, length, take, Some, None, refl, sym, ap, ◌∙◌, eqb-true}
 use Rattle.std.proofs.lemmas.Bool.{and_parts}
 use Rattle.std.proofs.lemmas.List.{drop_at, take_at}
-use Rattle.tree_printing.specs.Joined.{joined}
-use Rattle.tree_printing.specs.LineLayout.{Prefix}
-use Rattle.tree_printing.specs.StringLayout.{has_byte, can_be_block_string, quoted_text, block_text, description_string}
+use Rattle.tree_literals.specs.Joined.{joined}
+use Rattle.tree_literals.specs.LineLayout.{Prefix}
+use Rattle.tree_literals.specs.StringLayout.{has_byte, can_be_block_string, quoted_text, block_text, description_string}
 use Rattle.read_tokens.specs.Bytes.{begins_with}
 use Rattle.read_tokens.specs.Tokens.{ignored_at, token_at}
 use Rattle.read_tokens.specs.Terminals.{terminal_of}

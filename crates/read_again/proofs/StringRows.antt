@@ -1,8 +1,8 @@
 -- Small strings that are printed and read, evaluated.
 use Rattle.std.proofs.Common.{◌≡◌, ℕ, true, false, List, [], ◌∷◌, ◌++◌, length, codes, Some, None, refl}
 use Rattle.std.specs.Char.{encode_utf8}
-use Rattle.tree_printing.specs.Joined.{joined}
-use Rattle.tree_printing.specs.StringLayout.{quoted_text, can_be_block_string, block_text}
+use Rattle.tree_literals.specs.Joined.{joined}
+use Rattle.tree_literals.specs.StringLayout.{quoted_text, can_be_block_string, block_text}
 use Rattle.read_tokens.specs.Bytes.{run_len, replaced}
 use Rattle.read_tokens.specs.Strings.{unicode_at, escape_at, part_len, part_at, quoted_len, string_value}
 use Rattle.read_tokens.specs.Blocks.{block_character_len, block_character_at, block_len, raw_value, lines_of, block_string_value, block_value}

@@ -1,16 +1,16 @@
 -- Strings are read as they are printed.
 use Rattle.std.proofs.Common.{◌≡◌, ℕ, Bool, true, false, not, ◌==◌, ◌&&◌, ◌||◌, List, [], ◌∷◌, Some, None, refl, ap, ◌∙◌, inl, inr}
-use Rattle.read_again.specs.in_printing.LineLayout.{Prefix}
-use Rattle.read_again.specs.in_printing.StringLayout.{quoted_text, description_string}
-use Rattle.read_values.specs.in_tokens.Bytes.{begins_with}
-use Rattle.read_values.specs.in_tokens.Strings.{string_value}
-use Rattle.read_values.specs.in_tokens.Blocks.{block_value}
-use Rattle.read_values.specs.in_tokens.Numbers.{goes_on}
-use Rattle.read_values.specs.in_tokens.Input.{Token}
-use Rattle.read_values.specs.in_tokens.declared.terminal.Terminal.{Terminal}
-use Rattle.read_values.specs.in_tokens.declared.terminal.Terminal.TheVariants as k
-use Rattle.read_values.specs.in_tokens.declared.token.TokenKind.TheVariants as t
-use Rattle.read_values.specs.Meanings.{string_by, string_of}
+use Rattle.read_again.specs.in_literals.LineLayout.{Prefix}
+use Rattle.read_again.specs.in_literals.StringLayout.{quoted_text, description_string}
+use Rattle.read_operations.specs.in_tokens.Bytes.{begins_with}
+use Rattle.read_operations.specs.in_tokens.Strings.{string_value}
+use Rattle.read_operations.specs.in_tokens.Blocks.{block_value}
+use Rattle.read_operations.specs.in_tokens.Numbers.{goes_on}
+use Rattle.read_operations.specs.in_tokens.Input.{Token}
+use Rattle.read_operations.specs.in_tokens.declared.terminal.Terminal.{Terminal}
+use Rattle.read_operations.specs.in_tokens.declared.terminal.Terminal.TheVariants as k
+use Rattle.read_operations.specs.in_tokens.declared.token.TokenKind.TheVariants as t
+use Rattle.read_operations.specs.Meanings.{string_by, string_of}
 use Rattle.read_again.specs.Readings.{IsReadAs, MayFollow, IsWhitePrefix}
 use Rattle.read_again.proofs.Quoted.{quoted_value, quoted_is_token}
 use Rattle.read_again.proofs.Descriptions.{description_is_read}

@@ -6,19 +6,19 @@ use Rattle.std.proofs.lemmas.Bool.{and_parts}
 use Rattle.graphql_names.specs.NameSyntax as names
 use Rattle.graphql_names.specs.NameSyntax.{is_name_start, is_name_continue}
 use Rattle.graphql_names.specs.Placed.{Text}
-use Rattle.read_values.specs.in_tokens.declared.terminal.Terminal.{Terminal}
-use Rattle.read_values.specs.in_tokens.declared.terminal.Terminal.TheVariants as k
-use Rattle.read_values.specs.in_tokens.declared.token.TokenKind.{TokenKind}
-use Rattle.read_values.specs.in_tokens.declared.token.TokenKind.TheVariants as t
-use Rattle.read_values.specs.in_tokens.Bytes.{begins_by}
-use Rattle.read_values.specs.in_tokens.Input.{Token}
-use Rattle.read_values.specs.in_tokens.Tokens.{ignored_at, token_at}
-use Rattle.read_values.specs.in_tokens.Terminals.{Word, words, spelled, terminal_of}
-use Rattle.read_values.specs.in_tokens.Lex.{Piece, piece_at, ArePieces}
-use Rattle.read_values.specs.in_grammar.Meaning.{Meaning, name_of}
-use Rattle.read_values.specs.in_grammar.Kinds.{is_name}
-use Rattle.read_values.specs.in_grammar.Rules.{one, mark, ◌<$>◌}
-use Rattle.read_values.specs.in_grammar.ValueGrammar.{name}
+use Rattle.read_operations.specs.in_tokens.declared.terminal.Terminal.{Terminal}
+use Rattle.read_operations.specs.in_tokens.declared.terminal.Terminal.TheVariants as k
+use Rattle.read_operations.specs.in_tokens.declared.token.TokenKind.{TokenKind}
+use Rattle.read_operations.specs.in_tokens.declared.token.TokenKind.TheVariants as t
+use Rattle.read_operations.specs.in_tokens.Bytes.{begins_by}
+use Rattle.read_operations.specs.in_tokens.Input.{Token}
+use Rattle.read_operations.specs.in_tokens.Tokens.{ignored_at, token_at}
+use Rattle.read_operations.specs.in_tokens.Terminals.{Word, words, spelled, terminal_of}
+use Rattle.read_operations.specs.in_tokens.Lex.{Piece, piece_at, ArePieces}
+use Rattle.read_operations.specs.in_grammar.Meaning.{Meaning, name_of}
+use Rattle.read_operations.specs.in_grammar.Kinds.{is_name}
+use Rattle.read_operations.specs.in_grammar.Rules.{one, mark, ◌<$>◌}
+use Rattle.read_operations.specs.in_grammar.ValueGrammar.{name}
 use Rattle.read_again.specs.Printed.{Follow, ends_word, LexesAt, PrintedBefore, Printed}
 use Rattle.read_again.proofs.Sequences.{mapped}
 

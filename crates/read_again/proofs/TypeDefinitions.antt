@@ -2,23 +2,23 @@
 use Rattle.std.proofs.Common.{◌≡◌, ◌≤◌, ◌+◌, ℕ, zero, suc, Bool, true, List, [], ◌∷◌, ◌++◌, map, codes, refl, sym, ap, ◌∙◌, append_assoc, append-nil, arith}
 use Rattle.std.specs.List.{list_all}
 use Rattle.std.proofs.lemmas.Bool.{and_parts}
-use Rattle.read_again.specs.in_printing.Joined.{joined}
-use Rattle.read_again.specs.in_printing.LineLayout.{Prefix, set_text, texts_of}
-use Rattle.read_values.specs.in_directives.DirectiveLayout.{directives_text}
-use Rattle.read_values.specs.in_directives.InputLayout.{input_value_text}
-use Rattle.read_values.specs.in_type_members.TypeSystemLayout.{names_text, head_text, field_definition_text, enum_value_text}
-use Rattle.read_values.specs.in_type_members.PartsWritable.{field_definition_writable, field_definitions_writable, enum_value_writable, enum_values_writable, fields_writable, enum_writable, input_object_writable}
+use Rattle.read_again.specs.in_literals.Joined.{joined}
+use Rattle.read_again.specs.in_literals.LineLayout.{Prefix, set_text, texts_of}
+use Rattle.read_operations.specs.in_directives.DirectiveLayout.{directives_text}
+use Rattle.read_operations.specs.in_directives.InputLayout.{input_value_text}
+use Rattle.read_operations.specs.in_type_members.TypeSystemLayout.{names_text, head_text, field_definition_text, enum_value_text}
+use Rattle.read_operations.specs.in_type_members.PartsWritable.{field_definition_writable, field_definitions_writable, enum_value_writable, enum_values_writable, fields_writable, enum_writable, input_object_writable}
 use Rattle.graphql_names.specs.Placed.{Placed, Text, unplaced_node}
-use Rattle.read_values.specs.in_values.Writable.{directives_writable, input_values_writable}
-use Rattle.read_values.specs.in_directives.DirectiveTree.{Directives, InputValues, unplaced_input_value}
-use Rattle.read_values.specs.in_type_members.TypeSystemTree.{FieldDefinitionTree, EnumValueTree, ScalarParts, FieldsParts, UnionParts, EnumParts, InputObjectParts, unplaced_input_object, unplaced_field_definition, unplaced_enum_value, unplaced_scalar, unplaced_fields, unplaced_union, unplaced_enum}
-use Rattle.read_values.specs.in_tokens.declared.terminal.Terminal.{Terminal}
-use Rattle.read_values.specs.in_tokens.Terminals.{words}
-use Rattle.read_values.specs.in_grammar.Meaning.{Meaning}
-use Rattle.read_values.specs.in_grammar.Kinds.{is_scalar, is_input, is_union, is_enum, is_type, is_interface, is_open_brace}
-use Rattle.read_values.specs.in_grammar.Rules.{Rule, mark, ◌·◌, ◌<$>◌, optional, optional_unless}
-use Rattle.read_values.specs.in_grammar.ValueGrammar.{constant, name, directives}
-use Rattle.read_values.specs.in_grammar.TypeSystemGrammar.{input_object_of, input_value_definition, input_fields_definition, input_object_type, scalar_of, fields_of, union_of, enum_of, scalar_type, implements_interfaces, field_definition, fields_definition, enum_value_definition, enum_values_definition, object_type, interface_type, union_type, enum_type}
+use Rattle.read_operations.specs.in_values.Writable.{directives_writable, input_values_writable}
+use Rattle.read_operations.specs.in_directives.DirectiveTree.{Directives, InputValues, unplaced_input_value}
+use Rattle.read_operations.specs.in_type_members.TypeSystemTree.{FieldDefinitionTree, EnumValueTree, ScalarParts, FieldsParts, UnionParts, EnumParts, InputObjectParts, unplaced_input_object, unplaced_field_definition, unplaced_enum_value, unplaced_scalar, unplaced_fields, unplaced_union, unplaced_enum}
+use Rattle.read_operations.specs.in_tokens.declared.terminal.Terminal.{Terminal}
+use Rattle.read_operations.specs.in_tokens.Terminals.{words}
+use Rattle.read_operations.specs.in_grammar.Meaning.{Meaning}
+use Rattle.read_operations.specs.in_grammar.Kinds.{is_scalar, is_input, is_union, is_enum, is_type, is_interface, is_open_brace}
+use Rattle.read_operations.specs.in_grammar.Rules.{Rule, mark, ◌·◌, ◌<$>◌, optional, optional_unless}
+use Rattle.read_operations.specs.in_grammar.ValueGrammar.{constant, name, directives}
+use Rattle.read_operations.specs.in_grammar.TypeSystemGrammar.{input_object_of, input_value_definition, input_fields_definition, input_object_type, scalar_of, fields_of, union_of, enum_of, scalar_type, implements_interfaces, field_definition, fields_definition, enum_value_definition, enum_values_definition, object_type, interface_type, union_type, enum_type}
 use Rattle.read_again.specs.Printed.{ends_word, begins_definition, ends_definition, Printed}
 use Rattle.read_again.specs.Literals.{LiteralsRead}
 use Rattle.read_again.specs.WellFormed.{is_white_prefix, bracketed, field_definition_well_formed, enum_value_well_formed, scalar_well_formed, fields_well_formed, union_well_formed, enum_well_formed, directives_depth, field_definition_depth, enum_value_depth, fields_depth, enum_depth, input_values_well_formed, input_object_well_formed, input_values_depth, input_object_depth}

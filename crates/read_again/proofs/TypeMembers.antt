@@ -1,22 +1,22 @@
 -- Definitions of fields, enum values and root operations are read as they are printed, under both kinds of layout.
 use Rattle.std.proofs.Common.{◌≡◌, ◌≤◌, ℕ, true, List, [], ◌∷◌, ◌++◌, Option, refl, arith}
 use Rattle.std.proofs.lemmas.Bool.{and_parts}
-use Rattle.read_again.specs.in_printing.Joined.{joined}
-use Rattle.read_again.specs.in_printing.LineLayout.{Prefix}
-use Rattle.read_values.specs.in_literals.ValueLayout.{type_text}
-use Rattle.read_values.specs.in_directives.DirectiveLayout.{directives_text}
-use Rattle.read_values.specs.in_directives.InputLayout.{argument_definitions_text}
-use Rattle.read_values.specs.in_directives.declared.operation_type.OperationType.{OperationType}
-use Rattle.read_values.specs.in_type_members.TypeSystemLayout.{field_definition_text, enum_value_text, root_text}
-use Rattle.read_values.specs.in_type_members.PartsWritable.{field_definition_writable, enum_value_writable}
+use Rattle.read_again.specs.in_literals.Joined.{joined}
+use Rattle.read_again.specs.in_literals.LineLayout.{Prefix}
+use Rattle.read_operations.specs.in_literals.ValueLayout.{type_text}
+use Rattle.read_operations.specs.in_directives.DirectiveLayout.{directives_text}
+use Rattle.read_operations.specs.in_directives.InputLayout.{argument_definitions_text}
+use Rattle.read_operations.specs.in_directives.declared.operation_type.OperationType.{OperationType}
+use Rattle.read_operations.specs.in_type_members.TypeSystemLayout.{field_definition_text, enum_value_text, root_text}
+use Rattle.read_operations.specs.in_type_members.PartsWritable.{field_definition_writable, enum_value_writable}
 use Rattle.graphql_names.specs.Placed.{Placed, Text}
-use Rattle.read_values.specs.in_literals.TypeTree.{TypeTree}
-use Rattle.read_values.specs.in_directives.DirectiveTree.{Directives, InputValues}
-use Rattle.read_values.specs.in_type_members.TypeSystemTree.{FieldDefinitionTree, EnumValueTree, RootOperationTree, unplaced_field_definition, unplaced_enum_value, unplaced_root}
-use Rattle.read_values.specs.in_grammar.Meaning.{Meaning}
-use Rattle.read_values.specs.in_grammar.Kinds.{is_enum_value}
-use Rattle.read_values.specs.in_grammar.ValueGrammar.{constant}
-use Rattle.read_values.specs.in_grammar.TypeSystemGrammar.{field_definition_of, enum_value_definition_of, root_of, field_definition, enum_value_definition, root_operation_type_definition}
+use Rattle.read_operations.specs.in_literals.TypeTree.{TypeTree}
+use Rattle.read_operations.specs.in_directives.DirectiveTree.{Directives, InputValues}
+use Rattle.read_operations.specs.in_type_members.TypeSystemTree.{FieldDefinitionTree, EnumValueTree, RootOperationTree, unplaced_field_definition, unplaced_enum_value, unplaced_root}
+use Rattle.read_operations.specs.in_grammar.Meaning.{Meaning}
+use Rattle.read_operations.specs.in_grammar.Kinds.{is_enum_value}
+use Rattle.read_operations.specs.in_grammar.ValueGrammar.{constant}
+use Rattle.read_operations.specs.in_grammar.TypeSystemGrammar.{field_definition_of, enum_value_definition_of, root_of, field_definition, enum_value_definition, root_operation_type_definition}
 use Rattle.read_again.specs.Printed.{any, ends_word, Printed}
 use Rattle.read_again.specs.Literals.{LiteralsRead}
 use Rattle.read_again.specs.WellFormed.{is_white_prefix, field_definition_well_formed, enum_value_well_formed, root_well_formed, field_definition_depth, enum_value_depth}

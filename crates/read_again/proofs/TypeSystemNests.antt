@@ -1,11 +1,11 @@
 -- How deep definitions of the type system nest, by the grammar.
 use Rattle.std.proofs.Common.{ℕ, zero, suc, [], refl}
-use Rattle.read_values.specs.in_grammar.Meaning.{Meaning, text_of}
-use Rattle.read_values.specs.in_grammar.Kinds.{is_string, is_colon, is_at, is_equals, is_ampersand, is_pipe, is_on, is_location, is_repeatable, is_implements, is_schema, is_scalar, is_type, is_interface, is_union, is_enum, is_input, is_directive, is_open_brace, is_close_brace, is_open_paren, is_close_paren}
-use Rattle.read_values.specs.in_grammar.Locations.{location_of}
-use Rattle.read_values.specs.in_grammar.ValueGrammar.{constant}
-use Rattle.read_values.specs.in_grammar.TypeSystemGrammar as g
-use Rattle.read_values.specs.in_grammar.TypeSystemGrammar.{KindTree, SchemaKind, ScalarKind, ObjectKind, InterfaceKind, UnionKind, EnumKind, InputObjectKind, root_of, schema_of, schema_extension_of, input_value_of, field_definition_of, enum_value_definition_of, scalar_of, fields_of, union_of, enum_of, input_object_of, directive_definition_of}
+use Rattle.read_operations.specs.in_grammar.Meaning.{Meaning, text_of}
+use Rattle.read_operations.specs.in_grammar.Kinds.{is_string, is_colon, is_at, is_equals, is_ampersand, is_pipe, is_on, is_location, is_repeatable, is_implements, is_schema, is_scalar, is_type, is_interface, is_union, is_enum, is_input, is_directive, is_open_brace, is_close_brace, is_open_paren, is_close_paren}
+use Rattle.read_operations.specs.in_grammar.Locations.{location_of}
+use Rattle.read_operations.specs.in_grammar.ValueGrammar.{constant}
+use Rattle.read_operations.specs.in_grammar.TypeSystemGrammar as g
+use Rattle.read_operations.specs.in_grammar.TypeSystemGrammar.{KindTree, SchemaKind, ScalarKind, ObjectKind, InterfaceKind, UnionKind, EnumKind, InputObjectKind, root_of, schema_of, schema_extension_of, input_value_of, field_definition_of, enum_value_definition_of, scalar_of, fields_of, union_of, enum_of, input_object_of, directive_definition_of}
 use Rattle.read_again.specs.TreeDepth.{bracketed, directives_depth, directive_definition_depth, input_value_depth, input_values_depth, field_definition_depth, enum_value_depth, fields_depth, enum_depth, input_object_depth, schema_depth}
 use Rattle.read_again.proofs.Nests.{Nests, Flat, token, flat, mapped, both, skip, ending, choice, never, maybe, maybe_or, maybe_or_unless, maybe_flat, located, separated_flat, enclosed_some}
 use Rattle.read_again.proofs.ValuesNest.{name_flat, enum_value_flat, default_nests, directives_nests, type_nests}

@@ -1,13 +1,13 @@
 -- References to types are read as they are printed.
 use Rattle.std.proofs.Common.{◌≡◌, ◌≤◌, ℕ, zero, suc, true, List, [], ◌∷◌, ◌++◌, Option, refl, sym, ap, subst, ◌∙◌, append_assoc, arith}
 use Rattle.graphql_names.specs.NameSyntax as names
-use Rattle.read_again.specs.in_printing.Joined.{joined}
-use Rattle.read_values.specs.in_literals.ValueLayout.{type_text}
-use Rattle.read_values.specs.in_literals.TypeTree.{TypeTree, NamedTree, NonNullNamedTree, ListTree, NonNullListTree, unplaced_type}
-use Rattle.read_values.specs.in_grammar.Meaning.{Meaning}
-use Rattle.read_values.specs.in_grammar.Kinds.{is_bang, is_open_bracket, is_close_bracket}
-use Rattle.read_values.specs.in_grammar.Rules.{Rule, mark, ◌<$>◌, ◌∣◌, nothing, between}
-use Rattle.read_values.specs.in_grammar.ValueGrammar.{name, non_null, type_of, any_type, type}
+use Rattle.read_again.specs.in_literals.Joined.{joined}
+use Rattle.read_operations.specs.in_literals.ValueLayout.{type_text}
+use Rattle.read_operations.specs.in_literals.TypeTree.{TypeTree, NamedTree, NonNullNamedTree, ListTree, NonNullListTree, unplaced_type}
+use Rattle.read_operations.specs.in_grammar.Meaning.{Meaning}
+use Rattle.read_operations.specs.in_grammar.Kinds.{is_bang, is_open_bracket, is_close_bracket}
+use Rattle.read_operations.specs.in_grammar.Rules.{Rule, mark, ◌<$>◌, ◌∣◌, nothing, between}
+use Rattle.read_operations.specs.in_grammar.ValueGrammar.{name, non_null, type_of, any_type, type}
 use Rattle.read_again.specs.Printed.{Follow, any, ends_word, Printed}
 use Rattle.read_again.specs.WellFormed.{type_well_formed, type_depth}
 use Rattle.read_again.proofs.Sequences.{seq, mapped, left, right, given, then_nothing, left_out, as_text, before_any}

@@ -1,24 +1,24 @@
 -- The layout knows no places: the text of a tree is that of the tree without them.
 use Rattle.std.specs.Prelude.{if◌then◌else◌, is_some}
 use Rattle.std.proofs.Common.{◌≡◌, ℕ, ◌+◌, Bool, false, ◌&&◌, ◌||◌, List, [], ◌∷◌, map, codes, Option, Some, None, option_map, refl}
-use Rattle.read_again.specs.in_printing.Joined.{joined, further_text}
-use Rattle.read_again.specs.in_printing.LineLayout.{Prefix, start_text, break_text, members_text, braced_text, set_text, parenthesized_text, texts_of}
-use Rattle.read_again.specs.in_printing.StringLayout.{description_text}
-use Rattle.read_values.specs.in_literals.ValueLayout.{type_text, list_text, object_text, named_value_text, value_text, item_texts, entry_texts, default_text}
-use Rattle.read_values.specs.in_directives.DirectiveLayout.{argument_text, arguments_text, directive_text, directives_text}
-use Rattle.read_values.specs.in_directives.InputLayout.{input_value_text, stand_on_lines, argument_definitions_text, repeatable_text, locations_text, directive_definition_text}
-use Rattle.read_values.specs.in_operations.OperationQueries.{operation_keyword}
-use Rattle.read_values.specs.in_operations.OperationLayout.{alias_text, condition_text, selection_text, selection_texts, is_query, variable_text, is_none, is_empty, is_bare_query, operation_name_text, full_operation_text, operation_text, begins_output, fragment_text}
-use Rattle.read_values.specs.in_type_members.TypeSystemLayout.{name_text, names_text, head_text, field_definition_text, enum_value_text, root_text, extend, schema_text, scalar_text, fields_text, union_text, enum_text, input_object_text}
+use Rattle.read_again.specs.in_literals.Joined.{joined, further_text}
+use Rattle.read_again.specs.in_literals.LineLayout.{Prefix, start_text, break_text, members_text, braced_text, set_text, parenthesized_text, texts_of}
+use Rattle.read_again.specs.in_literals.StringLayout.{description_text}
+use Rattle.read_operations.specs.in_literals.ValueLayout.{type_text, list_text, object_text, named_value_text, value_text, item_texts, entry_texts, default_text}
+use Rattle.read_operations.specs.in_directives.DirectiveLayout.{argument_text, arguments_text, directive_text, directives_text}
+use Rattle.read_operations.specs.in_directives.InputLayout.{input_value_text, stand_on_lines, argument_definitions_text, repeatable_text, locations_text, directive_definition_text}
+use Rattle.read_operations.specs.in_operations.OperationQueries.{operation_keyword}
+use Rattle.read_operations.specs.in_operations.OperationLayout.{alias_text, condition_text, selection_text, selection_texts, is_query, variable_text, is_none, is_empty, is_bare_query, operation_name_text, full_operation_text, operation_text, begins_output, fragment_text}
+use Rattle.read_operations.specs.in_type_members.TypeSystemLayout.{name_text, names_text, head_text, field_definition_text, enum_value_text, root_text, extend, schema_text, scalar_text, fields_text, union_text, enum_text, input_object_text}
 use Rattle.graphql_names.specs.Placed.{Placed, Text, unplaced_text, unplaced_node}
-use Rattle.read_values.specs.in_literals.TypeTree.{TypeTree, NamedTree, NonNullNamedTree, ListTree as ListTypeTree, NonNullListTree, unplaced_type}
-use Rattle.read_values.specs.in_literals.ValueTree.{ValueTree, NullTree, EnumTree, VariableTree, StringTree, FloatTree, IntTree, BooleanTree, ListTree, ObjectTree, ItemTrees, no_items, item_then, EntryTrees, no_entries, entry_then, unplaced_value, unplaced_items, unplaced_entries}
-use Rattle.read_values.specs.in_directives.DirectiveTree.{ArgumentTree, Arguments, DirectiveTree, Directives, InputValueTree, InputValues, DirectiveDefinitionTree, unplaced_argument, unplaced_arguments, unplaced_directive, unplaced_directives, unplaced_input_value, unplaced_directive_definition}
-use Rattle.read_values.specs.in_operations.SelectionTree.{SelectionTree, FieldTree, SpreadTree, InlineTree, SelectionTrees, no_selections, selection_then, unplaced_selection, unplaced_selections}
-use Rattle.read_values.specs.in_operations.OperationTree.{VariableDefinitionTree, OperationTree, FragmentTree, unplaced_variable_definition, unplaced_operation, unplaced_fragment}
-use Rattle.read_values.specs.in_type_members.TypeSystemTree.{FieldDefinitionTree, EnumValueTree, RootOperationTree, SchemaParts, ScalarParts, FieldsParts, UnionParts, EnumParts, InputObjectParts, unplaced_field_definition, unplaced_enum_value, unplaced_root, unplaced_schema, unplaced_scalar, unplaced_fields, unplaced_union, unplaced_enum, unplaced_input_object}
-use Rattle.read_values.specs.in_definitions.DefinitionTree.{DefinitionTree, Operation, Fragment, DirectiveDefinition, Schema, ScalarType, ObjectType, InterfaceType, UnionType, EnumType, InputObjectType, ExtendSchema, ExtendScalar, ExtendObject, ExtendInterface, ExtendUnion, ExtendEnum, ExtendInputObject, unplaced_definition, unplaced_document}
-use Rattle.read_values.specs.in_definitions.DocumentLayout.{definition_text, between_text, next_definition_text, end_text, document_text}
+use Rattle.read_operations.specs.in_literals.TypeTree.{TypeTree, NamedTree, NonNullNamedTree, ListTree as ListTypeTree, NonNullListTree, unplaced_type}
+use Rattle.read_operations.specs.in_literals.ValueTree.{ValueTree, NullTree, EnumTree, VariableTree, StringTree, FloatTree, IntTree, BooleanTree, ListTree, ObjectTree, ItemTrees, no_items, item_then, EntryTrees, no_entries, entry_then, unplaced_value, unplaced_items, unplaced_entries}
+use Rattle.read_operations.specs.in_directives.DirectiveTree.{ArgumentTree, Arguments, DirectiveTree, Directives, InputValueTree, InputValues, DirectiveDefinitionTree, unplaced_argument, unplaced_arguments, unplaced_directive, unplaced_directives, unplaced_input_value, unplaced_directive_definition}
+use Rattle.read_operations.specs.in_operations.SelectionTree.{SelectionTree, FieldTree, SpreadTree, InlineTree, SelectionTrees, no_selections, selection_then, unplaced_selection, unplaced_selections}
+use Rattle.read_operations.specs.in_operations.OperationTree.{VariableDefinitionTree, OperationTree, FragmentTree, unplaced_variable_definition, unplaced_operation, unplaced_fragment}
+use Rattle.read_operations.specs.in_type_members.TypeSystemTree.{FieldDefinitionTree, EnumValueTree, RootOperationTree, SchemaParts, ScalarParts, FieldsParts, UnionParts, EnumParts, InputObjectParts, unplaced_field_definition, unplaced_enum_value, unplaced_root, unplaced_schema, unplaced_scalar, unplaced_fields, unplaced_union, unplaced_enum, unplaced_input_object}
+use Rattle.read_operations.specs.in_definitions.DefinitionTree.{DefinitionTree, Operation, Fragment, DirectiveDefinition, Schema, ScalarType, ObjectType, InterfaceType, UnionType, EnumType, InputObjectType, ExtendSchema, ExtendScalar, ExtendObject, ExtendInterface, ExtendUnion, ExtendEnum, ExtendInputObject, unplaced_definition, unplaced_document}
+use Rattle.read_operations.specs.in_definitions.DocumentLayout.{definition_text, between_text, next_definition_text, end_text, document_text}
 use Rattle.read_again.specs.SelectionsLayout.{selections_text}
 
 -- the texts of nodes, where the text of each knows no places

@@ -2,13 +2,13 @@
 use Rattle.std.proofs.Common.{◌≡◌, ℕ, suc, max, List, [], ◌∷◌, map, Option, Some, None, refl, ap, ◌∙◌}
 use Rattle.std.specs.Option.{option_map}
 use Rattle.graphql_names.specs.Placed.{Placed, unplaced_node}
-use Rattle.read_values.specs.in_literals.TypeTree.{TypeTree, NamedTree, NonNullNamedTree, ListTree as ListTypeTree, NonNullListTree, unplaced_type}
-use Rattle.read_values.specs.in_literals.ValueTree.{ValueTree, NullTree, EnumTree, VariableTree, StringTree, FloatTree, IntTree, BooleanTree, ListTree, ObjectTree, ItemTrees, no_items, item_then, EntryTrees, no_entries, entry_then, unplaced_value, unplaced_items, unplaced_entries}
-use Rattle.read_values.specs.in_directives.DirectiveTree.{Arguments, Directives, InputValueTree, InputValues, unplaced_argument, unplaced_arguments, unplaced_directive, unplaced_directives, unplaced_input_value}
-use Rattle.read_values.specs.in_operations.SelectionTree.{SelectionTree, FieldTree, SpreadTree, InlineTree, SelectionTrees, no_selections, selection_then, unplaced_selection, unplaced_selections}
-use Rattle.read_values.specs.in_operations.OperationTree.{VariableDefinitionTree, OperationTree, unplaced_variable_definition, unplaced_operation}
-use Rattle.read_values.specs.in_type_members.TypeSystemTree.{FieldDefinitionTree, SchemaParts, FieldsParts, EnumParts, InputObjectParts, unplaced_field_definition, unplaced_enum_value, unplaced_root, unplaced_schema, unplaced_fields, unplaced_enum, unplaced_input_object}
-use Rattle.read_values.specs.in_definitions.DefinitionTree.{DefinitionTree, Operation, Fragment, DirectiveDefinition, Schema, ScalarType, ObjectType, InterfaceType, UnionType, EnumType, InputObjectType, ExtendSchema, ExtendScalar, ExtendObject, ExtendInterface, ExtendUnion, ExtendEnum, ExtendInputObject, unplaced_definition, unplaced_document}
+use Rattle.read_operations.specs.in_literals.TypeTree.{TypeTree, NamedTree, NonNullNamedTree, ListTree as ListTypeTree, NonNullListTree, unplaced_type}
+use Rattle.read_operations.specs.in_literals.ValueTree.{ValueTree, NullTree, EnumTree, VariableTree, StringTree, FloatTree, IntTree, BooleanTree, ListTree, ObjectTree, ItemTrees, no_items, item_then, EntryTrees, no_entries, entry_then, unplaced_value, unplaced_items, unplaced_entries}
+use Rattle.read_operations.specs.in_directives.DirectiveTree.{Arguments, Directives, InputValueTree, InputValues, unplaced_argument, unplaced_arguments, unplaced_directive, unplaced_directives, unplaced_input_value}
+use Rattle.read_operations.specs.in_operations.SelectionTree.{SelectionTree, FieldTree, SpreadTree, InlineTree, SelectionTrees, no_selections, selection_then, unplaced_selection, unplaced_selections}
+use Rattle.read_operations.specs.in_operations.OperationTree.{VariableDefinitionTree, OperationTree, unplaced_variable_definition, unplaced_operation}
+use Rattle.read_operations.specs.in_type_members.TypeSystemTree.{FieldDefinitionTree, SchemaParts, FieldsParts, EnumParts, InputObjectParts, unplaced_field_definition, unplaced_enum_value, unplaced_root, unplaced_schema, unplaced_fields, unplaced_enum, unplaced_input_object}
+use Rattle.read_operations.specs.in_definitions.DefinitionTree.{DefinitionTree, Operation, Fragment, DirectiveDefinition, Schema, ScalarType, ObjectType, InterfaceType, UnionType, EnumType, InputObjectType, ExtendSchema, ExtendScalar, ExtendObject, ExtendInterface, ExtendUnion, ExtendEnum, ExtendInputObject, unplaced_definition, unplaced_document}
 use Rattle.read_again.specs.TreeDepth.{deepest, bracketed, type_depth, value_depth, items_depth, entries_depth, default_depth, argument_depth, arguments_depth, directive_depth, directives_depth, selection_depth, selections_depth, set_depth, variable_depth, operation_depth, input_value_depth, input_values_depth, field_definition_depth, enum_value_depth, fields_depth, enum_depth, input_object_depth, schema_depth, definition_depth, document_depth}
 
 max_same : {a a' b b' : ℕ} → a ≡ a' → b ≡ b' → max a b ≡ max a' b'

@@ -2,15 +2,15 @@
 use Rattle.std.proofs.Common.{◌≡◌, ◌≤◌, ℕ, zero, suc, true, false, ◌&&◌, List, [], ◌∷◌, ◌++◌, codes, refl, sym, ap, true≢false, arith}
 use Rattle.std.proofs.lemmas.Bool.{and_parts}
 use Rattle.graphql_names.specs.NameSyntax as names
-use Rattle.read_again.specs.in_printing.Joined.{joined, further_text, separated}
-use Rattle.read_values.specs.in_literals.ValueLayout.{value_text, item_texts, entry_texts, named_value_text}
+use Rattle.read_again.specs.in_literals.Joined.{joined, further_text, separated}
+use Rattle.read_operations.specs.in_literals.ValueLayout.{value_text, item_texts, entry_texts, named_value_text}
 use Rattle.graphql_names.specs.Placed.{Placed, Text}
-use Rattle.read_values.specs.in_values.Writable.{value_writable, items_writable, entries_writable}
-use Rattle.read_values.specs.in_literals.ValueTree.{ValueTree, NullTree, EnumTree, VariableTree, StringTree, FloatTree, IntTree, BooleanTree, ListTree, ObjectTree, ItemTrees, no_items, item_then, EntryTrees, no_entries, entry_then, unplaced_value, unplaced_items, unplaced_entries}
-use Rattle.read_values.specs.in_grammar.Meaning.{Meaning}
-use Rattle.read_values.specs.in_grammar.Rules as rule
-use Rattle.read_values.specs.in_grammar.Rules.{Rule, mark, ◌·◌, ◌<$>◌, ◌∣◌, nothing, many, between}
-use Rattle.read_values.specs.in_grammar.ValueGrammar.{Const, with_variables, items_of, entries_of, list_value, object_field, object_value, any_value, value}
+use Rattle.read_operations.specs.in_values.Writable.{value_writable, items_writable, entries_writable}
+use Rattle.read_operations.specs.in_literals.ValueTree.{ValueTree, NullTree, EnumTree, VariableTree, StringTree, FloatTree, IntTree, BooleanTree, ListTree, ObjectTree, ItemTrees, no_items, item_then, EntryTrees, no_entries, entry_then, unplaced_value, unplaced_items, unplaced_entries}
+use Rattle.read_operations.specs.in_grammar.Meaning.{Meaning}
+use Rattle.read_operations.specs.in_grammar.Rules as rule
+use Rattle.read_operations.specs.in_grammar.Rules.{Rule, mark, ◌·◌, ◌<$>◌, ◌∣◌, nothing, many, between}
+use Rattle.read_operations.specs.in_grammar.ValueGrammar.{Const, with_variables, items_of, entries_of, list_value, object_field, object_value, any_value, value}
 use Rattle.read_again.specs.Printed.{any, ends_word, Printed}
 use Rattle.read_again.specs.Literals.{LiteralsRead}
 use Rattle.read_again.specs.WellFormed.{value_well_formed, items_well_formed, entries_well_formed, value_depth, items_depth, entries_depth}

@@ -1,14 +1,14 @@
 -- How deep values, arguments, directives and types nest, by the grammar.
 use Rattle.std.proofs.Common.{◌≡◌, ℕ, zero, suc, max, true, false, List, [], ◌∷◌, Option, Some, None, refl, ap}
 use Rattle.graphql_names.specs.Placed.{Placed, Text}
-use Rattle.read_values.specs.in_literals.ValueTree.{ValueTree, NullTree, EnumTree, VariableTree, StringTree, FloatTree, IntTree, BooleanTree, ListTree, ObjectTree}
-use Rattle.read_values.specs.in_literals.TypeTree.{TypeTree, NamedTree, NonNullNamedTree, NonNullListTree}
-use Rattle.read_values.specs.in_literals.TypeTree as types
-use Rattle.read_values.specs.in_grammar.Meaning.{Meaning, name_of}
-use Rattle.read_values.specs.in_grammar.Kinds.{is_name, is_enum_value, is_string, is_int, is_float, is_true, is_false, is_null, is_dollar, is_colon, is_at, is_equals, is_bang, is_open_bracket, is_close_bracket, is_open_brace, is_close_brace, is_open_paren, is_close_paren}
-use Rattle.read_values.specs.in_grammar.Rules.{Rule}
-use Rattle.read_values.specs.in_grammar.ValueGrammar as g
-use Rattle.read_values.specs.in_grammar.ValueGrammar.{Const, items_of, entries_of, argument_of, directive_of, type_of, constant}
+use Rattle.read_operations.specs.in_literals.ValueTree.{ValueTree, NullTree, EnumTree, VariableTree, StringTree, FloatTree, IntTree, BooleanTree, ListTree, ObjectTree}
+use Rattle.read_operations.specs.in_literals.TypeTree.{TypeTree, NamedTree, NonNullNamedTree, NonNullListTree}
+use Rattle.read_operations.specs.in_literals.TypeTree as types
+use Rattle.read_operations.specs.in_grammar.Meaning.{Meaning, name_of}
+use Rattle.read_operations.specs.in_grammar.Kinds.{is_name, is_enum_value, is_string, is_int, is_float, is_true, is_false, is_null, is_dollar, is_colon, is_at, is_equals, is_bang, is_open_bracket, is_close_bracket, is_open_brace, is_close_brace, is_open_paren, is_close_paren}
+use Rattle.read_operations.specs.in_grammar.Rules.{Rule}
+use Rattle.read_operations.specs.in_grammar.ValueGrammar as g
+use Rattle.read_operations.specs.in_grammar.ValueGrammar.{Const, items_of, entries_of, argument_of, directive_of, type_of, constant}
 use Rattle.read_again.specs.TreeDepth.{deepest, type_depth, value_depth, items_depth, entries_depth, argument_depth, arguments_depth, directive_depth, directives_depth}
 use Rattle.read_again.proofs.Nests.{Nests, Flat, token, flat, mapped, skip, ending, choice, never, unless, maybe_or, maybe_flat, located, several, one_or_more, enclosed, enclosed_some}
 

@@ -1,11 +1,11 @@
 -- A printed text with nothing behind it is a text of its symbol, and of one tree alone.
 use Rattle.std.proofs.Common.{◌≡◌, ℕ, true, List, [], refl, subst, append-nil}
-use Rattle.read_values.specs.in_tokens.Input.{Token, Ended}
-use Rattle.read_values.specs.in_tokens.Lex.{Lex}
-use Rattle.read_values.proofs.in_tokens.Lexed.{lex_unique}
-use Rattle.read_values.specs.in_grammar.Faults.{Symbol}
-use Rattle.read_values.specs.in_grammar.Rules.{Rule}
-use Rattle.read_values.specs.in_grammar.Grammar.{DerivesAs}
+use Rattle.read_operations.specs.in_tokens.Input.{Token, Ended}
+use Rattle.read_operations.specs.in_tokens.Lex.{Lex}
+use Rattle.read_operations.proofs.in_tokens.Lexed.{lex_unique}
+use Rattle.read_operations.specs.in_grammar.Faults.{Symbol}
+use Rattle.read_operations.specs.in_grammar.Rules.{Rule}
+use Rattle.read_operations.specs.in_grammar.Grammar.{DerivesAs}
 use Rattle.read_again.specs.Printed.{Follow, before, Printed}
 use Rattle.read_again.specs.ReadsAlone.{ReadsAlone}
 

@@ -2,9 +2,9 @@
 use Rattle.std.proofs.Common.{◌≡◌, ℕ, zero, suc, Bool, true, List, [], ◌∷◌, ◌++◌, map, refl, sym, ap, ◌∙◌, subst, append-nil, append_assoc}
 use Rattle.std.specs.List.{list_all}
 use Rattle.std.proofs.lemmas.Bool.{and_parts, and_from}
-use Rattle.tree_printing.specs.Joined.{joined}
-use Rattle.tree_printing.specs.LineLayout.{line_start}
-use Rattle.tree_printing.specs.StringLayout.{text_lines, block_escaped, block_line, block_text}
+use Rattle.tree_literals.specs.Joined.{joined}
+use Rattle.tree_literals.specs.LineLayout.{line_start}
+use Rattle.tree_literals.specs.StringLayout.{text_lines, block_escaped, block_line, block_text}
 use Rattle.read_tokens.specs.Blocks.{quotes, block_character_len, block_character_at, is_white_space}
 use Rattle.read_again.proofs.Between.{NoMark}
 use Rattle.read_again.proofs.Pieces.{reads_both}

@@ -1,7 +1,7 @@
 -- Definitions of all forms (GraphQL, October 2021, sections 2.2 and 3), well-formed, and how deep their brackets nest, at most.
 use Rattle.std.specs.Prelude.{ℕ, ◌+◌, Bool, ◌&&◌}
-use Rattle.read_values.specs.in_directives.DirectiveTree.{DirectiveDefinitionTree}
-use Rattle.read_values.specs.in_definitions.DefinitionTree.{DefinitionTree, Operation, Fragment, DirectiveDefinition, Schema, ScalarType, ObjectType, InterfaceType, UnionType, EnumType, InputObjectType, ExtendSchema, ExtendScalar, ExtendObject, ExtendInterface, ExtendUnion, ExtendEnum, ExtendInputObject}
+use Rattle.read_operations.specs.in_directives.DirectiveTree.{DirectiveDefinitionTree}
+use Rattle.read_operations.specs.in_definitions.DefinitionTree.{DefinitionTree, Operation, Fragment, DirectiveDefinition, Schema, ScalarType, ObjectType, InterfaceType, UnionType, EnumType, InputObjectType, ExtendSchema, ExtendScalar, ExtendObject, ExtendInterface, ExtendUnion, ExtendEnum, ExtendInputObject}
 use Rattle.graphql_names.specs.NameSyntax.{is_name}
 use Rattle.read_again.specs.WellFormed.{operation_well_formed, fragment_well_formed, directives_well_formed, input_values_well_formed, schema_well_formed, scalar_well_formed, fields_well_formed, union_well_formed, enum_well_formed, input_object_well_formed, operation_depth, fragment_depth, input_values_depth, directives_depth, schema_depth, fields_depth, enum_depth, input_object_depth}
 

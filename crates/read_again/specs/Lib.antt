@@ -1,5 +1,5 @@
 pub mod Readings
-pub use Rattle.tree_printing.specs as in_printing
+pub use Rattle.tree_literals.specs as in_literals
 pub mod Printed
 pub mod WellFormed
 pub mod Literals

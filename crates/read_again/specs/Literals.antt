@@ -1,15 +1,15 @@
 -- Private: leads to `ReadsAlone`. That numbers and strings are read as they are printed: what the laws of values rest on.
 use Rattle.std.specs.Prelude.{◌≡◌, ℕ, true, List, ◌++◌, length, Some}
-use Rattle.read_again.specs.in_printing.StringLayout.{quoted_text, description_string}
-use Rattle.read_again.specs.in_printing.LineLayout.{Prefix}
-use Rattle.read_values.specs.in_literals.NumberSyntax.{is_int_value, is_float_value}
-use Rattle.read_values.specs.in_tokens.declared.terminal.Terminal.TheVariants as k
-use Rattle.read_values.specs.in_tokens.declared.token.TokenKind.TheVariants as t
-use Rattle.read_values.specs.in_tokens.declared.token.TokenKind.{TokenKind}
-use Rattle.read_values.specs.in_tokens.Input.{Token}
-use Rattle.read_values.specs.in_tokens.Terminals.{terminal_of}
-use Rattle.read_values.specs.in_grammar.Kinds.{is_string}
-use Rattle.read_values.specs.in_tokens.Tokens.{token_at}
+use Rattle.read_again.specs.in_literals.StringLayout.{quoted_text, description_string}
+use Rattle.read_again.specs.in_literals.LineLayout.{Prefix}
+use Rattle.read_operations.specs.in_literals.NumberSyntax.{is_int_value, is_float_value}
+use Rattle.read_operations.specs.in_tokens.declared.terminal.Terminal.TheVariants as k
+use Rattle.read_operations.specs.in_tokens.declared.token.TokenKind.TheVariants as t
+use Rattle.read_operations.specs.in_tokens.declared.token.TokenKind.{TokenKind}
+use Rattle.read_operations.specs.in_tokens.Input.{Token}
+use Rattle.read_operations.specs.in_tokens.Terminals.{terminal_of}
+use Rattle.read_operations.specs.in_grammar.Kinds.{is_string}
+use Rattle.read_operations.specs.in_tokens.Tokens.{token_at}
 use Rattle.read_again.specs.Printed.{ends_word}
 use Rattle.read_again.specs.WellFormed.{is_white_prefix}
 

@@ -1,9 +1,9 @@
 -- Tokens nest as deep as their tree, and texts of trees that are equal, places aside, nest alike.
 use Rattle.std.specs.Prelude.{◌≡◌, ℕ, List}
-use Rattle.read_values.specs.in_tokens.Input.{Token}
-use Rattle.read_values.specs.in_tokens.Lex.{Lex}
-use Rattle.read_values.specs.in_grammar.Depth.{depth}
-use Rattle.read_values.specs.in_grammar.Faults.{Symbol}
+use Rattle.read_operations.specs.in_tokens.Input.{Token}
+use Rattle.read_operations.specs.in_tokens.Lex.{Lex}
+use Rattle.read_operations.specs.in_grammar.Depth.{depth}
+use Rattle.read_operations.specs.in_grammar.Faults.{Symbol}
 
 -- The brackets of tokens of the symbol nest as deep as is said of their tree.
 abbrev pub NestAsTrees : {A : Type 0} → Symbol A → (A → ℕ) → Type 0

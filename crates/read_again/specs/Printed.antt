@@ -9,12 +9,12 @@
 -- So printed texts are put one behind the other (`Sequences`), with ignored bytes between them, and the rules of the grammar
 -- with them; no rule looks at what is behind it, but for those that forbid a `{` there, which ask it of `follow` too.
 use Rattle.std.specs.Prelude.{◌≡◌, ℕ, ◌+◌, ◌==◌, ◌||◌, ◌&&◌, not, if◌then◌else◌, Bool, true, List, [], ◌∷◌, ◌++◌, length}
-use Rattle.read_values.specs.in_tokens.Input.{Token, Input, Ending}
-use Rattle.read_values.specs.in_tokens.Lex.{Piece, ArePieces, tokens_among}
+use Rattle.read_operations.specs.in_tokens.Input.{Token, Input, Ending}
+use Rattle.read_operations.specs.in_tokens.Lex.{Piece, ArePieces, tokens_among}
 use Rattle.graphql_names.specs.NameSyntax.{is_name_start}
-use Rattle.read_values.specs.in_tokens.Tokens.{is_ignored_byte}
-use Rattle.read_values.specs.in_tokens.Numbers.{goes_on}
-use Rattle.read_values.specs.in_grammar.Rules.{Rule}
+use Rattle.read_operations.specs.in_tokens.Tokens.{is_ignored_byte}
+use Rattle.read_operations.specs.in_tokens.Numbers.{goes_on}
+use Rattle.read_operations.specs.in_grammar.Rules.{Rule}
 
 -- what may stand behind a text
 abbrev pub Follow : Type 0

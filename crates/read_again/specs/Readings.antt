@@ -1,7 +1,7 @@
 -- What it means that a printed string is read as a text, and what may stand round it.
 use Rattle.std.specs.Prelude.{◌≡◌, ◌⊎◌, ℕ, true, false, List, [], ◌∷◌, ◌++◌, length, Some, None}
 use Rattle.std.specs.List.{list_all}
-use Rattle.tree_printing.specs.LineLayout.{Prefix}
+use Rattle.tree_literals.specs.LineLayout.{Prefix}
 use Rattle.read_tokens.specs.Bytes.{begins_with}
 use Rattle.read_tokens.specs.Strings.{string_value}
 use Rattle.read_tokens.specs.Blocks.{is_white_space, block_value}

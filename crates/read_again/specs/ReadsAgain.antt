@@ -1,8 +1,8 @@
 -- What is printed is read again as it was.
 use Rattle.std.specs.Prelude.{◌≡◌, ℕ, true, List, Result, Ok, Err}
 use Rattle.std.specs.Option.{option_copied}
-use Rattle.tree_printing.specs.Serialized.{serialized}
-use Rattle.tree_printing.specs.declared.serialize.Serialize.{Serialize}
+use Rattle.tree_literals.specs.Serialized.{serialized}
+use Rattle.tree_literals.specs.declared.serialize.Serialize.{Serialize}
 use Rattle.graphql_read.specs.in_tokens.Input.{Token}
 use Rattle.graphql_read.specs.in_tokens.Lex.{Lex}
 use Rattle.tree_definitions.specs.DefinitionTree.{document_tree}

@@ -1,9 +1,9 @@
 -- Selections (GraphQL, October 2021, section 2.4) by themselves: as they stand in a set, without its braces.
 use Rattle.std.specs.Prelude.{ℕ, List, [], ◌∷◌}
-use Rattle.read_again.specs.in_printing.Joined.{joined}
-use Rattle.read_again.specs.in_printing.LineLayout.{Prefix, start_text, members_text}
-use Rattle.read_values.specs.in_operations.OperationLayout.{selection_text, selection_texts}
-use Rattle.read_values.specs.in_operations.SelectionTree.{SelectionTrees, no_selections, selection_then}
+use Rattle.read_again.specs.in_literals.Joined.{joined}
+use Rattle.read_again.specs.in_literals.LineLayout.{Prefix, start_text, members_text}
+use Rattle.read_operations.specs.in_operations.OperationLayout.{selection_text, selection_texts}
+use Rattle.read_operations.specs.in_operations.SelectionTree.{SelectionTrees, no_selections, selection_then}
 
 -- each on a line at the level, or a space between each two where all stands on one line
 abbrev pub selections_text : {P : Type 0} → Prefix → SelectionTrees P → ℕ → List ℕ

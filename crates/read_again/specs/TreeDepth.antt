@@ -1,13 +1,13 @@
 -- How deep brackets nest in the text of a tree: the greatest depth of its parts, and one more inside a bracket. No place counts.
 use Rattle.std.specs.Prelude.{ℕ, suc, max, List, [], ◌∷◌, Option, None, Some}
 use Rattle.graphql_names.specs.Placed.{Placed}
-use Rattle.read_values.specs.in_literals.TypeTree.{TypeTree, NamedTree, NonNullNamedTree, ListTree as ListTypeTree, NonNullListTree}
-use Rattle.read_values.specs.in_literals.ValueTree.{ValueTree, ListTree, ObjectTree, ItemTrees, no_items, item_then, EntryTrees, no_entries, entry_then}
-use Rattle.read_values.specs.in_directives.DirectiveTree.{ArgumentTree, Arguments, DirectiveTree, Directives, InputValueTree, InputValues, DirectiveDefinitionTree}
-use Rattle.read_values.specs.in_operations.SelectionTree.{SelectionTree, FieldTree, SpreadTree, InlineTree, SelectionTrees, no_selections, selection_then}
-use Rattle.read_values.specs.in_operations.OperationTree.{VariableDefinitionTree, OperationTree, FragmentTree}
-use Rattle.read_values.specs.in_type_members.TypeSystemTree.{FieldDefinitionTree, EnumValueTree, SchemaParts, FieldsParts, EnumParts, InputObjectParts}
-use Rattle.read_values.specs.in_definitions.DefinitionTree.{DefinitionTree, Operation, Fragment, DirectiveDefinition, Schema, ScalarType, ObjectType, InterfaceType, UnionType, EnumType, InputObjectType, ExtendSchema, ExtendScalar, ExtendObject, ExtendInterface, ExtendUnion, ExtendEnum, ExtendInputObject}
+use Rattle.read_operations.specs.in_literals.TypeTree.{TypeTree, NamedTree, NonNullNamedTree, ListTree as ListTypeTree, NonNullListTree}
+use Rattle.read_operations.specs.in_literals.ValueTree.{ValueTree, ListTree, ObjectTree, ItemTrees, no_items, item_then, EntryTrees, no_entries, entry_then}
+use Rattle.read_operations.specs.in_directives.DirectiveTree.{ArgumentTree, Arguments, DirectiveTree, Directives, InputValueTree, InputValues, DirectiveDefinitionTree}
+use Rattle.read_operations.specs.in_operations.SelectionTree.{SelectionTree, FieldTree, SpreadTree, InlineTree, SelectionTrees, no_selections, selection_then}
+use Rattle.read_operations.specs.in_operations.OperationTree.{VariableDefinitionTree, OperationTree, FragmentTree}
+use Rattle.read_operations.specs.in_type_members.TypeSystemTree.{FieldDefinitionTree, EnumValueTree, SchemaParts, FieldsParts, EnumParts, InputObjectParts}
+use Rattle.read_operations.specs.in_definitions.DefinitionTree.{DefinitionTree, Operation, Fragment, DirectiveDefinition, Schema, ScalarType, ObjectType, InterfaceType, UnionType, EnumType, InputObjectType, ExtendSchema, ExtendScalar, ExtendObject, ExtendInterface, ExtendUnion, ExtendEnum, ExtendInputObject}
 
 -- the greatest over a list
 abbrev pub deepest : {A : Type 0} → (A → ℕ) → List A → ℕ

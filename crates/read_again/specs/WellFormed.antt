@@ -3,16 +3,16 @@
 use Rattle.std.specs.Prelude.{ℕ, suc, ◌+◌, Bool, true, ◌&&◌, List, [], ◌∷◌, Option, None, Some}
 use Rattle.std.specs.List.{list_all}
 use Rattle.graphql_names.specs.NameSyntax.{is_name}
-use Rattle.read_again.specs.in_printing.LineLayout.{Prefix}
-use Rattle.read_again.specs.in_printing.StringLayout.{is_tab_or_space}
-use Rattle.read_values.specs.in_literals.NumberSyntax.{is_int_value, is_float_value}
+use Rattle.read_again.specs.in_literals.LineLayout.{Prefix}
+use Rattle.read_again.specs.in_literals.StringLayout.{is_tab_or_space}
+use Rattle.read_operations.specs.in_literals.NumberSyntax.{is_int_value, is_float_value}
 use Rattle.graphql_names.specs.Placed.{Placed, Text}
-use Rattle.read_values.specs.in_literals.TypeTree.{TypeTree, NamedTree, NonNullNamedTree, ListTree as ListTypeTree, NonNullListTree}
-use Rattle.read_values.specs.in_literals.ValueTree.{ValueTree, NullTree, EnumTree, VariableTree, StringTree, FloatTree, IntTree, BooleanTree, ListTree, ObjectTree, ItemTrees, no_items, item_then, EntryTrees, no_entries, entry_then}
-use Rattle.read_values.specs.in_directives.DirectiveTree.{ArgumentTree, Arguments, DirectiveTree, Directives, InputValueTree, InputValues}
-use Rattle.read_values.specs.in_operations.SelectionTree.{FieldHead, SelectionTree, FieldTree, SpreadTree, InlineTree, SelectionTrees, no_selections, selection_then}
-use Rattle.read_values.specs.in_type_members.TypeSystemTree.{FieldDefinitionTree, EnumValueTree, RootOperationTree, SchemaParts, ScalarParts, FieldsParts, UnionParts, EnumParts, InputObjectParts}
-use Rattle.read_values.specs.in_operations.OperationTree.{VariableDefinitionTree, OperationTree, FragmentTree}
+use Rattle.read_operations.specs.in_literals.TypeTree.{TypeTree, NamedTree, NonNullNamedTree, ListTree as ListTypeTree, NonNullListTree}
+use Rattle.read_operations.specs.in_literals.ValueTree.{ValueTree, NullTree, EnumTree, VariableTree, StringTree, FloatTree, IntTree, BooleanTree, ListTree, ObjectTree, ItemTrees, no_items, item_then, EntryTrees, no_entries, entry_then}
+use Rattle.read_operations.specs.in_directives.DirectiveTree.{ArgumentTree, Arguments, DirectiveTree, Directives, InputValueTree, InputValues}
+use Rattle.read_operations.specs.in_operations.SelectionTree.{FieldHead, SelectionTree, FieldTree, SpreadTree, InlineTree, SelectionTrees, no_selections, selection_then}
+use Rattle.read_operations.specs.in_type_members.TypeSystemTree.{FieldDefinitionTree, EnumValueTree, RootOperationTree, SchemaParts, ScalarParts, FieldsParts, UnionParts, EnumParts, InputObjectParts}
+use Rattle.read_operations.specs.in_operations.OperationTree.{VariableDefinitionTree, OperationTree, FragmentTree}
 
 -- of something that may be left out
 abbrev pub if_any : {A : Type 0} → (A → Bool) → Option A → Bool

@@ -1,6 +1,6 @@
 //! Trees that are printed and read again.
 ghost use Rattle.std.specs.Prelude.{◌≡◌, ◌≤◌, IfOk, IfErr, None, string_bytes};
-ghost use Rattle.tree_printing.specs.LineLayout.{standing};
+ghost use Rattle.tree_literals.specs.LineLayout.{standing};
 ghost use Rattle.tree_literals.specs.ValueLayout.{type_text};
 ghost use Rattle.tree_literals.specs.TypeTree.{type_tree, unplaced_type};
 ghost use Rattle.tree_definitions.specs.DefinitionTree.{document_tree, unplaced_document};
@@ -12,8 +12,7 @@ use graphql_names::FileId;
 use graphql_read::{ReadFault, parse_document, parse_type};
 use std::alloc::{AllocError, Global};
 use tree_definitions::Document;
-use tree_literals::Type;
-use tree_printing::{Serialize, Tree};
+use tree_literals::{Serialize, Tree, Type};
 
 /// The text of a type.
 fn printed_type(alloc: Global, ty: &Type) -> Result<String, AllocError>

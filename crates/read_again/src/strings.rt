@@ -3,8 +3,8 @@ ghost use Rattle.std.specs.Prelude.{◌≡◌, ◌⊎◌, ℕ, true, List, [], �
 ghost use Rattle.read_tokens.specs.Strings.{string_value};
 ghost use Rattle.read_tokens.specs.Blocks.{block_value};
 ghost use Rattle.read_tokens.specs.declared.token.TokenKind.TheVariants as k;
-ghost use Rattle.tree_printing.specs.LineLayout.{Prefix, break_text};
-ghost use Rattle.tree_printing.specs.StringLayout.{quoted_text, can_be_block_string, block_text, description_string};
+ghost use Rattle.tree_literals.specs.LineLayout.{Prefix, break_text};
+ghost use Rattle.tree_literals.specs.StringLayout.{quoted_text, can_be_block_string, block_text, description_string};
 ghost use Rattle.read_again.specs.Readings.{IsToken, IsReadAs, MayFollow, IsWhite, IsWhitePrefix};
 
 /// Whatever bytes the text has, what is printed of it within quotation marks is one token, and stands for the text.

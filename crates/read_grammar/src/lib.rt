@@ -12,3 +12,6 @@ pub mod one_tree;
 mod stop;
 
 pub use stop::Stop;
+
+// Of the crates beneath, for those above.
+pub use graphql_ast::{Definition, Document, SourceFile};

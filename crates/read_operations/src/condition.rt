@@ -5,12 +5,12 @@ ghost use Rattle.graphql_names.specs.Placed.{name_tree};
 ghost use Rattle.read_grammar.specs.Kinds as kinds;
 ghost use Rattle.read_grammar.specs.OperationReading as reading;
 ghost use Rattle.read_grammar.specs.Reading.{Reads};
-ghost use Rattle.read_values.specs.Meanings.{in_file};
+ghost use Rattle.read_operations.specs.Meanings.{in_file};
 
+use crate::{expect, name, next_is, next_is_name};
 use graphql_names::{FileId, Name};
 use read_grammar::Stop;
 use read_tokens::{Source, Terminal};
-use read_values::{expect, name, next_is, next_is_name};
 
 /// Whether the next token is a Name but `on`.
 pub fn next_is_fragment_name(tokens: &Source<'_>) -> bool

@@ -4,16 +4,16 @@ ghost use Rattle.tree_operations.specs.OperationTree.{fragment_tree};
 ghost use Rattle.read_grammar.specs.OperationReading as reading;
 ghost use Rattle.read_grammar.specs.Reading as read;
 ghost use Rattle.read_grammar.specs.Reading.{Reads};
-ghost use Rattle.read_values.specs.Meanings.{in_file};
+ghost use Rattle.read_operations.specs.Meanings.{in_file};
 ghost use Rattle.read_operations.specs.OperationSteps as steps;
 ghost use Rattle.read_operations.specs.PartViews.{condition_and_set_view};
 
 use crate::condition::{fragment_name, type_condition};
 use crate::selection_list::directives_and_set;
+use crate::{begin, directives_or_none, expect, since};
 use graphql_names::{FileId, Name, Node};
 use read_grammar::Stop;
 use read_tokens::{Source, Terminal};
-use read_values::{begin, directives_or_none, expect, since};
 use std::alloc::Global;
 use tree_directives::DirectiveList;
 use tree_operations::{FragmentDefinition, Selection};

@@ -8,16 +8,16 @@ ghost use Rattle.read_grammar.specs.OperationReading as reading;
 ghost use Rattle.read_grammar.specs.Reading as read;
 ghost use Rattle.read_grammar.specs.Reading.{Reads};
 ghost use Rattle.read_grammar.specs.ValueReading as values;
-ghost use Rattle.read_values.specs.Meanings.{in_file};
+ghost use Rattle.read_operations.specs.Meanings.{in_file};
 ghost use Rattle.read_operations.specs.OperationSteps as steps;
 ghost use Rattle.read_operations.specs.PartViews.{variables_view, variables_and_set_view};
 
 use crate::selection_list::{directives_and_set, selection_set};
 use crate::variable_list::variable_definitions;
+use crate::{begin, directives_or_none, name, next_is, next_is_name, operation_type, since};
 use graphql_names::{FileId, Name, Node};
 use read_grammar::Stop;
 use read_tokens::{Source, Terminal};
-use read_values::{begin, directives_or_none, name, next_is, next_is_name, operation_type, since};
 use std::alloc::Global;
 use tree_directives::DirectiveList;
 use tree_operations::{OperationDefinition, OperationType, Selection, VariableDefinition};

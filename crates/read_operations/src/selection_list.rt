@@ -8,7 +8,7 @@ ghost use Rattle.read_grammar.specs.Begins as begins;
 ghost use Rattle.read_grammar.specs.OperationReading as reading;
 ghost use Rattle.read_grammar.specs.Reading as read;
 ghost use Rattle.read_grammar.specs.Reading.{Reads};
-ghost use Rattle.read_values.specs.Meanings.{in_file};
+ghost use Rattle.read_operations.specs.Meanings.{in_file};
 ghost use Rattle.read_operations.specs.SelectionSteps as steps;
 ghost use Rattle.read_operations.specs.PartViews.{set_view};
 
@@ -16,10 +16,10 @@ use crate::condition::next_is_fragment_name;
 use crate::selection_parts::{
     begins_selection, field_head, field_with, inline_head, inline_with, placed_spread,
 };
+use crate::{begin, expect, next_is, next_is_name, open, optional_directives, since};
 use graphql_names::FileId;
 use read_grammar::Stop;
 use read_tokens::{Source, Terminal};
-use read_values::{begin, expect, next_is, next_is_name, open, optional_directives, since};
 use std::alloc::Global;
 use tree_directives::DirectiveList;
 use tree_operations::Selection;

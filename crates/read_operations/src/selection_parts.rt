@@ -9,18 +9,18 @@ ghost use Rattle.read_grammar.specs.Kinds as kinds;
 ghost use Rattle.read_grammar.specs.OperationReading as reading;
 ghost use Rattle.read_grammar.specs.Reading as read;
 ghost use Rattle.read_grammar.specs.Reading.{Reads};
-ghost use Rattle.read_values.specs.Meanings.{in_file};
+ghost use Rattle.read_operations.specs.Meanings.{in_file};
 ghost use Rattle.read_operations.specs.SelectionSteps as steps;
 ghost use Rattle.read_operations.specs.PartViews.{Ends, set_view, selections_view, field_head_view, inline_head_view};
 
 use crate::condition::{fragment_name, type_condition};
-use graphql_names::{FileId, Name, Node, SourceSpan};
-use read_grammar::Stop;
-use read_tokens::{Source, Terminal};
-use read_values::{
+use crate::{
     arguments_or_none, directives_or_none, expect, name, next_is, next_is_name, optional_arguments,
     optional_directives, since,
 };
+use graphql_names::{FileId, Name, Node, SourceSpan};
+use read_grammar::Stop;
+use read_tokens::{Source, Terminal};
 use std::alloc::Global;
 use tree_directives::{Argument, DirectiveList};
 use tree_operations::{Field, FragmentSpread, InlineFragment, Selection};

@@ -4,17 +4,17 @@ ghost use Rattle.graphql_names.specs.Placed.{node_tree};
 ghost use Rattle.tree_operations.specs.OperationTree.{variable_definition_tree};
 ghost use Rattle.read_grammar.specs.OperationReading as reading;
 ghost use Rattle.read_grammar.specs.Reading.{Reads};
-ghost use Rattle.read_values.specs.Meanings.{in_file};
+ghost use Rattle.read_operations.specs.Meanings.{in_file};
 ghost use Rattle.read_operations.specs.OperationSteps as steps;
 ghost use Rattle.read_operations.specs.PartViews.{type_and_default_view};
 
-use graphql_names::{FileId, Node};
-use read_grammar::Stop;
-use read_tokens::{Source, Terminal};
-use read_values::{
+use crate::{
     begin, directives_or_none, expect, next_is, open, optional_default, optional_directives,
     placed_type, since, variable,
 };
+use graphql_names::{FileId, Node};
+use read_grammar::Stop;
+use read_tokens::{Source, Terminal};
 use std::alloc::Global;
 use tree_directives::DirectiveList;
 use tree_literals::{Type, Value};

@@ -2,16 +2,16 @@
 use Rattle.std.proofs.Common.{◌≡◌, ◌⊎◌, ℕ, Bool, true, false, Err, inl, inr, refl}
 use Rattle.tree_directives.specs.DirectiveTree.{DirectiveDefinitionTree}
 use Rattle.read_tokens.specs.Input.{Input, next}
-use Rattle.read_grammar.specs.declared.stop.Stop.TheVariants.{Unexpected}
-use Rattle.read_grammar.specs.Meaning.{Meaning}
-use Rattle.read_grammar.specs.Kinds.{next_is, is_schema, is_scalar, is_type, is_interface, is_union, is_enum, is_input, is_directive}
-use Rattle.read_grammar.specs.Begins.{begins_kind}
-use Rattle.read_grammar.specs.DocumentReading as d
-use Rattle.read_grammar.specs.Reading.{◌<&>◌}
-use Rattle.read_grammar.specs.TypeSystemGrammar.{KindTree}
-use Rattle.read_grammar.specs.TypeSystemReading as y
-use Rattle.read_grammar.proofs.Tests.{from_apart}
-use Rattle.read_grammar.proofs.Values.{lacking}
+use Rattle.read_operations.specs.in_grammar.declared.stop.Stop.TheVariants.{Unexpected}
+use Rattle.read_operations.specs.in_grammar.Meaning.{Meaning}
+use Rattle.read_operations.specs.in_grammar.Kinds.{next_is, is_schema, is_scalar, is_type, is_interface, is_union, is_enum, is_input, is_directive}
+use Rattle.read_operations.specs.in_grammar.Begins.{begins_kind}
+use Rattle.read_operations.specs.in_grammar.DocumentReading as d
+use Rattle.read_operations.specs.in_grammar.Reading.{◌<&>◌}
+use Rattle.read_operations.specs.in_grammar.TypeSystemGrammar.{KindTree}
+use Rattle.read_operations.specs.in_grammar.TypeSystemReading as y
+use Rattle.read_operations.proofs.in_grammar.Tests.{from_apart}
+use Rattle.read_operations.proofs.in_grammar.Values.{lacking}
 use Rattle.read_types.specs.KindSteps.{schema_kind, schema_extension_kind, scalar_kind, object_kind, interface_kind, union_kind, enum_kind, input_object_kind, definition_kind, extension_kind}
 
 module _ {P : Type 0} (m : Meaning P) where

@@ -2,15 +2,15 @@
 use Rattle.std.specs.Prelude.{ℕ, List, Option, Ok}
 use Rattle.tree_directives.specs.DirectiveTree.{Directives, InputValues}
 use Rattle.graphql_names.specs.Placed.{Text}
-use Rattle.tree_definitions.specs.DefinitionTree.{DefinitionTree, DirectiveDefinition}
-use Rattle.read_grammar.specs.Meaning.{Meaning}
-use Rattle.read_grammar.specs.Kinds.{is_at, is_equals, is_implements, is_open_brace, is_schema}
-use Rattle.read_grammar.specs.Grammar.{definition_of}
-use Rattle.read_grammar.specs.TypeSystemGrammar.{KindTree, Fields, Values, SchemaKind, ScalarKind, ObjectKind, InterfaceKind, UnionKind, EnumKind, InputObjectKind}
-use Rattle.read_grammar.specs.Reading.{Parser, and_then, when, try, ◌⊙◌, ◌<&>◌}
-use Rattle.read_grammar.specs.TypeSystemReading as types
-use Rattle.read_grammar.specs.ValueGrammar.{constant}
-use Rattle.read_grammar.specs.ValueReading.{directives}
+use Rattle.read_operations.specs.in_definitions.DefinitionTree.{DefinitionTree, DirectiveDefinition}
+use Rattle.read_operations.specs.in_grammar.Meaning.{Meaning}
+use Rattle.read_operations.specs.in_grammar.Kinds.{is_at, is_equals, is_implements, is_open_brace, is_schema}
+use Rattle.read_operations.specs.in_grammar.Grammar.{definition_of}
+use Rattle.read_operations.specs.in_grammar.TypeSystemGrammar.{KindTree, Fields, Values, SchemaKind, ScalarKind, ObjectKind, InterfaceKind, UnionKind, EnumKind, InputObjectKind}
+use Rattle.read_operations.specs.in_grammar.Reading.{Parser, and_then, when, try, ◌⊙◌, ◌<&>◌}
+use Rattle.read_operations.specs.in_grammar.TypeSystemReading as types
+use Rattle.read_operations.specs.in_grammar.ValueGrammar.{constant}
+use Rattle.read_operations.specs.in_grammar.ValueReading.{directives}
 
 module _ {P : Type 0} (m : Meaning P) where
   -- ---- what stands behind a name

@@ -11,7 +11,7 @@ use Rattle.tree_directives.specs.declared.input_value.InputValueDefinition.{Inpu
 use Rattle.tree_type_members.specs.TypeSystemTree.{field_definition_tree, enum_value_tree}
 use Rattle.tree_type_members.specs.declared.field_definition.FieldDefinition.{FieldDefinition}
 use Rattle.tree_type_members.specs.declared.enum_value.EnumValueDefinition.{EnumValueDefinition}
-use Rattle.read_grammar.specs.TypeSystemGrammar.{Fields, Values}
+use Rattle.read_operations.specs.in_grammar.TypeSystemGrammar.{Fields, Values}
 
 -- names, if there are any
 abbrev pub names_view : Option (Vec Name Global) → Option (List (Text Place))

@@ -1,20 +1,19 @@
 //! Objects, interfaces and unions (sections 3.6 to 3.8).
 ghost use Rattle.std.specs.Prelude.{◌≡◌};
-ghost use Rattle.read_grammar.specs.Reading.{Reads};
+ghost use Rattle.read_operations.specs.in_grammar.Reading.{Reads};
 ghost use Rattle.read_types.specs.KindSteps as steps;
 ghost use Rattle.read_types.specs.KindTrees.{kind_tree};
-ghost use Rattle.read_members.specs.in_read_values.Meanings.{in_file};
+ghost use Rattle.read_types.specs.in_read_operations.Meanings.{in_file};
 ghost use Rattle.read_types.specs.KindViews.{fields_rest_view, union_rest_view};
 
 use crate::kind::Kind;
-use graphql_names::{FileId, Node};
-use read_grammar::Stop;
-use read_members::{
+use crate::{
     fields_or_none, names_or_none, optional_fields_definition, optional_implements_interfaces,
     optional_union_member_types,
 };
+use graphql_names::{FileId, Node};
+use read_operations::{Stop, directives_or_none, expect, name, optional_directives};
 use read_tokens::{Source, Terminal};
-use read_values::{directives_or_none, expect, name, optional_directives};
 use std::alloc::Global;
 use tree_composite_types::{InterfaceTypeExtension, ObjectTypeExtension, UnionTypeExtension};
 use tree_directives::DirectiveList;
@@ -44,7 +43,7 @@ fn fields_rest(
 }
 
 /// ObjectTypeDefinition (section 3.6): `"type" Name ImplementsInterfaces? Directives? FieldsDefinition?`.
-#[tactic(auto, unfolding(read_grammar::specs::TypeSystemReading::object_type))]
+#[tactic(auto, unfolding(read_operations::specs::in_grammar::TypeSystemReading::object_type))]
 pub fn object_type(
     alloc: Global,
     tokens: &mut Source<'_>,
@@ -65,7 +64,7 @@ pub fn object_type(
 }
 
 /// InterfaceTypeDefinition (section 3.7): `"interface" Name ImplementsInterfaces? Directives? FieldsDefinition?`.
-#[tactic(auto, unfolding(read_grammar::specs::TypeSystemReading::interface_type))]
+#[tactic(auto, unfolding(read_operations::specs::in_grammar::TypeSystemReading::interface_type))]
 pub fn interface_type(
     alloc: Global,
     tokens: &mut Source<'_>,
@@ -100,7 +99,7 @@ fn union_rest(
 }
 
 /// UnionTypeDefinition (section 3.8): `"union" Name Directives? UnionMemberTypes?`.
-#[tactic(auto, unfolding(read_grammar::specs::TypeSystemReading::union_type))]
+#[tactic(auto, unfolding(read_operations::specs::in_grammar::TypeSystemReading::union_type))]
 pub fn union_type(
     alloc: Global,
     tokens: &mut Source<'_>,

@@ -4,24 +4,22 @@ ghost use Rattle.std.specs.Option.{option_map};
 ghost use Rattle.graphql_names.specs.Node.{content, place as place_of};
 ghost use Rattle.graphql_names.specs.declared.node.Node.{Node};
 ghost use Rattle.graphql_names.specs.Placed.{text_tree};
-ghost use Rattle.tree_definitions.specs.DefinitionTree.{definition_tree};
-ghost use Rattle.read_grammar.specs.DocumentReading as reading;
-ghost use Rattle.read_grammar.specs.Grammar as grammar;
-ghost use Rattle.read_grammar.specs.Reading.{Reads};
+ghost use Rattle.read_operations.specs.in_definitions.DefinitionTree.{definition_tree};
+ghost use Rattle.read_operations.specs.in_grammar.DocumentReading as reading;
+ghost use Rattle.read_operations.specs.in_grammar.Grammar as grammar;
+ghost use Rattle.read_operations.specs.in_grammar.Reading.{Reads};
 ghost use Rattle.read_types.specs.KindSteps as steps;
 ghost use Rattle.read_types.specs.KindTrees.{kind_tree};
-ghost use Rattle.read_members.specs.in_read_values.Meanings.{in_file};
+ghost use Rattle.read_types.specs.in_read_operations.Meanings.{in_file};
 
+use crate::directive_definition;
 use crate::kind::Kind;
 use crate::schema::schema_definition;
 use crate::types::type_definition;
 use graphql_names::{FileId, Node, NodeStr, SourceSpan};
-use read_grammar::Stop;
-use read_members::directive_definition;
+use read_operations::{Definition, Stop, begin, next_is, optional_description, since};
 use read_tokens::{Source, Terminal};
-use read_values::{begin, next_is, optional_description, since};
 use std::alloc::{AllocError, Global};
-use tree_definitions::Definition;
 
 /// A definition of this value, at a place.
 pub fn placed<T: Drop>(alloc: Global, place: SourceSpan, value: T) -> Result<Definition, AllocError>

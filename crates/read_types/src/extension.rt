@@ -1,23 +1,21 @@
 //! Extensions of the type system (sections 3.3.2 and 3.4.3).
 ghost use Rattle.std.specs.Prelude.{◌≡◌, Some, IfOk};
-ghost use Rattle.tree_definitions.specs.DefinitionTree.{definition_tree};
-ghost use Rattle.read_grammar.specs.DocumentReading as reading;
-ghost use Rattle.read_grammar.specs.Grammar as grammar;
-ghost use Rattle.read_grammar.specs.Reading.{Reads};
+ghost use Rattle.read_operations.specs.in_definitions.DefinitionTree.{definition_tree};
+ghost use Rattle.read_operations.specs.in_grammar.DocumentReading as reading;
+ghost use Rattle.read_operations.specs.in_grammar.Grammar as grammar;
+ghost use Rattle.read_operations.specs.in_grammar.Reading.{Reads};
 ghost use Rattle.read_types.specs.KindSteps as steps;
 ghost use Rattle.read_types.specs.KindTrees.{kind_tree};
-ghost use Rattle.read_members.specs.in_read_values.Meanings.{in_file};
+ghost use Rattle.read_types.specs.in_read_operations.Meanings.{in_file};
 
 use crate::definition::placed;
 use crate::kind::Kind;
 use crate::schema::schema_extension;
 use crate::types::type_definition;
 use graphql_names::{FileId, SourceSpan};
-use read_grammar::Stop;
+use read_operations::{Definition, Stop, begin, expect, next_is, since};
 use read_tokens::{Source, Terminal};
-use read_values::{begin, expect, next_is, since};
 use std::alloc::{AllocError, Global};
-use tree_definitions::Definition;
 
 /// What an extension says after `extend`, without a look at its parts.
 fn extension_kind(
@@ -35,7 +33,7 @@ fn extension_kind(
 }
 
 /// What an extension says after `extend`, with at least one part.
-#[tactic(auto, unfolding(read_grammar::specs::DocumentReading::extension))]
+#[tactic(auto, unfolding(read_operations::specs::in_grammar::DocumentReading::extension))]
 fn extension(
     alloc: Global,
     tokens: &mut Source<'_>,
@@ -68,7 +66,7 @@ fn extended(alloc: Global, place: SourceSpan, kind: Kind) -> Result<Definition, 
 }
 
 /// TypeSystemExtension: `"extend" (SchemaExtension / TypeDefinition)`, with at least one part.
-#[tactic(auto, unfolding(read_grammar::specs::DocumentReading::type_system_extension))]
+#[tactic(auto, unfolding(read_operations::specs::in_grammar::DocumentReading::type_system_extension))]
 pub fn type_system_extension(
     alloc: Global,
     tokens: &mut Source<'_>,

@@ -1,27 +1,26 @@
 //! Types that input can have: scalars, enums and input objects (sections 3.5, 3.9 and 3.10).
 ghost use Rattle.std.specs.Prelude.{◌≡◌};
-ghost use Rattle.read_grammar.specs.Reading.{Reads};
+ghost use Rattle.read_operations.specs.in_grammar.Reading.{Reads};
 ghost use Rattle.read_types.specs.KindSteps as steps;
 ghost use Rattle.read_types.specs.KindTrees.{kind_tree};
-ghost use Rattle.read_members.specs.in_read_values.Meanings.{in_file};
+ghost use Rattle.read_types.specs.in_read_operations.Meanings.{in_file};
 ghost use Rattle.read_types.specs.KindViews.{enum_rest_view, input_object_rest_view};
 
 use crate::kind::Kind;
-use graphql_names::{FileId, Node};
-use read_grammar::Stop;
-use read_members::{
+use crate::{
     enum_values_or_none, input_values_or_none, optional_enum_values_definition,
     optional_input_fields_definition,
 };
+use graphql_names::{FileId, Node};
+use read_operations::{Stop, directives_or_none, expect, name, optional_directives};
 use read_tokens::{Source, Terminal};
-use read_values::{directives_or_none, expect, name, optional_directives};
 use std::alloc::Global;
 use tree_directives::{DirectiveList, InputValueDefinition};
 use tree_input_types::{EnumTypeExtension, InputObjectTypeExtension, ScalarTypeExtension};
 use tree_type_members::EnumValueDefinition;
 
 /// ScalarTypeDefinition (section 3.5): `"scalar" Name Directives?`.
-#[tactic(auto, unfolding(read_grammar::specs::TypeSystemReading::scalar_type))]
+#[tactic(auto, unfolding(read_operations::specs::in_grammar::TypeSystemReading::scalar_type))]
 pub fn scalar_type(
     alloc: Global,
     tokens: &mut Source<'_>,
@@ -60,7 +59,7 @@ fn enum_rest(
 }
 
 /// EnumTypeDefinition (section 3.9): `"enum" Name Directives? EnumValuesDefinition?`.
-#[tactic(auto, unfolding(read_grammar::specs::TypeSystemReading::enum_type))]
+#[tactic(auto, unfolding(read_operations::specs::in_grammar::TypeSystemReading::enum_type))]
 pub fn enum_type(
     alloc: Global,
     tokens: &mut Source<'_>,
@@ -100,7 +99,7 @@ fn input_object_rest(
 }
 
 /// InputObjectTypeDefinition (section 3.10): `"input" Name Directives? InputFieldsDefinition?`.
-#[tactic(auto, unfolding(read_grammar::specs::TypeSystemReading::input_object_type))]
+#[tactic(auto, unfolding(read_operations::specs::in_grammar::TypeSystemReading::input_object_type))]
 pub fn input_object_type(
     alloc: Global,
     tokens: &mut Source<'_>,

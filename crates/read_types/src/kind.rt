@@ -1,8 +1,8 @@
 //! What definitions and extensions of one kind share.
 ghost use Rattle.std.specs.Prelude.{◌≡◌};
-ghost use Rattle.tree_definitions.specs.DefinitionTree.{schema_extension_parts, scalar_extension_parts, object_extension_parts, interface_extension_parts, union_extension_parts, enum_extension_parts, input_object_extension_parts};
-ghost use Rattle.read_grammar.specs.Grammar as grammar;
-ghost use Rattle.read_grammar.specs.TypeSystemGrammar.{SchemaKind, ScalarKind, ObjectKind, InterfaceKind, UnionKind, EnumKind, InputObjectKind};
+ghost use Rattle.read_operations.specs.in_definitions.DefinitionTree.{schema_extension_parts, scalar_extension_parts, object_extension_parts, interface_extension_parts, union_extension_parts, enum_extension_parts, input_object_extension_parts};
+ghost use Rattle.read_operations.specs.in_grammar.Grammar as grammar;
+ghost use Rattle.read_operations.specs.in_grammar.TypeSystemGrammar.{SchemaKind, ScalarKind, ObjectKind, InterfaceKind, UnionKind, EnumKind, InputObjectKind};
 ghost use Rattle.read_types.specs.KindTrees.{kind_tree};
 
 use tree_composite_types::{InterfaceTypeExtension, ObjectTypeExtension, UnionTypeExtension};

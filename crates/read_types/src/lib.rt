@@ -8,11 +8,40 @@
 
 mod composite_types;
 mod definition;
+mod described;
+mod directive;
+mod enum_value_list;
 mod extension;
+mod field_list;
 mod input_types;
+mod input_value_list;
 mod kind;
+mod location_list;
+mod name_list;
+mod root_list;
 mod schema;
 mod types;
 
 pub use definition::type_system_definition;
+pub use directive::directive_definition;
+pub use enum_value_list::{
+    enum_values_definition, enum_values_or_none, optional_enum_values_definition,
+};
 pub use extension::type_system_extension;
+pub use field_list::{fields_definition, fields_or_none, optional_fields_definition};
+pub use input_value_list::{
+    arguments_definition, input_fields_definition, input_values_or_none,
+    optional_arguments_definition, optional_input_fields_definition,
+};
+pub use location_list::directive_locations;
+pub use name_list::{
+    implements_interfaces, names_or_none, optional_implements_interfaces,
+    optional_union_member_types, union_member_types,
+};
+pub use root_list::{optional_roots, roots, roots_or_none};
+
+// Of the crates beneath, for those above.
+pub use read_operations::{
+    Definition, Document, SourceFile, Stop, begin, fragment_definition, next_is, placed_fragment,
+    placed_operation, selections, since, ty,
+};

@@ -1,21 +1,20 @@
 //! The schema: its root operation types (section 3.3).
 ghost use Rattle.std.specs.Prelude.{◌≡◌};
-ghost use Rattle.read_grammar.specs.Reading.{Reads};
+ghost use Rattle.read_operations.specs.in_grammar.Reading.{Reads};
 ghost use Rattle.read_types.specs.KindSteps as steps;
 ghost use Rattle.read_types.specs.KindTrees.{kind_tree};
-ghost use Rattle.read_members.specs.in_read_values.Meanings.{in_file};
+ghost use Rattle.read_types.specs.in_read_operations.Meanings.{in_file};
 
 use crate::kind::Kind;
+use crate::{optional_roots, roots, roots_or_none};
 use graphql_names::FileId;
-use read_grammar::Stop;
-use read_members::{optional_roots, roots, roots_or_none};
+use read_operations::{Stop, directives_or_none, expect, optional_directives};
 use read_tokens::{Source, Terminal};
-use read_values::{directives_or_none, expect, optional_directives};
 use std::alloc::Global;
 use tree_input_types::SchemaExtension;
 
 /// SchemaDefinition (section 3.3): `"schema" Directives? "{" RootOperationTypeDefinition+ "}"`.
-#[tactic(auto, unfolding(read_grammar::specs::TypeSystemReading::schema_definition))]
+#[tactic(auto, unfolding(read_operations::specs::in_grammar::TypeSystemReading::schema_definition))]
 pub fn schema_definition(
     alloc: Global,
     tokens: &mut Source<'_>,
@@ -34,7 +33,7 @@ pub fn schema_definition(
 }
 
 /// SchemaExtension after `extend` (section 3.3.2): `"schema" Directives? ("{" RootOperationTypeDefinition+ "}")?`.
-#[tactic(auto, unfolding(read_grammar::specs::TypeSystemReading::schema_extension))]
+#[tactic(auto, unfolding(read_operations::specs::in_grammar::TypeSystemReading::schema_extension))]
 pub fn schema_extension(
     alloc: Global,
     tokens: &mut Source<'_>,

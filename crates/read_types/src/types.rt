@@ -1,17 +1,16 @@
 //! Types of any kind (section 3.4).
 ghost use Rattle.std.specs.Prelude.{◌≡◌};
-ghost use Rattle.read_grammar.specs.Reading.{Reads};
-ghost use Rattle.read_grammar.specs.TypeSystemReading as reading;
+ghost use Rattle.read_operations.specs.in_grammar.Reading.{Reads};
+ghost use Rattle.read_operations.specs.in_grammar.TypeSystemReading as reading;
 ghost use Rattle.read_types.specs.KindTrees.{kind_tree};
-ghost use Rattle.read_members.specs.in_read_values.Meanings.{in_file};
+ghost use Rattle.read_types.specs.in_read_operations.Meanings.{in_file};
 
 use crate::composite_types::{interface_type, object_type, union_type};
 use crate::input_types::{enum_type, input_object_type, scalar_type};
 use crate::kind::Kind;
 use graphql_names::FileId;
-use read_grammar::Stop;
+use read_operations::{Stop, next_is};
 use read_tokens::{Source, Terminal};
-use read_values::next_is;
 use std::alloc::Global;
 
 /// TypeDefinition (section 3.4): a scalar, an object, an interface, a union, an enum or an input object, by its keyword.

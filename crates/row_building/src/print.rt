@@ -4,7 +4,7 @@ use row_files::{
     Answer, Case, Lines, Plan, Problem, Tally, Way, compare, compare_cut, device, number,
 };
 use std::alloc::Global;
-use tree_printing::{Cause, Serialize, Tree, WriteFault};
+use tree_literals::{Cause, Serialize, Tree, WriteFault};
 
 /// How a tree is laid out.
 #[derive(Clone, Copy)]

@@ -9,8 +9,8 @@ use row_files::{Answer, Case, Lines, Problem, Tally, Way, compare, text_of};
 use std::alloc::Global;
 use tree_definitions::{Definition, Document};
 use tree_directives::{Directive, DirectiveDefinition};
+use tree_literals::Tree;
 use tree_operations::Selection;
-use tree_printing::Tree;
 
 /// Judges the row: each of its inputs, under each of its limits.
 pub(crate) fn by_read(alloc: Global, case: Case<'_>, tally: &mut Tally) -> Result<(), Problem> {

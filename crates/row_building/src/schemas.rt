@@ -5,7 +5,7 @@ use graphql_schema::Schema;
 use row_files::{Answer, push_faults};
 use row_schemas::Built;
 use std::alloc::{AllocError, Global};
-use tree_printing::Tree;
+use tree_literals::Tree;
 
 /// Adds what is built: the written schema, or its faults; or what `extended` tells of it. Of `orphans` the answer has all but
 /// the status.

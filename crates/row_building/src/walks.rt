@@ -7,7 +7,7 @@ use graphql_documents::{
 };
 use row_files::Lines;
 use std::alloc::{AllocError, Global};
-use tree_printing::Tree;
+use tree_literals::Tree;
 
 /// Adds what the call tells of the document: what is written, or of each operation, and of each fragment that is kept,
 /// in order, after a line of its own.

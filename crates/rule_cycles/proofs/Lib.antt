@@ -11,3 +11,4 @@ pub mod UseFacts
 pub mod UseBridge
 pub mod DirectivesTold
 pub mod BothTold
+pub use Rattle.graphql_schema.proofs as in_schema

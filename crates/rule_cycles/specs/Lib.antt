@@ -12,3 +12,4 @@ pub mod UseNumbers
 pub mod UseViews
 pub mod UseGraph
 pub mod DirectiveFaults
+pub use Rattle.graphql_schema.specs as in_schema

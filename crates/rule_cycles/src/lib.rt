@@ -24,3 +24,6 @@ mod uses;
 
 pub use check::check_cycles;
 pub use references::{Reference, References};
+
+// Of the crates beneath, for those above.
+pub use graphql_schema::{Schema, laws};

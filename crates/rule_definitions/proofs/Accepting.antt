@@ -11,15 +11,15 @@ use Rattle.tree_literals.specs.TypeQueries.{has_mark, is_list_type, item_type_of
 use Rattle.tree_literals.specs.ValueTree.{ValueTree, ItemTrees, EntryTrees, NullTree, EnumTree, VariableTree, StringTree, FloatTree, IntTree, BooleanTree, ListTree, ObjectTree, no_items, item_then, no_entries, entry_then, unplaced_value}
 use Rattle.tree_literals.specs.ValueQueries.{enum_name, integer_text, object_entries}
 use Rattle.tree_directives.specs.DirectiveTree.{InputValueTree}
-use Rattle.tree_operations.specs.OperationTree.{VariableDefinitionTree}
+use Rattle.schema_types.specs.in_operations.OperationTree.{VariableDefinitionTree}
 use Rattle.schema_coordinates.specs.Coordinate.{OfAttribute}
 use Rattle.schema_types.specs.SchemaTree.{same_kind}
 use Rattle.schema_types.specs.Looks.{TypeLooks}
 use Rattle.schema_types.specs.Addresses.{Address, TypeAt, InputAt, TypeReferenceAt}
 use Rattle.schema_types.specs.declared.type_kind.TypeKind.{TypeKind}
 use Rattle.schema_types.specs.declared.type_kind.TypeKind.TheVariants.{Scalar, Object, Interface, Union, Enum, InputObject}
-use Rattle.schema_components.proofs.in_values.Decided.{through, pair_decides}
-use Rattle.schema_components.specs.Lists.{is_among}
+use Rattle.schema_types.proofs.in_values.Decided.{through, pair_decides}
+use Rattle.schema_types.specs.in_components.Lists.{is_among}
 use Rattle.rule_cycle_search.proofs.Lists.{Contains-cons, index_found, Contains-first}
 use Rattle.rule_definitions.specs.Diagnostics.{UnsupportedValueType, IntCoercionError, UndefinedVariable, UndefinedEnumValue, UndefinedInputValue, RequiredField}
 use Rattle.rule_definitions.specs.Words.{Present, IfPresent, Lacks}

@@ -5,7 +5,7 @@ use Rattle.graphql_names.specs.Placed.{Placed, Text}
 use Rattle.tree_literals.specs.TypeTree.{TypeTree, NamedTree, NonNullNamedTree, ListTree, NonNullListTree}
 use Rattle.tree_literals.specs.ValueTree.{NullTree, VariableTree, ListTree as ListValueTree, no_items}
 use Rattle.tree_directives.specs.DirectiveTree.{DirectiveTree, InputValueTree, DirectiveDefinitionTree}
-use Rattle.tree_type_members.specs.TypeSystemTree.{FieldDefinitionTree}
+use Rattle.schema_types.specs.in_type_members.TypeSystemTree.{FieldDefinitionTree}
 use Rattle.schema_types.specs.Looks.{TypeLooks}
 use Rattle.schema_types.specs.Addresses.{TypeAt, FieldAt, InputAt, DirectiveDefinitionAt, ArgumentAt}
 use Rattle.schema_types.specs.declared.type_kind.TypeKind.{TypeKind}

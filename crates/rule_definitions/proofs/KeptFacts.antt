@@ -12,11 +12,11 @@ use Rattle.graphql_names.specs.Placed.{Place, unplaced_node}
 use Rattle.tree_literals.specs.TypeTree.{TypeTree, NamedTree, NonNullNamedTree, ListTree, NonNullListTree, unplaced_type}
 use Rattle.tree_literals.specs.TypeQueries.{inner_name}
 use Rattle.tree_directives.specs.DirectiveTree.{InputValues, unplaced_input_value}
-use Rattle.tree_type_members.specs.TypeSystemTree.{FieldDefinitionTree, unplaced_field_definition}
-use Rattle.schema_components.proofs.in_values.Decided.{through}
-use Rattle.schema_components.specs.Names.{Entries, by_bytes, named}
-use Rattle.schema_components.specs.Given.{plain_given}
-use Rattle.schema_components.proofs.NamedLookups.{tied}
+use Rattle.schema_types.specs.in_type_members.TypeSystemTree.{FieldDefinitionTree, unplaced_field_definition}
+use Rattle.schema_types.proofs.in_values.Decided.{through}
+use Rattle.schema_types.specs.in_components.Names.{Entries, by_bytes, named}
+use Rattle.schema_types.specs.in_components.Given.{plain_given}
+use Rattle.schema_types.proofs.in_components.NamedLookups.{tied}
 use Rattle.schema_types.specs.SchemaTree.{SchemaType, SchemaTree}
 use Rattle.schema_types.specs.Plain.{PlainType, plain_type, plain_directive_definition, plain}
 use Rattle.schema_types.specs.Looks.{TypeLooks, type_looks}

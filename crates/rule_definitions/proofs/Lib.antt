@@ -7,3 +7,4 @@ pub mod Lookups
 pub mod Tells
 pub mod Listing
 pub mod Firsts
+pub use Rattle.schema_types.proofs as in_schema_types

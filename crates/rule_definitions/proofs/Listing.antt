@@ -6,8 +6,8 @@ use Rattle.std.proofs.lemmas.Bool.{eqb-true}
 use Rattle.std.proofs.lemmas.Option.{same_Some}
 use Rattle.std.proofs.lemmas.List.{append-nil, map-append, take_more}
 use Rattle.std.proofs.lemmas.List.Elements.{Contains-append_left, Contains-append_right, Contains-append_cases}
-use Rattle.schema_components.specs.Lists.{each_place_after, each_place}
-use Rattle.schema_components.proofs.Places.{each_place-push}
+use Rattle.schema_types.specs.in_components.Lists.{each_place_after, each_place}
+use Rattle.schema_types.proofs.in_components.Places.{each_place-push}
 use Rattle.rule_cycle_search.proofs.Lists.{not_in_nil, only, is_only}
 use Rattle.rule_definitions.specs.Words.{Present, AtSomeIndex}
 

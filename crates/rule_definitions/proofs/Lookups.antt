@@ -7,8 +7,8 @@ use Rattle.std.specs.Str.{bytes_eq}
 use Rattle.std.proofs.lemmas.Slice.Eq.{bytes_eq-Decides}
 use Rattle.std.proofs.lemmas.List.Elements.{Contains-append_right}
 use Rattle.std.proofs.lemmas.Map.Keys.{IsDistinct-head, IsDistinct-tail}
-use Rattle.schema_components.specs.Lists.{is_among}
-use Rattle.schema_components.specs.Names.{Entries}
+use Rattle.schema_types.specs.in_components.Lists.{is_among}
+use Rattle.schema_types.specs.in_components.Names.{Entries}
 use Rattle.schema_types.specs.Addresses.{under}
 use Rattle.rule_cycle_search.proofs.Lists.{not_in_nil, Contains-cons, Contains-first}
 

@@ -8,8 +8,8 @@ use Rattle.std.proofs.lemmas.List.Elements.{Contains-append_left, Contains-appen
 use Rattle.std.proofs.lemmas.List.{append-nil}
 use Rattle.std.proofs.lemmas.Option.{same_Some}
 use Rattle.std.proofs.lemmas.Slice.Eq.{bytes_eq-Decides}
-use Rattle.schema_components.specs.Lists.{is_among, each_place_after, each_place}
-use Rattle.schema_components.specs.Names.{Entries}
+use Rattle.schema_types.specs.in_components.Lists.{is_among, each_place_after, each_place}
+use Rattle.schema_types.specs.in_components.Names.{Entries}
 use Rattle.schema_types.specs.Addresses.{under}
 use Rattle.rule_definitions.specs.Words.{Present, Somewhere, Among, AtSomeIndex, IsFirst, FirstNamed, Repeats}
 use Rattle.rule_cycle_search.proofs.Lists.{found_in, given_in, not_in_nil, only, is_only, index_found, index_given, slice_get-map, mapped_some}

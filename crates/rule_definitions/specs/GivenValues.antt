@@ -6,7 +6,7 @@ use Rattle.tree_literals.specs.TypeTree.{TypeTree}
 use Rattle.tree_literals.specs.TypeQueries.{inner_name}
 use Rattle.tree_literals.specs.ValueTree.{ValueTree, EntryTrees, no_entries, entry_then}
 use Rattle.tree_literals.specs.ValueQueries.{is_null_value}
-use Rattle.tree_operations.specs.OperationTree.{VariableDefinitionTree}
+use Rattle.schema_types.specs.in_operations.OperationTree.{VariableDefinitionTree}
 use Rattle.schema_types.specs.Looks.{TypeLooks}
 use Rattle.rule_definitions.specs.Judged.{Judged, IsBuiltInScalar, IsCustomScalar}
 

@@ -1,7 +1,7 @@
 -- Rules on types that implement interfaces (GraphQL, October 2021, sections 3.6 and 3.7; IsValidImplementation stands in 3.6).
 use Rattle.std.specs.Prelude.{◌≡◌, ◌≢◌, ℕ, true, false, List, None}
 use Rattle.tree_directives.specs.DirectiveQueries.{is_required_input}
-use Rattle.tree_type_members.specs.TypeSystemTree.{FieldDefinitionTree}
+use Rattle.schema_types.specs.in_type_members.TypeSystemTree.{FieldDefinitionTree}
 use Rattle.schema_types.specs.Looks.{TypeLooks}
 use Rattle.schema_types.specs.Addresses.{TypeAt, FieldAt, ImplementsAt, ArgumentAt}
 use Rattle.schema_types.specs.declared.type_kind.TypeKind.TheVariants as kind

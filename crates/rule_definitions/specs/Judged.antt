@@ -6,7 +6,7 @@ use Rattle.graphql_names.specs.Places.{is_built_in}
 use Rattle.tree_directives.specs.DirectiveTree.{DirectiveTree, Directives, InputValueTree, InputValues, DirectiveDefinitionTree}
 use Rattle.tree_directives.specs.declared.directive_location.DirectiveLocation.{DirectiveLocation}
 use Rattle.tree_directives.specs.declared.directive_location.DirectiveLocation.TheVariants as location
-use Rattle.tree_type_members.specs.TypeSystemTree.{FieldDefinitionTree, EnumValueTree}
+use Rattle.schema_types.specs.in_type_members.TypeSystemTree.{FieldDefinitionTree, EnumValueTree}
 use Rattle.schema_types.specs.SchemaTree.{SchemaTree, SchemaType, same_kind}
 use Rattle.schema_types.specs.Plain.{PlainRoots, plain}
 use Rattle.schema_types.specs.Looks.{TypeLooks, Looks, looks}

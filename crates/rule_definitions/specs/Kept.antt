@@ -8,7 +8,7 @@ use Rattle.graphql_names.specs.Places.{is_built_in}
 use Rattle.tree_literals.specs.TypeTree.{TypeTree}
 use Rattle.tree_literals.specs.TypeQueries.{inner_name}
 use Rattle.tree_directives.specs.DirectiveTree.{InputValues}
-use Rattle.tree_type_members.specs.TypeSystemTree.{FieldDefinitionTree}
+use Rattle.schema_types.specs.in_type_members.TypeSystemTree.{FieldDefinitionTree}
 use Rattle.schema_types.specs.BuiltIn.{built_in, name}
 use Rattle.schema_types.specs.SchemaTree.{SchemaType, SchemaTree, same_kind}
 use Rattle.schema_types.specs.Addresses.{type_at}

@@ -23,5 +23,5 @@ pub mod Told
 pub use Rattle.schema_types.specs.Distinct
 pub mod Kept
 pub mod Laws
-pub use Rattle.schema_components.specs as in_components
+pub use Rattle.schema_types.specs.in_components as in_components
 pub use Rattle.schema_types.specs as in_schema_types

@@ -4,7 +4,7 @@ use Rattle.graphql_names.specs.Placed.{Placed}
 use Rattle.tree_literals.specs.TypeTree.{TypeTree}
 use Rattle.tree_literals.specs.TypeQueries.{inner_name}
 use Rattle.tree_directives.specs.DirectiveTree.{ArgumentTree, DirectiveTree, InputValueTree}
-use Rattle.tree_operations.specs.OperationTree.{VariableDefinitionTree}
+use Rattle.schema_types.specs.in_operations.OperationTree.{VariableDefinitionTree}
 
 -- the name begins with `__` (section 2.1.9)
 abbrev pub is_reserved : List ℕ → Bool

@@ -5,8 +5,8 @@ use Rattle.graphql_names.specs.Placed.{Place}
 use Rattle.tree_directives.specs.DirectiveTree.{DirectiveTree}
 use Rattle.tree_directives.specs.declared.directive_location.DirectiveLocation.{DirectiveLocation}
 use Rattle.tree_directives.specs.declared.directive_location.DirectiveLocation.TheVariants as location
-use Rattle.schema_components.specs.Lists.{firsts}
-use Rattle.schema_components.specs.Given.{Given, ExtensionTree}
+use Rattle.schema_types.specs.in_components.Lists.{firsts}
+use Rattle.schema_types.specs.in_components.Given.{Given, ExtensionTree}
 use Rattle.schema_types.specs.SchemaTree.{SchemaType, SchemaTree}
 use Rattle.schema_types.specs.Addresses.{Address, SchemaAt, DirectiveDefinitionAt, TypeAt, FieldAt, ValueAt, InputAt, type_at}
 use Rattle.rule_definitions.specs.Diagnostics.{map_places}

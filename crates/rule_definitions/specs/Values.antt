@@ -8,7 +8,7 @@ use Rattle.tree_literals.specs.NumberSyntax.{integer_value}
 use Rattle.tree_literals.specs.ValueTree.{ValueTree, ItemTrees, EntryTrees, NullTree, EnumTree, VariableTree, StringTree, FloatTree, IntTree, BooleanTree, ListTree, ObjectTree, no_items, item_then, no_entries, entry_then, unplaced_value}
 use Rattle.tree_literals.specs.ValueQueries.{enum_name, integer_text, object_entries}
 use Rattle.tree_directives.specs.DirectiveQueries.{is_required_input}
-use Rattle.tree_operations.specs.OperationTree.{VariableDefinitionTree}
+use Rattle.schema_types.specs.in_operations.OperationTree.{VariableDefinitionTree}
 use Rattle.schema_coordinates.specs.Coordinate.{OfAttribute}
 use Rattle.schema_types.specs.Looks.{TypeLooks}
 use Rattle.schema_types.specs.Addresses.{Address, TypeAt, InputAt, TypeReferenceAt}

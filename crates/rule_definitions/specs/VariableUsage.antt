@@ -3,7 +3,7 @@ use Rattle.std.specs.Prelude.{◌≡◌, true, false, is_some, ◌⊎◌}
 use Rattle.tree_literals.specs.TypeTree.{unplaced_type}
 use Rattle.tree_literals.specs.TypeQueries.{has_mark, nullable_type, AreTypesCompatible}
 use Rattle.tree_directives.specs.DirectiveTree.{InputValueTree}
-use Rattle.tree_operations.specs.OperationTree.{VariableDefinitionTree}
+use Rattle.schema_types.specs.in_operations.OperationTree.{VariableDefinitionTree}
 
 module _ {P : Type 0} where
   -- a variable may stand where the argument is asked for: a nullable one fits a non-null place only

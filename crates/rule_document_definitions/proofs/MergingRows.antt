@@ -6,9 +6,9 @@ use Rattle.tree_literals.specs.TypeTree.{NonNullNamedTree}
 use Rattle.tree_literals.specs.TypeQueries.{has_mark}
 use Rattle.tree_literals.specs.ValueTree.{ValueTree, ItemTrees, IntTree, ListTree, no_items, item_then, unplaced_value}
 use Rattle.tree_directives.specs.DirectiveTree.{Arguments}
-use Rattle.schema_types.specs.SchemaTree.{same_kind}
-use Rattle.schema_types.specs.Looks.{TypeLooks}
-use Rattle.schema_types.specs.declared.type_kind.TypeKind.TheVariants as kind
+use Rattle.rule_definitions.specs.in_schema_types.SchemaTree.{same_kind}
+use Rattle.rule_definitions.specs.in_schema_types.Looks.{TypeLooks}
+use Rattle.rule_definitions.specs.in_schema_types.declared.type_kind.TypeKind.TheVariants as kind
 use Rattle.fault_document_data.specs.DocumentBreaches.{ConflictingFieldName, ConflictingFieldArgument, ConflictingFieldType}
 use Rattle.document_meaning.specs.MeantTree.{Definition, MeantSelection, MeantField, MeantOperation}
 use Rattle.rule_definitions.proofs.Lists.{Contains-first, given_in}

@@ -10,9 +10,9 @@ use Rattle.tree_directives.specs.declared.operation_type.OperationType.{Operatio
 use Rattle.tree_directives.specs.declared.operation_type.OperationType.TheVariants as operation
 use Rattle.tree_operations.specs.SelectionTree.{FieldHead}
 use Rattle.tree_operations.specs.OperationTree.{VariableDefinitionTree}
-use Rattle.schema_types.specs.Looks.{TypeLooks}
-use Rattle.schema_types.specs.declared.type_kind.TypeKind.{TypeKind}
-use Rattle.schema_types.specs.declared.type_kind.TypeKind.TheVariants as kind
+use Rattle.rule_definitions.specs.in_schema_types.Looks.{TypeLooks}
+use Rattle.rule_definitions.specs.in_schema_types.declared.type_kind.TypeKind.{TypeKind}
+use Rattle.rule_definitions.specs.in_schema_types.declared.type_kind.TypeKind.TheVariants as kind
 use Rattle.document_meaning.specs.MeantTree.{Definition, MeantSelection, MeantField, MeantSpread, MeantInline, MeantSet, meant_set, no_meant, set_on, MeantOperation, MeantFragment, MeantDocument}
 use Rattle.rule_definitions.specs.Judged.{Judged}
 use Rattle.rule_document_definitions.specs.Places.{Places}

@@ -4,8 +4,8 @@ use Rattle.std.specs.Option.{option_map}
 use Rattle.std.proofs.lemmas.List.Elements.{Contains-append_right}
 use Rattle.graphql_names.specs.Placed.{Text, unplaced_text}
 use Rattle.tree_operations.specs.SelectionTree.{unplaced_head}
-use Rattle.schema_types.specs.in_components.Names.{Entries}
-use Rattle.schema_types.specs.Addresses.{under}
+use Rattle.document_meaning.specs.in_components.Names.{Entries}
+use Rattle.rule_definitions.specs.in_schema_types.Addresses.{under}
 use Rattle.document_meaning.specs.MeantTree.{MeantSelection, MeantField, MeantSpread, MeantInline, MeantSet, meant_set, MeantSelections, no_meant, meant_then, MeantOperation, MeantFragment, MeantDocument}
 use Rattle.document_meaning.specs.Unplaced.{unplaced_meant, unplaced_set, unplaced_members, unplaced_operation, unplaced_fragment, unplaced_document}
 use Rattle.rule_definitions.proofs.Lists.{not_in_nil, Contains-cons, Contains-first, mapped_some}

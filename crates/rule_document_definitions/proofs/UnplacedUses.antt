@@ -10,7 +10,7 @@ use Rattle.tree_directives.specs.DirectiveTree.{ArgumentTree, Arguments, Directi
 use Rattle.tree_directives.specs.DirectiveQueries.{given_value, argument_has_name}
 use Rattle.tree_directives.specs.declared.directive_location.DirectiveLocation.{DirectiveLocation}
 use Rattle.tree_operations.specs.OperationTree.{VariableDefinitionTree, unplaced_variable_definition}
-use Rattle.schema_types.specs.Addresses.{Address, ArgumentAt, TypeReferenceAt}
+use Rattle.rule_definitions.specs.in_schema_types.Addresses.{Address, ArgumentAt, TypeReferenceAt}
 use Rattle.rule_definitions.specs.Diagnostics.{DisallowedVariableUsage}
 use Rattle.rule_definitions.specs.Words.{Present, FirstNamed}
 use Rattle.rule_definitions.specs.Faults.{FaultAt, wrong}

@@ -8,8 +8,8 @@ use Rattle.tree_literals.specs.TypeQueries.{inner_name, has_mark}
 use Rattle.tree_literals.specs.ValueTree.{ValueTree, ItemTrees, EntryTrees, NullTree, EnumTree, VariableTree, StringTree, FloatTree, IntTree, BooleanTree, ListTree, ObjectTree, no_items, item_then, no_entries, entry_then, unplaced_value, unplaced_items, unplaced_entries}
 use Rattle.tree_literals.specs.ValueQueries.{is_null_value, enum_name, variable_name, integer_text, string_text, boolean_value, object_entries}
 use Rattle.tree_operations.specs.OperationTree.{VariableDefinitionTree, unplaced_variable_definition}
-use Rattle.schema_types.specs.Looks.{TypeLooks}
-use Rattle.schema_types.specs.Addresses.{Address, TypeAt, InputAt, TypeReferenceAt}
+use Rattle.rule_definitions.specs.in_schema_types.Looks.{TypeLooks}
+use Rattle.rule_definitions.specs.in_schema_types.Addresses.{Address, TypeAt, InputAt, TypeReferenceAt}
 use Rattle.rule_definitions.specs.Diagnostics.{Diagnostic, map_places, UnsupportedValueType, UndefinedInputValue, UniqueInputValue}
 use Rattle.rule_definitions.specs.Words.{AtSomeIndex, Repeats}
 use Rattle.rule_definitions.specs.GivenValues.{entry_list, Wanted, Variables, wanted_name, entry_named, is_absent_or_null}

@@ -6,7 +6,7 @@ use Rattle.tree_literals.specs.TypeQueries.{inner_name}
 use Rattle.tree_literals.specs.ValueTree.{ValueTree, ItemTrees, EntryTrees, NullTree, EnumTree, VariableTree, StringTree, FloatTree, IntTree, BooleanTree, ListTree, ObjectTree, no_items, item_then, no_entries, entry_then, unplaced_value, unplaced_items, unplaced_entries}
 use Rattle.tree_directives.specs.DirectiveTree.{Arguments, Directives}
 use Rattle.tree_directives.specs.declared.directive_location.DirectiveLocation.TheVariants as location
-use Rattle.schema_types.specs.SchemaTree.{kind_words, is_input_kind}
+use Rattle.rule_definitions.specs.in_schema_types.SchemaTree.{kind_words, is_input_kind}
 use Rattle.document_meaning.specs.MeantTree.{MeantSelection, MeantField, MeantSpread, MeantInline, MeantOperation, MeantDocument}
 use Rattle.document_meaning.specs.Unplaced.{unplaced_meant, unplaced_operation, unplaced_fragment, unplaced_document}
 use Rattle.rule_definitions.specs.Diagnostics.{UndefinedDefinition, VariableInputType, UnusedVariable}

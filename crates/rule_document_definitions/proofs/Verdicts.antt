@@ -2,7 +2,7 @@
 use Rattle.std.proofs.Common.{◌≡◌, ◌⊎◌, ◌↔◌, refl, sym, ap, subst, Option, None, Some, Contains, is_some, inl, inr, true≢false}
 use Rattle.std.proofs.lemmas.Option.{same_Some}
 use Rattle.graphql_names.specs.Placed.{Place}
-use Rattle.schema_types.specs.SchemaTree.{SchemaTree}
+use Rattle.rule_definitions.specs.in_schema_types.SchemaTree.{SchemaTree}
 use Rattle.document_meaning.specs.MeantTree.{MeantSet, MeantDocument}
 use Rattle.document_meaning.specs.Unplaced.{unplaced_set, unplaced_operation, unplaced_document}
 use Rattle.rule_definitions.specs.Faults.{FaultAt}

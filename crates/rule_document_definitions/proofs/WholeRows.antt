@@ -3,9 +3,9 @@ use Rattle.std.proofs.Common.{◌≡◌, ℕ, List, [], ◌∷◌, codes, bytes_
 use Rattle.graphql_names.specs.Placed.{Place}
 use Rattle.tree_directives.specs.OperationQueries.{default_root_name}
 use Rattle.schema_coordinates.specs.Coordinate.{OfAttribute}
-use Rattle.schema_types.specs.SchemaTree.{SchemaTree}
-use Rattle.schema_types.specs.BuiltIn.{built_in}
-use Rattle.schema_types.specs.Addresses.{FieldAt, ArgumentAt, field_at, place_at}
+use Rattle.rule_definitions.specs.in_schema_types.SchemaTree.{SchemaTree}
+use Rattle.rule_definitions.specs.in_schema_types.BuiltIn.{built_in}
+use Rattle.rule_definitions.specs.in_schema_types.Addresses.{FieldAt, ArgumentAt, field_at, place_at}
 use Rattle.document_meaning.specs.MeantTree.{MeantOperation, MeantSet, set_on}
 use Rattle.rule_definitions.specs.Diagnostics.{MissingSubselection, UndefinedDirective}
 use Rattle.rule_definitions.specs.Faults.{FaultAt, wrong}

@@ -2,7 +2,7 @@
 use Rattle.std.specs.Prelude.{◌≡◌, ℕ, List, ◌∷◌, reverse, Contains, Option, None, Some, ◌⊎◌}
 use Rattle.graphql_names.specs.Placed.{Placed}
 use Rattle.tree_directives.specs.DirectiveTree.{unplaced_directives}
-use Rattle.schema_types.specs.Addresses.{TypeAt}
+use Rattle.rule_definitions.specs.in_schema_types.Addresses.{TypeAt}
 use Rattle.document_meaning.specs.MeantTree.{MeantSelection, MeantSpread, MeantOperation, MeantFragment, MeantDocument}
 use Rattle.rule_definitions.specs.Diagnostics.{SpreadTree, UndefinedFragment, UnusedFragment, RecursiveFragmentDefinition, InvalidFragmentTarget, InvalidFragmentSpread}
 use Rattle.rule_definitions.specs.Words.{Present}

@@ -3,7 +3,7 @@
 -- places, is what nothing is told of at places.
 use Rattle.std.specs.Prelude.{◌≡◌, ◌↔◌, ◌⊎◌}
 use Rattle.graphql_names.specs.Placed.{Place}
-use Rattle.schema_types.specs.SchemaTree.{SchemaTree}
+use Rattle.rule_definitions.specs.in_schema_types.SchemaTree.{SchemaTree}
 use Rattle.document_meaning.specs.MeantTree.{MeantSet, MeantOperation, MeantDocument}
 use Rattle.document_meaning.specs.Unplaced.{unplaced_operation, unplaced_document, unplaced_set}
 use Rattle.rule_definitions.specs.Laws.{AreEqual}

@@ -31,3 +31,4 @@ pub mod Sharing
 pub mod PlainFields
 pub mod MergingLaws
 pub mod Equivalences
+pub use Rattle.document_meaning.specs as in_document_meaning

@@ -2,7 +2,7 @@
 use Rattle.std.specs.Prelude.{◌≡◌, ℕ, List, [], Option, ◌⊎◌}
 use Rattle.tree_literals.specs.TypeTree.{TypeTree, NamedTree, NonNullNamedTree, ListTree, NonNullListTree}
 use Rattle.schema_coordinates.specs.Coordinate.{OfAttribute, OfArgument}
-use Rattle.schema_types.specs.declared.type_kind.TypeKind.TheVariants as kind
+use Rattle.rule_definitions.specs.in_schema_types.declared.type_kind.TypeKind.TheVariants as kind
 use Rattle.fault_document_data.specs.DocumentBreaches.{Selected, ConflictingFieldName, ConflictingFieldArgument, ConflictingFieldType}
 use Rattle.document_meaning.specs.MeantTree.{MeantOperation, MeantDocument}
 use Rattle.rule_definitions.specs.Words.{Present}

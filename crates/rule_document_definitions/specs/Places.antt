@@ -1,5 +1,5 @@
 -- What stands for places: P for each place of the document and of the schema.
-use Rattle.schema_types.specs.Addresses.{Address}
+use Rattle.rule_definitions.specs.in_schema_types.Addresses.{Address}
 
 pub record Places (P : Type 0) : Type 1 where
   -- the place of an address of the schema

@@ -1,8 +1,8 @@
 -- Composite types, and which object types values of a type can be of (GraphQL, October 2021, sections 5.5.1.3 and 5.5.2.3).
 use Rattle.std.specs.Prelude.{◌≡◌, ℕ, true, false, ◌&&◌, not, List, ◌⊎◌}
-use Rattle.schema_types.specs.SchemaTree.{is_leaf_kind, is_output_kind}
-use Rattle.schema_types.specs.declared.type_kind.TypeKind.TheVariants as kind
-use Rattle.schema_types.specs.Looks.{TypeLooks}
+use Rattle.rule_definitions.specs.in_schema_types.SchemaTree.{is_leaf_kind, is_output_kind}
+use Rattle.rule_definitions.specs.in_schema_types.declared.type_kind.TypeKind.TheVariants as kind
+use Rattle.rule_definitions.specs.in_schema_types.Looks.{TypeLooks}
 use Rattle.rule_definitions.specs.Words.{Present}
 use Rattle.rule_definitions.specs.Judged.{Judged}
 

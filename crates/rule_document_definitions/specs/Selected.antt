@@ -6,7 +6,7 @@ use Rattle.tree_directives.specs.DirectiveTree.{Directives}
 use Rattle.tree_directives.specs.declared.directive_location.DirectiveLocation.{DirectiveLocation}
 use Rattle.tree_directives.specs.declared.directive_location.DirectiveLocation.TheVariants as location
 use Rattle.tree_operations.specs.SelectionTree.{FieldHead}
-use Rattle.schema_types.specs.Addresses.{under}
+use Rattle.rule_definitions.specs.in_schema_types.Addresses.{under}
 use Rattle.document_meaning.specs.MeantTree.{Definition, MeantSelection, MeantField, MeantSpread, MeantInline, MeantSet, meant_set, MeantSelections, no_meant, meant_then, MeantOperation, MeantFragment, MeantDocument}
 
 -- where a selection is, by the order of the text: two selections are one where this is the same

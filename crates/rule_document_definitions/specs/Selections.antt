@@ -3,8 +3,8 @@ use Rattle.std.specs.Prelude.{◌≡◌, ◌⊎◌}
 use Rattle.tree_directives.specs.declared.directive_location.DirectiveLocation.TheVariants as location
 use Rattle.tree_directives.specs.OperationQueries.{location_of_operation}
 use Rattle.schema_coordinates.specs.Coordinate.{OfAttribute, OfArgument}
-use Rattle.schema_types.specs.SchemaTree.{kind_words}
-use Rattle.schema_types.specs.Addresses.{FieldAt}
+use Rattle.rule_definitions.specs.in_schema_types.SchemaTree.{kind_words}
+use Rattle.rule_definitions.specs.in_schema_types.Addresses.{FieldAt}
 use Rattle.document_meaning.specs.MeantTree.{MeantOperation, MeantDocument}
 use Rattle.rule_definitions.specs.Diagnostics.{MissingSubselection}
 use Rattle.rule_definitions.specs.Words.{Present}

@@ -2,9 +2,9 @@
 use Rattle.std.specs.Prelude.{Bool, false, List, None, is_none, if◌then◌else◌}
 use Rattle.graphql_names.specs.Placed.{Place}
 use Rattle.graphql_names.specs.Places.{Recomposes}
-use Rattle.schema_types.specs.SchemaTree.{SchemaTree}
-use Rattle.schema_types.specs.BuiltIn.{built_in}
-use Rattle.schema_types.specs.Addresses.{Address, FieldAt, ArgumentAt, TypeReferenceAt, place_at, field_at}
+use Rattle.rule_definitions.specs.in_schema_types.SchemaTree.{SchemaTree}
+use Rattle.rule_definitions.specs.in_schema_types.BuiltIn.{built_in}
+use Rattle.rule_definitions.specs.in_schema_types.Addresses.{Address, FieldAt, ArgumentAt, TypeReferenceAt, place_at, field_at}
 use Rattle.document_meaning.specs.MeantTree.{MeantSet, MeantDocument}
 use Rattle.document_meaning.specs.Unplaced.{unplaced_document, unplaced_set}
 use Rattle.rule_definitions.specs.Judged.{judged}

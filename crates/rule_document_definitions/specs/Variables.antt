@@ -2,7 +2,7 @@
 use Rattle.std.specs.Prelude.{◌≡◌, true, false, [], None, ◌⊎◌}
 use Rattle.tree_literals.specs.TypeTree.{unplaced_type}
 use Rattle.tree_directives.specs.declared.directive_location.DirectiveLocation.TheVariants as location
-use Rattle.schema_types.specs.SchemaTree.{kind_words, is_input_kind}
+use Rattle.rule_definitions.specs.in_schema_types.SchemaTree.{kind_words, is_input_kind}
 use Rattle.document_meaning.specs.MeantTree.{MeantOperation, MeantDocument}
 use Rattle.rule_definitions.specs.Diagnostics.{UndefinedDefinition, UniqueVariable, VariableInputType, UnusedVariable}
 use Rattle.rule_definitions.specs.Words.{Present, AtSomeIndex, Repeats}

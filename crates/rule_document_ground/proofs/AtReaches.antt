@@ -2,7 +2,7 @@
 use Rattle.std.proofs.Common.{◌≡◌, ◌↔◌, ◌⊎◌, ℕ, suc, zero, List, [], ◌∷◌, refl, sym, ap, subst, inl, inr, Some, slice_get, Contains, true≢false, is_some}
 use Rattle.schema_components.proofs.Places.{not_in_nil, Contains-cons, Contains-first, Contains-rest}
 use Rattle.document_walks.proofs.Finding.{some_is}
-use Rattle.document_meaning.specs.MeantTree.{MeantSelection, MeantField, MeantSpread, MeantInline, MeantOperation, MeantFragment, MeantDocument}
+use Rattle.rule_document_definitions.specs.in_document_meaning.MeantTree.{MeantSelection, MeantField, MeantSpread, MeantInline, MeantOperation, MeantFragment, MeantDocument}
 use Rattle.rule_definitions.specs.Words.{Present, AtSomeIndex}
 use Rattle.rule_document_definitions.specs.Selected.{Position, StandingField, field_there, own}
 use Rattle.rule_document_definitions.specs.Reached.{AtReached, AtReachedField, AtReachedFragment}

@@ -9,8 +9,8 @@ use Rattle.document_typed_selections.specs.TypedTree.{TypedSelection, TypedField
 use Rattle.document_typed_selections.specs.TypedParts.{typed_field}
 use Rattle.document_typed_selections.specs.declared.selection.Field.{Field}
 use Rattle.document_typed_selections.proofs.TypedEquality.{SameField, field_eq, field_eq-Decides}
-use Rattle.document_meaning.specs.MeantTree.{Definition, MeantSelection, MeantField, MeantSpread, MeantInline, MeantSet, meant_set, MeantSelections, no_meant, meant_then, meant, meant_of_set, meant_of_all}
-use Rattle.document_meaning.specs.Unplaced.{unplaced_meant, unplaced_set, unplaced_members}
+use Rattle.rule_document_definitions.specs.in_document_meaning.MeantTree.{Definition, MeantSelection, MeantField, MeantSpread, MeantInline, MeantSet, meant_set, MeantSelections, no_meant, meant_then, meant, meant_of_set, meant_of_all}
+use Rattle.rule_document_definitions.specs.in_document_meaning.Unplaced.{unplaced_meant, unplaced_set, unplaced_members}
 use Rattle.rule_document_definitions.specs.Selected.{InOperation, StandingField}
 use Rattle.rule_document_ground.specs.declared.field_selection.FieldSelection.{FieldSelection}
 use Rattle.rule_document_ground.specs.Fields.{content_of}

@@ -7,11 +7,11 @@ use Rattle.schema_components.specs.Names.{Entries}
 use Rattle.schema_components.proofs.Places.{not_in_nil, only, is_only}
 use Rattle.schema_types.specs.Addresses.{under}
 use Rattle.document_typed_selections.specs.TypedTree.{TypedSelection, TypedField, TypedSpread, TypedInline, TypedSet, set_type}
-use Rattle.document_typed_operations.specs.TypedDocument.{TypedFragment}
+use Rattle.document_walks.specs.in_typed_operations.TypedDocument.{TypedFragment}
 use Rattle.document_walks.specs.Reached.{NamedSet, Fragments, Member as TypedMember, own_selections, inner_sets, spread_names, fragment_named as set_named, ReachedSet, from_start, from_inner, from_spread, IsReached}
 use Rattle.document_walks.proofs.Finding.{some_is}
 use Rattle.document_walks.proofs.WalkLaws.{from_one, to_all}
-use Rattle.document_meaning.specs.MeantTree.{MeantSelection, MeantField, MeantSpread, MeantInline, MeantFragment, MeantDocument, meant, meant_of_set}
+use Rattle.rule_document_definitions.specs.in_document_meaning.MeantTree.{MeantSelection, MeantField, MeantSpread, MeantInline, MeantFragment, MeantDocument, meant, meant_of_set}
 use Rattle.document_typing.specs.DocumentView.{meant_by_fragment}
 use Rattle.rule_document_definitions.specs.Selected.{Position, InOperation, InFragment, SelectionAt, Standing, StandingField, standing_in, spread_name, field_there, as_field, fragment_named}
 use Rattle.rule_document_definitions.specs.Reached.{Closed, first, next, InFragmentOf}

@@ -14,11 +14,11 @@ use Rattle.schema_types.specs.TypeView.{name_text}
 use Rattle.schema_types.specs.Addresses.{under}
 use Rattle.document_typed_selections.specs.TypedTree.{TypedSet}
 use Rattle.document_typed_selections.specs.declared.selection.Selection.{Selection}
-use Rattle.document_typed_operations.specs.TypedDocument.{typed_fragment_tree}
-use Rattle.document_typed_operations.specs.declared.operation.Fragment.{Fragment}
+use Rattle.document_walks.specs.in_typed_operations.TypedDocument.{typed_fragment_tree}
+use Rattle.document_walks.specs.in_typed_operations.declared.operation.Fragment.{Fragment}
 use Rattle.document_walks.specs.Reached.{Fragments, Member as TypedMember, IsReached, IsReachedFragment}
 use Rattle.document_walks.specs.WalkView.{fragments_tree, lent_member}
-use Rattle.document_meaning.specs.MeantTree.{MeantFragment, MeantDocument, meant, meant_of_set}
+use Rattle.rule_document_definitions.specs.in_document_meaning.MeantTree.{MeantFragment, MeantDocument, meant, meant_of_set}
 use Rattle.document_typing.specs.DocumentView.{meant_by_fragment}
 use Rattle.rule_document_definitions.specs.Selected.{Position, Standing, standing_in}
 use Rattle.rule_document_ground.specs.Reach.{Member, member_of, meant_fragments, IsReach}

@@ -11,3 +11,5 @@ pub mod Pushed
 pub mod NotedNames
 -- Lists of what rules tell, for the layers above.
 pub use Rattle.rule_definitions.proofs.Listing
+pub use Rattle.document_typing.proofs as in_typing
+pub use Rattle.document_typing.proofs.in_schema as in_schema

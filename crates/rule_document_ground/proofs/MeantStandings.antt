@@ -3,7 +3,7 @@ use Rattle.std.proofs.Common.{◌≡◌, ℕ, suc, List, refl, ap, sym, inl, inr
 use Rattle.schema_components.proofs.Places.{not_in_nil, Contains-cons, Contains-first, Contains-rest}
 use Rattle.document_typed_selections.specs.TypedTree.{TypedSelection, TypedSet, typed_set, TypedSelections, no_typed, typed_then, set_type, typed_selections_list}
 use Rattle.document_walks.specs.Reached.{own_selections}
-use Rattle.document_meaning.specs.MeantTree.{meant, meant_of_set, meant_of_all}
+use Rattle.rule_document_definitions.specs.in_document_meaning.MeantTree.{meant, meant_of_set, meant_of_all}
 use Rattle.rule_document_definitions.specs.Selected.{Position, SelectionAt, Standing, stand, standing_in}
 
 module _ {P : Type 0} where

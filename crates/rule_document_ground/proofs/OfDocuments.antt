@@ -5,11 +5,11 @@ use Rattle.graphql_names.specs.Node.{content}
 use Rattle.graphql_names.specs.Placed.{Place, Placed, node_tree}
 use Rattle.graphql_names.specs.declared.node.Node.{Node}
 use Rattle.document_typed_selections.specs.TypedTree.{TypedSet, typed_set_tree}
-use Rattle.document_typed_operations.specs.TypedDocument.{TypedFragment, typed_operation_tree, typed_fragment_tree, typed_document_tree}
-use Rattle.document_typed_operations.specs.declared.document.ExecutableDocument.{ExecutableDocument}
-use Rattle.document_typed_operations.specs.declared.operation.Fragment.{Fragment}
-use Rattle.document_typed_operations.specs.declared.operation.Operation.{Operation}
-use Rattle.document_meaning.specs.MeantTree.{MeantDocument, meant_of_set}
+use Rattle.document_walks.specs.in_typed_operations.TypedDocument.{TypedFragment, typed_operation_tree, typed_fragment_tree, typed_document_tree}
+use Rattle.document_walks.specs.in_typed_operations.declared.document.ExecutableDocument.{ExecutableDocument}
+use Rattle.document_walks.specs.in_typed_operations.declared.operation.Fragment.{Fragment}
+use Rattle.document_walks.specs.in_typed_operations.declared.operation.Operation.{Operation}
+use Rattle.rule_document_definitions.specs.in_document_meaning.MeantTree.{MeantDocument, meant_of_set}
 use Rattle.document_typing.specs.DocumentView.{meant_by_operation, meant_by_fragment, meant_document}
 use Rattle.rule_document_definitions.specs.Selected.{Position, InOperation, standing_in, operation_name}
 use Rattle.rule_document_definitions.specs.FieldSets.{document_of_set}

@@ -10,11 +10,11 @@ use Rattle.schema_components.specs.Names.{Entries, entries_of}
 use Rattle.schema_types.specs.TypeView.{name_text}
 use Rattle.document_typed_selections.specs.TypedTree.{TypedSelection, TypedField, TypedSpread, TypedInline, TypedSet}
 use Rattle.document_typed_selections.specs.TypedParts.{as_typed_field, typed_field_node}
-use Rattle.document_typed_operations.specs.TypedDocument.{typed_fragment_tree}
-use Rattle.document_typed_operations.specs.declared.operation.Fragment.{Fragment}
+use Rattle.document_walks.specs.in_typed_operations.TypedDocument.{typed_fragment_tree}
+use Rattle.document_walks.specs.in_typed_operations.declared.operation.Fragment.{Fragment}
 use Rattle.document_walks.specs.Reached.{Fragments, Member as TypedMember, IsReached}
 use Rattle.document_walks.specs.WalkView.{fragments_tree}
-use Rattle.document_meaning.specs.MeantTree.{MeantSet, MeantFragment, MeantDocument, meant_of_set}
+use Rattle.rule_document_definitions.specs.in_document_meaning.MeantTree.{MeantSet, MeantFragment, MeantDocument, meant_of_set}
 use Rattle.rule_document_definitions.specs.Selected.{Position, StandingField}
 use Rattle.rule_document_definitions.specs.Contents.{content}
 use Rattle.rule_document_definitions.specs.Reached.{IsFieldOf}

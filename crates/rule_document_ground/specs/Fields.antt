@@ -9,9 +9,9 @@ use Rattle.schema_components.specs.Names.{Entries, entries_of}
 use Rattle.schema_types.specs.TypeView.{name_text}
 use Rattle.document_typed_selections.specs.TypedTree.{typed_set_tree}
 use Rattle.document_typed_selections.specs.TypedParts.{typed_head}
-use Rattle.document_typed_operations.specs.TypedDocument.{typed_fragment_tree}
-use Rattle.document_typed_operations.specs.declared.operation.Fragment.{Fragment}
-use Rattle.document_meaning.specs.MeantTree.{MeantFragment, meant_of_set}
+use Rattle.document_walks.specs.in_typed_operations.TypedDocument.{typed_fragment_tree}
+use Rattle.document_walks.specs.in_typed_operations.declared.operation.Fragment.{Fragment}
+use Rattle.rule_document_definitions.specs.in_document_meaning.MeantTree.{MeantFragment, meant_of_set}
 use Rattle.document_typing.specs.DocumentView.{meant_by_fragment}
 use Rattle.rule_document_definitions.specs.Selected.{InOperation, StandingField}
 use Rattle.rule_document_definitions.specs.Contents.{unplaced_content}

@@ -10,8 +10,8 @@ use Rattle.schema_components.specs.Names.{Entries}
 use Rattle.schema_types.specs.Addresses.{under}
 use Rattle.document_typed_selections.specs.TypedTree.{TypedSet}
 use Rattle.document_typed_selections.specs.declared.selection.Selection.{Selection}
-use Rattle.document_typed_operations.specs.declared.operation.Fragment.{Fragment}
-use Rattle.document_meaning.specs.MeantTree.{MeantFragment}
+use Rattle.document_walks.specs.in_typed_operations.declared.operation.Fragment.{Fragment}
+use Rattle.rule_document_definitions.specs.in_document_meaning.MeantTree.{MeantFragment}
 use Rattle.document_walks.specs.Reached.{Member as TypedMember, Fragments, IsReachedFragment}
 use Rattle.document_walks.specs.WalkView.{lent_member}
 use Rattle.rule_document_ground.specs.Reach.{fragment_of}

@@ -1,7 +1,7 @@
 -- Private: leads to `specs/Fields.antt`. The fields among the selections that a walk lends.
 use Rattle.std.specs.Prelude.{List, flat_map, option_to_list, None}
 use Rattle.graphql_names.specs.Placed.{Place}
-use Rattle.document_meaning.specs.MeantTree.{meant}
+use Rattle.rule_document_definitions.specs.in_document_meaning.MeantTree.{meant}
 use Rattle.rule_document_definitions.specs.Selected.{InOperation, StandingField, field_there}
 use Rattle.document_walks.specs.Reached.{Member as TypedMember}
 

@@ -6,11 +6,11 @@ use Rattle.schema_components.specs.Names.{Entries, entries_of}
 use Rattle.schema_types.specs.TypeView.{name_text}
 use Rattle.document_typed_selections.specs.TypedTree.{typed_selection_tree}
 use Rattle.document_typed_selections.specs.declared.selection.Selection.{Selection}
-use Rattle.document_typed_operations.specs.TypedDocument.{typed_fragment_tree}
-use Rattle.document_typed_operations.specs.declared.operation.Fragment.{Fragment}
+use Rattle.document_walks.specs.in_typed_operations.TypedDocument.{typed_fragment_tree}
+use Rattle.document_walks.specs.in_typed_operations.declared.operation.Fragment.{Fragment}
 use Rattle.graphql_names.specs.NameValue.{NameValue}
 use Rattle.graphql_names.specs.declared.node.Node.{Node}
-use Rattle.document_meaning.specs.MeantTree.{MeantSelection, MeantOperation, MeantFragment, MeantDocument, meant}
+use Rattle.rule_document_definitions.specs.in_document_meaning.MeantTree.{MeantSelection, MeantOperation, MeantFragment, MeantDocument, meant}
 use Rattle.document_typing.specs.DocumentView.{meant_by_fragment}
 use Rattle.rule_definitions.specs.Words.{Present}
 use Rattle.rule_document_definitions.specs.Selected.{InOperation, Standing, StandingField, field_there, spread_name, fragment_named, own}

@@ -29,3 +29,6 @@ pub use field_selection::FieldSelection;
 pub use lists::Reach;
 pub use noted_names::{has_name, note_name};
 pub use reaching::reach;
+
+// Of the crates beneath, for those above.
+pub use document_typing::{BuilderRefusal, ExecutableDocumentBuilder, Schema};

@@ -1,7 +1,7 @@
 //! The two lists of what is reached.
 
-use document_typed_operations::Fragment;
 use document_typed_selections::Selection;
+use document_walks::Fragment;
 use graphql_names::Node;
 use tree_literals::NamedType;
 

@@ -4,15 +4,14 @@ ghost use Rattle.graphql_names.specs.Placed.{Place};
 ghost use Rattle.document_typed_selections.specs.TypedTree.{typed_set_tree};
 ghost use Rattle.document_walks.specs.Reached.{Member, IsReached};
 ghost use Rattle.document_walks.specs.WalkView.{fragments_tree, gathered_names};
-ghost use Rattle.document_meaning.specs.MeantTree.{MeantDocument, meant_of_set};
+ghost use Rattle.rule_document_definitions.specs.in_document_meaning.MeantTree.{MeantDocument, meant_of_set};
 ghost use Rattle.rule_document_definitions.specs.Selected.{Position, standing_in};
 ghost use Rattle.rule_document_ground.specs.Reach.{IsReach, meant_fragments, reached_fragments_of, reached_members};
 ghost use Rattle.rule_document_ground.specs.Gathered.{lent_members, lent_fragments, fragments_under, AreSpreadFrom};
 
 use crate::lists::Reach;
-use document_typed_operations::{Fragment, FragmentMap};
 use document_typed_selections::{Selection, SelectionSet};
-use document_walks::{ReachedSelections, reached_fragments};
+use document_walks::{Fragment, FragmentMap, ReachedSelections, reached_fragments};
 use graphql_names::{Name, Node};
 use indexmap::IndexSet;
 use std::alloc::{AllocError, Global};

@@ -2,7 +2,7 @@
 use Rattle.std.specs.Prelude.{Vec}
 use Rattle.std.specs.declared.alloc.Global.{Global}
 use Rattle.graphql_names.specs.Placed.{Place}
-use Rattle.graphql_schema.specs.SchemaOf.{schema_tree}
+use Rattle.rule_document_ground.specs.in_schema.SchemaOf.{schema_tree}
 use Rattle.fault_document_data.specs.declared.build_error.BuildError.{BuildError}
 use Rattle.document_typed_selections.specs.TypedTree.{typed_selection_tree}
 use Rattle.document_typed_selections.specs.declared.selection.Selection.{Selection}

@@ -13,3 +13,5 @@ pub mod Paired
 pub mod Conflicts
 -- For the layer above.
 pub use Rattle.rule_document_ground.specs as in_ground
+pub use Rattle.rule_document_ground.specs.in_typing as in_typing
+pub use Rattle.rule_document_ground.specs.in_schema as in_schema

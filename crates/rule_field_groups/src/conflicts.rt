@@ -2,7 +2,7 @@
 ghost use Rattle.std.specs.Prelude.{◌≡◌, ◌↔◌, ◌≤◌, ◌+◌, ◌++◌, ◌∷◌, min, map, take, drop, IfOk, IsTrue, OnOk};
 ghost use Rattle.schema_coordinates.specs.CoordinateView.{attribute_coordinate, argument_coordinate};
 ghost use Rattle.fault_document_data.specs.DocumentBreachView.{value_in_conflict};
-ghost use Rattle.graphql_schema.specs.SchemaOf.{schema_tree};
+ghost use Rattle.rule_document_ground.specs.in_schema.SchemaOf.{schema_tree};
 ghost use Rattle.rule_definitions.specs.Judged.{judged};
 ghost use Rattle.rule_document_definitions.specs.Merging.{SameName};
 ghost use Rattle.rule_document_definitions.specs.SameValues.{plain_given};
@@ -20,13 +20,11 @@ use fault_document_data::{
     BuildError, ConflictingFieldArgument, ConflictingFieldName, ConflictingFieldType,
 };
 use graphql_names::{Name, SourceSpan};
-use graphql_schema::Schema;
-use rule_document_ground::{FieldSelection, tell_breach};
+use rule_document_ground::{FieldSelection, Schema, tell_breach};
 use rule_same_values::differing_argument;
 use schema_coordinates::{FieldArgumentCoordinate, TypeAttributeCoordinate};
 use std::alloc::{AllocError, Global};
-use tree_copies::copies_of_three;
-use tree_literals::Value;
+use tree_literals::{Value, copies_of_three};
 
 /// What breaks a rule, with its place.
 pub type Breach = (Option<SourceSpan>, BuildError);

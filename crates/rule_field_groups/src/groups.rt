@@ -5,7 +5,7 @@ ghost use Rattle.std.specs.Str.{bytes_eq};
 ghost use Rattle.indexmap.specs.IndexMap.{get, IsUnique};
 ghost use Rattle.schema_components.specs.Names.{same_text};
 ghost use Rattle.schema_types.specs.TypeView.{name_text};
-ghost use Rattle.graphql_schema.specs.SchemaOf.{schema_tree};
+ghost use Rattle.rule_document_ground.specs.in_schema.SchemaOf.{schema_tree};
 ghost use Rattle.rule_definitions.specs.Judged.{judged};
 ghost use Rattle.rule_document_definitions.specs.Groups.{AreGroups};
 ghost use Rattle.rule_document_ground.specs.Fields.{fields_of};
@@ -17,9 +17,8 @@ ghost use Rattle.rule_field_groups.specs.KeyGroups.{filed_name, is_shared, own_l
 use crate::kinds::is_abstract;
 use crate::pass::Pass;
 use graphql_names::Name;
-use graphql_schema::Schema;
 use indexmap::IndexMap;
-use rule_document_ground::FieldSelection;
+use rule_document_ground::{FieldSelection, Schema};
 use std::alloc::{AllocError, Global};
 
 /// Adds a field after those under the name.

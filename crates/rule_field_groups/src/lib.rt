@@ -35,4 +35,6 @@ pub use conflicts::{Breach, check_group, check_key_group};
 pub use groups::{KeyGroup, groups_of};
 pub use own::{SelectionSource, own_fields_of, sources_of};
 pub use pass::Pass;
-pub use rule_document_ground::FieldSelection;
+pub use rule_document_ground::{FieldSelection, Schema};
+
+// Of the crates beneath, for those above.

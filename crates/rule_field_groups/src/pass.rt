@@ -1,6 +1,6 @@
 //! The two passes over lists of fields.
 
-use graphql_schema::Schema;
+use rule_document_ground::Schema;
 
 /// What a pass compares.
 #[derive(Clone, Copy)]

@@ -12,3 +12,5 @@ pub mod UnusedTold
 pub mod Sets
 pub mod SpreadBridge
 pub mod CyclesTold
+pub use Rattle.rule_cycles.proofs.in_schema as in_schema
+pub use Rattle.rule_document_ground.proofs as in_ground

@@ -3,7 +3,7 @@ ghost use Rattle.std.specs.Prelude.{◌≡◌, [], ◌⊎◌, true, Some, IfOk, 
 ghost use Rattle.std.specs.Option.{option_map};
 ghost use Rattle.graphql_names.specs.Placed.{Place};
 ghost use Rattle.schema_types.specs.Addresses.{TypeAt, place_at};
-ghost use Rattle.graphql_schema.specs.SchemaOf.{schema_tree};
+ghost use Rattle.rule_cycles.specs.in_schema.SchemaOf.{schema_tree};
 ghost use Rattle.document_typed_selections.specs.TypedTree.{typed_selection_tree};
 ghost use Rattle.document_typed_selections.specs.TypedParts.{typed_spread_node, typed_inline_node};
 ghost use Rattle.document_meaning.specs.MeantTree.{MeantOperation, MeantDocument, meant};
@@ -23,7 +23,7 @@ use document_typed_operations::FragmentMap;
 use document_typed_selections::{FragmentSpread, InlineFragment, Selection};
 use fault_data::{DiagnosticData, Fault, tell};
 use graphql_names::{Name, Node, SourceSpan};
-use graphql_schema::Schema;
+use rule_cycles::Schema;
 use rule_document_ground::Reach;
 use std::alloc::{AllocError, Global};
 

@@ -29,3 +29,7 @@ pub use cycles::check_cycles;
 pub use possible_types::PossibleTypes;
 pub use spreads::check_spreads;
 pub use unused::check_unused;
+
+// Of the crates beneath, for those above.
+pub use rule_cycles::Schema;
+pub use rule_document_ground::{FieldSelection, Reach, laws, note_name, reach};

@@ -2,15 +2,15 @@
 ghost use Rattle.std.specs.Prelude.{◌≡◌, ◌∷◌, [], map, IfOk, OnOk};
 ghost use Rattle.schema_components.specs.Given.{component_name_tree, given_name};
 ghost use Rattle.schema_types.specs.TypeView.{extended_type, name_text};
-ghost use Rattle.graphql_schema.specs.SchemaOf.{schema_tree};
+ghost use Rattle.rule_cycles.specs.in_schema.SchemaOf.{schema_tree};
 ghost use Rattle.rule_definitions.specs.Judged.{judged};
 ghost use Rattle.rule_fragments.specs.Possible.{ArePossible, AddsNotes, may_apply, share_one};
 ghost use Rattle.rule_fragments.specs.Noting.{object_notes, own_notes, is_object, member_note, member_notes, type_notes};
 ghost use Rattle.rule_fragments.specs.Telling.{component_names};
 
 use graphql_names::Name;
-use graphql_schema::Schema;
 use indexmap::{IndexMap, IndexSet};
+use rule_cycles::Schema;
 use schema_components::ComponentName;
 use schema_types::ExtendedType;
 use std::alloc::{AllocError, Global};

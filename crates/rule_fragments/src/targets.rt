@@ -1,6 +1,6 @@
 //! Types that fragments are on.
 ghost use Rattle.std.specs.Prelude.{◌≡◌, flat_map, None, OnOk};
-ghost use Rattle.graphql_schema.specs.SchemaOf.{schema_tree};
+ghost use Rattle.rule_cycles.specs.in_schema.SchemaOf.{schema_tree};
 ghost use Rattle.rule_document_ground.specs.Reach.{reached_fragments_of};
 ghost use Rattle.rule_fragments.specs.Listed.{is_no_composite, fragment_target, inline_target};
 ghost use Rattle.rule_fragments.specs.Telling.{AddsThese, meant_selection, invalid_target, inline_targets, AddsTargets};
@@ -11,7 +11,7 @@ use document_typed_operations::Fragment;
 use document_typed_selections::Selection;
 use fault_data::{DiagnosticData, Fault, tell};
 use graphql_names::{Name, Node, SourceSpan};
-use graphql_schema::Schema;
+use rule_cycles::Schema;
 use rule_document_ground::Reach;
 use std::alloc::AllocError;
 

@@ -10,10 +10,9 @@ ghost use Rattle.rule_merging.specs.OfProgram.{Comes, ExaminesLevel, ExaminesFro
 
 use crate::remembered::Remembered;
 use document_typed_operations::ExecutableDocument;
-use document_typing::Schema;
 use rule_field_groups::{
-    Breach, FieldSelection, KeyGroup, Pass, SelectedSet, check_key_group, groups_of, lists_below,
-    merged_list,
+    Breach, FieldSelection, KeyGroup, Pass, Schema, SelectedSet, check_key_group, groups_of,
+    lists_below, merged_list,
 };
 use rule_number_lists::ListMemory;
 use std::alloc::{AllocError, Global};

@@ -1,19 +1,18 @@
 //! The examination of an operation, in both passes.
 ghost use Rattle.std.specs.Prelude.{◌≡◌, List, IfOk, []};
-ghost use Rattle.document_typing.specs.in_schema.SchemaOf.{schema_tree};
+ghost use Rattle.rule_field_groups.specs.in_schema.SchemaOf.{schema_tree};
 ghost use Rattle.rule_definitions.specs.Judged.{judged};
 ghost use Rattle.graphql_names.specs.Placed.{Place};
 ghost use Rattle.document_meaning.specs.MeantTree.{MeantOperation, MeantDocument};
-ghost use Rattle.document_typing.specs.DocumentView.{document_meant, operation_meant};
+ghost use Rattle.rule_field_groups.specs.in_typing.DocumentView.{document_meant, operation_meant};
 ghost use Rattle.rule_definitions.specs.Judged.{Judged};
 ghost use Rattle.rule_merging.specs.Verdict.{comparisons_of, lists_examined, AreBothSettled, IsCounted, StaysCountedIn, OnlyGrow, ExaminesOperation};
 
 use crate::examination::Examination;
 use crate::remembered::Remembered;
 use document_typed_operations::{ExecutableDocument, Operation};
-use document_typing::Schema;
 use graphql_names::Node;
-use rule_field_groups::{Breach, Pass, SelectedSet};
+use rule_field_groups::{Breach, Pass, Schema, SelectedSet};
 use std::alloc::{AllocError, Global};
 
 /// What was examined in each pass, over all operations so far, and how often shapes were compared.

@@ -1,6 +1,6 @@
 -- A text cut into pieces.
 use Rattle.std.proofs.Common.{◌≡◌, ℕ, zero, suc, List, [], ◌∷◌, ◌++◌, drop, Option, Some, None, refl, sym, subst}
-use Rattle.read_values.specs.in_tokens.Lex.{Piece, piece_at, ArePieces}
+use Rattle.read_operations.specs.in_tokens.Lex.{Piece, piece_at, ArePieces}
 
 abbrev pub cut_by : Option Piece → List ℕ → (List ℕ → List Piece) → List Piece
 cut_by None text more = []

@@ -1,10 +1,10 @@
 -- The text reads as what is built in.
 use Rattle.std.proofs.Common.{◌≡◌, true, Ok, Err, refl}
 use Rattle.graphql_names.specs.declared.span.FileId.{FileId}
-use Rattle.read_values.specs.in_tokens.Lex.{Lex}
-use Rattle.read_values.specs.in_grammar.Meaning.{start}
-use Rattle.read_values.specs.Meanings.{in_file}
-use Rattle.read_values.proofs.in_grammar.Laws.{document_found, document_within}
+use Rattle.read_operations.specs.in_tokens.Lex.{Lex}
+use Rattle.read_operations.specs.in_grammar.Meaning.{start}
+use Rattle.read_operations.specs.Meanings.{in_file}
+use Rattle.read_operations.proofs.in_grammar.Laws.{document_found, document_within}
 use Rattle.schema_built_in.specs.Table.{built_in_definitions}
 use Rattle.rule_schema_laws.specs.BuiltInText.{built_in_text}
 use Rattle.rule_schema_laws.specs.BuiltInTextReads.{TextReads}

@@ -1,24 +1,24 @@
 -- The text's tokens, read by the reference parser.
 use Rattle.std.proofs.Common.{◌≡◌, List, [], ◌++◌, Bool, true, false, Ok, Err, refl}
-use Rattle.read_values.specs.in_definitions.DefinitionTree.{DefinitionTree, unplaced_document}
+use Rattle.read_operations.specs.in_definitions.DefinitionTree.{DefinitionTree, unplaced_document}
 use Rattle.graphql_names.specs.Placed.{Place}
 use Rattle.graphql_names.specs.declared.span.FileId.{FileId}
-use Rattle.read_values.specs.in_tokens.Input.{Token, Input}
-use Rattle.read_values.specs.in_tokens.Terminals.{words}
-use Rattle.read_values.specs.in_tokens.Bytes.{run_len, replaced}
-use Rattle.read_values.specs.in_tokens.Tokens.{ignored_at, string_at, token_at}
-use Rattle.read_values.specs.in_tokens.Lex.{piece_at, tokens_among}
-use Rattle.read_values.specs.in_tokens.Strings.{unicode_at, escape_at, part_len, part_at, quoted_len, string_value}
+use Rattle.read_operations.specs.in_tokens.Input.{Token, Input}
+use Rattle.read_operations.specs.in_tokens.Terminals.{words}
+use Rattle.read_operations.specs.in_tokens.Bytes.{run_len, replaced}
+use Rattle.read_operations.specs.in_tokens.Tokens.{ignored_at, string_at, token_at}
+use Rattle.read_operations.specs.in_tokens.Lex.{piece_at, tokens_among}
+use Rattle.read_operations.specs.in_tokens.Strings.{unicode_at, escape_at, part_len, part_at, quoted_len, string_value}
 use Rattle.schema_built_in.specs.in_fold.BuiltIn.{built_in_directives, built_in_scalars, introspection_types}
-use Rattle.read_values.specs.in_grammar.Meaning.{start}
-use Rattle.read_values.specs.in_grammar.Locations.{location_of}
-use Rattle.read_values.specs.in_grammar.Reading.{Outcome, whole, take, many, many_within, some}
-use Rattle.read_values.specs.in_grammar.ValueReading as v
-use Rattle.read_values.specs.in_grammar.OperationReading as o
-use Rattle.read_values.specs.in_grammar.TypeSystemReading as y
-use Rattle.read_values.specs.in_grammar.DocumentReading as d
-use Rattle.read_values.specs.in_grammar.Places.{place_in}
-use Rattle.read_values.specs.Meanings.{in_file}
+use Rattle.read_operations.specs.in_grammar.Meaning.{start}
+use Rattle.read_operations.specs.in_grammar.Locations.{location_of}
+use Rattle.read_operations.specs.in_grammar.Reading.{Outcome, whole, take, many, many_within, some}
+use Rattle.read_operations.specs.in_grammar.ValueReading as v
+use Rattle.read_operations.specs.in_grammar.OperationReading as o
+use Rattle.read_operations.specs.in_grammar.TypeSystemReading as y
+use Rattle.read_operations.specs.in_grammar.DocumentReading as d
+use Rattle.read_operations.specs.in_grammar.Places.{place_in}
+use Rattle.read_operations.specs.Meanings.{in_file}
 use Rattle.rule_schema_laws.specs.BuiltInText.{built_in_text}
 use Rattle.rule_schema_laws.proofs.BuiltInPieces.{pieces}
 

@@ -1,9 +1,9 @@
 -- The pieces of the text, definition by definition.
 use Rattle.std.proofs.Common.{ℕ, List, [], ◌∷◌, ◌++◌, refl}
-use Rattle.read_values.specs.in_tokens.Bytes.{run_len}
-use Rattle.read_values.specs.in_tokens.Strings.{quoted_len, part_len}
-use Rattle.read_values.specs.in_tokens.Tokens.{ignored_at, string_at, token_at}
-use Rattle.read_values.specs.in_tokens.Lex.{Piece, piece_at, ArePieces}
+use Rattle.read_operations.specs.in_tokens.Bytes.{run_len}
+use Rattle.read_operations.specs.in_tokens.Strings.{quoted_len, part_len}
+use Rattle.read_operations.specs.in_tokens.Tokens.{ignored_at, string_at, token_at}
+use Rattle.read_operations.specs.in_tokens.Lex.{Piece, piece_at, ArePieces}
 use Rattle.rule_schema_laws.specs.BuiltInText.{skip_text, include_text, deprecated_text, specified_by_text, scalars_text, schema_text, type_text, type_kind_text, field_text, input_value_text, enum_value_text, directive_text, directive_location_text, built_in_text}
 use Rattle.rule_schema_laws.proofs.BuiltInCutting.{cut, cut_are, join}
 

@@ -13,7 +13,7 @@ use Rattle.graphql_read.specs.in_tokens.Lex.{Lex}
 use Rattle.graphql_read.specs.in_grammar.Rules.{Rule}
 use Rattle.graphql_read.specs.in_grammar.Grammar.{DerivesAs}
 use Rattle.graphql_read.specs.in_grammar.ValueGrammar.{value, constant}
-use Rattle.graphql_read.specs.in_read_values.Meanings.{in_file}
+use Rattle.graphql_read.specs.in_read_operations.Meanings.{in_file}
 use Rattle.graphql_read.specs.Reads.{HasTree}
 use Rattle.read_again.specs.Printed.{Follow, ends_word, before, Printed}
 use Rattle.read_again.specs.WellFormed.{value_depth}

@@ -2,12 +2,12 @@
 use Rattle.std.specs.Prelude.{◌≡◌, ◌≤◌, List}
 use Rattle.graphql_names.specs.declared.span.FileId.{FileId}
 use Rattle.graphql_names.specs.Placed.{Place}
-use Rattle.read_values.specs.in_definitions.DefinitionTree.{DefinitionTree, unplaced_document}
-use Rattle.read_values.specs.in_tokens.Input.{Token}
-use Rattle.read_values.specs.in_tokens.Lex.{Lex}
-use Rattle.read_values.specs.in_grammar.Grammar.{Derives}
-use Rattle.read_values.specs.in_grammar.Depth.{depth}
-use Rattle.read_values.specs.Meanings.{in_file}
+use Rattle.read_operations.specs.in_definitions.DefinitionTree.{DefinitionTree, unplaced_document}
+use Rattle.read_operations.specs.in_tokens.Input.{Token}
+use Rattle.read_operations.specs.in_tokens.Lex.{Lex}
+use Rattle.read_operations.specs.in_grammar.Grammar.{Derives}
+use Rattle.read_operations.specs.in_grammar.Depth.{depth}
+use Rattle.read_operations.specs.Meanings.{in_file}
 use Rattle.schema_built_in.specs.Table.{built_in_definitions}
 use Rattle.rule_schema_laws.specs.BuiltInText.{built_in_text}
 

@@ -9,7 +9,7 @@ use Rattle.tree_literals.specs.ValueLayout.{value_text}
 use Rattle.tree_literals.specs.ValueWritable.{can_be_enum}
 use Rattle.graphql_read.specs.in_grammar.Grammar.{DerivesAs}
 use Rattle.graphql_read.specs.in_grammar.ValueGrammar.{value, constant}
-use Rattle.graphql_read.specs.in_read_values.Meanings.{in_file}
+use Rattle.graphql_read.specs.in_read_operations.Meanings.{in_file}
 use Rattle.graphql_read.specs.Reads.{HasTree}
 use Rattle.rule_definitions.specs.in_schema_types.SchemaTree.{is_input_kind}
 use Rattle.rule_definitions.specs.in_schema_types.declared.type_kind.TypeKind.TheVariants as kind

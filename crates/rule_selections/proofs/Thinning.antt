@@ -13,9 +13,9 @@ use Rattle.document_typed_selections.specs.TypedParts.{and_then, set_and}
 use Rattle.document_typed_operations.specs.TypedDocument.{TypedFragment, typed_fragment_tree}
 use Rattle.document_typed_operations.specs.declared.operation.Fragment.{Fragment}
 use Rattle.document_meaning.specs.MeantTree.{MeantFragment, set_on, no_meant, meant_set, meant, meant_of_set, meant_of_all}
-use Rattle.document_typing.specs.DocumentView.{meant_by_fragment}
-use Rattle.document_typing.specs.Meanings.{meanings}
-use Rattle.document_typing.specs.TypedByPlace.{IsTyped}
+use Rattle.rule_document_ground.specs.in_typing.DocumentView.{meant_by_fragment}
+use Rattle.rule_document_ground.specs.in_typing.Meanings.{meanings}
+use Rattle.rule_document_ground.specs.in_typing.TypedByPlace.{IsTyped}
 use Rattle.rule_definitions.specs.Told.{PlacedFault}
 use Rattle.rule_definitions.specs.Words.{AtSomeIndex}
 use Rattle.rule_definitions.proofs.Listing.{Gains}

@@ -11,9 +11,9 @@ use Rattle.document_typed_selections.specs.TypedParts.{set_and}
 use Rattle.document_typed_operations.specs.TypedDocument.{typed_fragment_tree}
 use Rattle.document_typed_operations.specs.declared.operation.Fragment.{Fragment}
 use Rattle.document_meaning.specs.MeantTree.{MeantSelection, MeantField, MeantSpread, MeantInline, MeantSet, meant_set, MeantSelections, no_meant, meant_then, set_on, meant_of_set, MeantFragment, MeantDocument, meant}
-use Rattle.document_typing.specs.DocumentView.{meant_by_fragment}
-use Rattle.document_typing.specs.Meanings.{meanings}
-use Rattle.document_typing.specs.TypedByPlace.{IsTyped}
+use Rattle.rule_document_ground.specs.in_typing.DocumentView.{meant_by_fragment}
+use Rattle.rule_document_ground.specs.in_typing.Meanings.{meanings}
+use Rattle.rule_document_ground.specs.in_typing.TypedByPlace.{IsTyped}
 use Rattle.rule_definitions.specs.Told.{PlacedFault}
 use Rattle.rule_document_definitions.specs.Reached.{Closed, LeadsInto}
 use Rattle.rule_document_definitions.specs.Selected.{InOperation, Standing, standing_in}

@@ -4,19 +4,21 @@ ghost use Rattle.std.specs.Option.{option_map};
 ghost use Rattle.graphql_names.specs.Node.{content};
 ghost use Rattle.schema_types.specs.SchemaTree.{is_leaf_kind, is_output_kind};
 ghost use Rattle.schema_types.specs.Addresses.{type_at};
-ghost use Rattle.graphql_schema.specs.SchemaOf.{schema_tree};
+ghost use Rattle.rule_document_ground.specs.in_schema.SchemaOf.{schema_tree};
 ghost use Rattle.fault_data.specs.FaultView.{fault_of};
 ghost use Rattle.fault_data.specs.Adds.{Adds};
 ghost use Rattle.rule_definitions.specs.Judged.{judged};
-ghost use Rattle.rule_values.specs.Telling.{Tells};
-ghost use Rattle.rule_values.specs.Wanting.{variables_of};
+ghost use Rattle.rule_uses.specs.in_rule_values.Telling.{Tells};
+ghost use Rattle.rule_uses.specs.in_rule_values.Wanting.{variables_of};
 ghost use Rattle.rule_selections.specs.Steps.{standing_field, missing_subselection, without_subselection};
 ghost use Rattle.rule_selections.specs.Telling.{AddsTaken, AddsOfField};
 
 use document_typed_selections::Field;
 use graphql_names::{Name, Node};
-use rule_uses::{Taker, TakerName, check_given, check_taken};
-use rule_values::{DefinedVariables, DiagnosticData, Fault, Schema, TypeAttributeCoordinate, tell};
+use rule_uses::{
+    DefinedVariables, DiagnosticData, Fault, Schema, Taker, TakerName, TypeAttributeCoordinate,
+    check_given, check_taken, tell,
+};
 use schema_types::TypeKind;
 use std::alloc::AllocError;
 

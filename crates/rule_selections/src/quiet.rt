@@ -1,7 +1,7 @@
 //! Selections of which nothing is told, whatever the variables of an operation.
 ghost use Rattle.std.specs.Prelude.{◌≡◌, ◌↔◌, [], true, Contains, IfOk, IsTrue};
 ghost use Rattle.graphql_names.specs.Placed.{Place, name_tree};
-ghost use Rattle.graphql_schema.specs.SchemaOf.{schema_tree};
+ghost use Rattle.rule_document_ground.specs.in_schema.SchemaOf.{schema_tree};
 ghost use Rattle.document_typed_selections.specs.TypedTree.{typed_set, no_typed, typed_then, typed_selection_tree, typed_set_tree};
 ghost use Rattle.document_meaning.specs.MeantTree.{meant};
 ghost use Rattle.fault_data.specs.FaultView.{faults_of};
@@ -12,7 +12,7 @@ use crate::selections::check_each_selection;
 use document_typed_selections::{Selection, SelectionSet};
 use indexmap::IndexMap;
 use rule_document_ground::{Reach, reach};
-use rule_values::{DefinedVariables, Fault, Schema};
+use rule_uses::{DefinedVariables, Fault, Schema};
 use std::alloc::{AllocError, Global};
 use tree_literals::NamedType;
 

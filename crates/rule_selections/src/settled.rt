@@ -1,8 +1,8 @@
 //! What replaces the fragments of a document, so that what its operations share is judged once.
 ghost use Rattle.std.specs.Prelude.{IfOk, OnOk, unwrap_or};
-ghost use Rattle.graphql_schema.specs.SchemaOf.{schema_tree};
+ghost use Rattle.rule_document_ground.specs.in_schema.SchemaOf.{schema_tree};
 ghost use Rattle.document_typed_selections.specs.TypedTree.{typed_set_tree};
-ghost use Rattle.document_typing.specs.DocumentView.{document_meant};
+ghost use Rattle.rule_document_ground.specs.in_typing.DocumentView.{document_meant};
 ghost use Rattle.rule_document_ground.specs.Reach.{meant_fragments};
 ghost use Rattle.rule_selections.specs.Settled.{fragment_meant, LeavesOf, StandsInFor, StandIn};
 ghost use Rattle.rule_selections.specs.Telling.{KeepsSelection, StillStandIn};
@@ -11,7 +11,7 @@ use crate::quiet::is_quiet;
 use document_typed_operations::{ExecutableDocument, Fragment, FragmentMap};
 use document_typed_selections::{Selection, SelectionSet};
 use graphql_names::{Name, Node};
-use rule_values::Schema;
+use rule_uses::Schema;
 use std::alloc::{AllocError, Global};
 use tree_literals::NamedType;
 

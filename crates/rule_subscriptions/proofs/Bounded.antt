@@ -7,7 +7,7 @@ use Rattle.document_meaning.specs.MeantTree.{MeantSet, meant_set, MeantSelection
 use Rattle.rule_document_definitions.specs.Selected.{Position, InOperation, InFragment, SelectionAt, Standing, stand, standing_in, all_in, all_from, all_below, all_selections, operation_name, operations, fragments, own, held}
 use Rattle.rule_document_definitions.specs.Limits.{path_bound, entered, PassesPathBound}
 use Rattle.rule_subscriptions.specs.Nested.{NestsTooDeep, deeper_in, some_nests}
-use Rattle.rule_always.proofs.Staying.{or_cases, or_left, or_right, any_index, index_any}
+use Rattle.rule_subscriptions.proofs.Staying.{or_cases, or_left, or_right, any_index, index_any}
 use Rattle.rule_subscriptions.proofs.Nested.{Path, path_in, path_deeper, way_enters, enters_none, none_again}
 
 module _ {P : Type 0} where

@@ -18,11 +18,11 @@ use Rattle.rule_document_definitions.specs.DocumentFaults.{Broken, broken}
 use Rattle.rule_document_definitions.specs.Selected.{Position, Standing, field_there, selection_directives}
 use Rattle.rule_document_definitions.specs.DeferUses.{given_if, IsConditional}
 use Rattle.rule_document_definitions.specs.Defer.{DeferOnRootMutationOrSubscriptionFieldAt, DeferInSubscriptionMustBeConditionalAt, DeferBreaks}
-use Rattle.rule_always.specs.Stays.{is_directive}
+use Rattle.rule_subscriptions.specs.Stays.{is_directive}
 use Rattle.rule_subscriptions.specs.Listed.{deferred_at_root, fragment_deferred, is_condition, is_conditional, deferred_always, always_deferred}
 use Rattle.rule_subscriptions.specs.Rooted.{AreRoots}
-use Rattle.rule_always.specs.Always.{AreAlways}
-use Rattle.rule_always.proofs.Staying.{or_left, or_right, and_both, and_is, not_true}
+use Rattle.rule_subscriptions.specs.Always.{AreAlways}
+use Rattle.rule_subscriptions.proofs.Staying.{or_left, or_right, and_both, and_is, not_true}
 use Rattle.rule_subscriptions.proofs.Listing.{when_true, true_when, at_index, index_at, filtered, in_filter, mapped_told, told_mapped}
 
 -- ---- uses of @defer among directives

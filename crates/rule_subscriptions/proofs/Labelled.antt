@@ -22,7 +22,7 @@ use Rattle.schema_components.specs.Lists.{each_place_after, each_place}
 use Rattle.schema_components.proofs.Places.{found_at, given_at, found_among, given_among}
 use Rattle.document_meaning.specs.MeantTree.{MeantSelection, MeantField, MeantSpread, MeantInline, MeantSet, meant_set, MeantSelections, no_meant, meant_then, MeantOperation, MeantFragment, MeantDocument}
 use Rattle.document_typed_operations.specs.declared.document.ExecutableDocument.{ExecutableDocument}
-use Rattle.document_typing.specs.DocumentView.{document_meant}
+use Rattle.rule_document_ground.specs.in_typing.DocumentView.{document_meant}
 use Rattle.fault_document_data.specs.DocumentBreaches.{DeferLabelMustNotBeVariable, DuplicateDeferLabel}
 use Rattle.rule_definitions.specs.Words.{Present, AtSomeIndex, FirstNamed, Repeats}
 use Rattle.rule_document_definitions.specs.DocumentFaults.{Broken, broken}
@@ -31,11 +31,11 @@ use Rattle.rule_document_definitions.specs.DeferUses.{defers, labels, string_lab
 use Rattle.rule_document_definitions.specs.Defer.{LabelsBreak}
 use Rattle.rule_definitions.proofs.Firsts.{earlier_is_found}
 use Rattle.rule_definitions.proofs.Listing.{Lists, lists_same, lists_both, lists_one, lists_present, lists_index, lists_places, places_more, mapped_more}
-use Rattle.rule_always.specs.Inside.{contents_along, contents_below}
+use Rattle.rule_subscriptions.specs.Inside.{contents_along, contents_below}
 use Rattle.rule_subscriptions.specs.Labels.{values_meant, label_of, labels_of, labels_in, text_label, string_label, variable_label, label_again, first_place, duplicate_label, label_breaks, AreFirstPlaces, NotesFirst, NotesLabel, told_again}
-use Rattle.rule_always.specs.Stays.{is_directive, all_stay}
+use Rattle.rule_subscriptions.specs.Stays.{is_directive, all_stay}
 use Rattle.rule_subscriptions.specs.Rooted.{operation_set, fragment_set, alone_told}
-use Rattle.rule_always.proofs.Sets.{flat_map-flat_map}
+use Rattle.rule_subscriptions.proofs.AlwaysSets.{flat_map-flat_map}
 use Rattle.rule_subscriptions.proofs.Sets.{document_told}
 
 -- what is given of some elements, piece by piece

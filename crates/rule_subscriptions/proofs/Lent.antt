@@ -9,7 +9,7 @@ use Rattle.document_typed_selections.specs.declared.selection.Selection.{Selecti
 use Rattle.document_meaning.specs.MeantTree.{MeantSelection, meant}
 use Rattle.document_walks.specs.Reached.{Member}
 use Rattle.document_walks.specs.WalkView.{lent_member}
-use Rattle.rule_always.specs.Lent.{lent, lent_all}
+use Rattle.rule_subscriptions.specs.Lent.{lent, lent_all}
 
 abbrev pub members_lent : List (Member Place) → List (MeantSelection Place)
 members_lent es = map (λ e. meant e.1) es

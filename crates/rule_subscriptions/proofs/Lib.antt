@@ -11,3 +11,12 @@ pub mod Introspected
 pub mod Labelled
 pub mod Operations
 pub mod InDocuments
+pub mod Mapped
+pub mod Inside
+pub mod Closing
+pub mod Lookups
+pub mod Telling
+pub mod Staying
+pub mod Found
+pub mod AlwaysSets
+pub mod Entering

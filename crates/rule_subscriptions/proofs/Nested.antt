@@ -11,7 +11,7 @@ use Rattle.rule_definitions.specs.Words.{Present}
 use Rattle.rule_document_definitions.specs.Selected.{Position, SelectionAt, Standing, StandingField, field_there, in_inline, stand, standing_in, spread_name}
 use Rattle.rule_document_definitions.specs.Limits.{entered, Enters}
 use Rattle.rule_subscriptions.specs.Nested.{HasInside, deeper_in, deeper_along, deeper_of}
-use Rattle.rule_always.proofs.Staying.{or_cases, or_left, or_right}
+use Rattle.rule_subscriptions.proofs.Staying.{or_cases, or_left, or_right}
 
 module _ {P : Type 0} (d : MeantDocument P) where
   -- a path in one text from one of these

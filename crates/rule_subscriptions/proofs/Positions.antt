@@ -6,10 +6,10 @@ use Rattle.std.proofs.lemmas.List.Elements.{Contains-append_right, Contains-appe
 use Rattle.rule_cycle_search.proofs.Lists.{not_in_nil, Contains-cons, Contains-first}
 use Rattle.document_meaning.specs.MeantTree.{MeantSelection, MeantField, MeantSpread, MeantInline, MeantSet, meant_set, MeantSelections, no_meant, meant_then}
 use Rattle.rule_document_definitions.specs.Selected.{Position, InOperation, InFragment, SelectionAt, Standing}
-use Rattle.rule_always.specs.Inside.{inside, inside_from, inside_below}
+use Rattle.rule_subscriptions.specs.Inside.{inside, inside_from, inside_below}
 use Rattle.rule_subscriptions.specs.Rooted.{Apart}
-use Rattle.rule_always.proofs.Mapped.{mapped_in}
-use Rattle.rule_always.proofs.Inside.{head, here}
+use Rattle.rule_subscriptions.proofs.Mapped.{mapped_in}
+use Rattle.rule_subscriptions.proofs.Inside.{head, here}
 
 -- ---- lists
 

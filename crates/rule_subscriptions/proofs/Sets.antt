@@ -15,14 +15,14 @@ use Rattle.document_typed_operations.specs.declared.operation.Operation.{Operati
 use Rattle.document_typed_operations.specs.declared.operation.Fragment.{Fragment}
 use Rattle.document_typed_operations.specs.declared.document.ExecutableDocument.{ExecutableDocument}
 use Rattle.document_meaning.specs.MeantTree.{MeantSet, MeantOperation, MeantFragment, meant_of_set, meant_of_all}
-use Rattle.document_typing.specs.DocumentView.{meant_by_operation, meant_by_fragment, document_meant}
+use Rattle.rule_document_ground.specs.in_typing.DocumentView.{meant_by_operation, meant_by_fragment, document_meant}
 use Rattle.rule_document_definitions.specs.Selected.{operations, fragments}
 use Rattle.rule_document_definitions.specs.Limits.{path_bound}
 use Rattle.rule_subscriptions.specs.Nested.{deeper_in, deeper_along, deeper_of, some_nests}
-use Rattle.rule_always.specs.Lent.{lent}
+use Rattle.rule_subscriptions.specs.Lent.{lent}
 use Rattle.rule_subscriptions.specs.Rooted.{operation_set, fragment_set, alone_so, alone_told}
 use Rattle.std.proofs.lemmas.List.{take_all}
-use Rattle.rule_always.proofs.Telling.{any_there}
+use Rattle.rule_subscriptions.proofs.Telling.{any_there}
 
 deeper_each : (b : ℕ) (ss : List Selection) → deeper_along b (meant_of_all (typed_selections typed_selection_tree ss)) ≡ list_any (λ s. deeper_of b (lent s)) ss
 deeper_each b [] = refl

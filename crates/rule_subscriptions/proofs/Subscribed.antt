@@ -20,12 +20,12 @@ use Rattle.rule_document_definitions.specs.Reached.{AtRoot}
 use Rattle.rule_document_definitions.specs.RootFields.{meta_field_names, IsRootField, AreRootFields}
 use Rattle.rule_document_definitions.specs.Subscriptions.{SubscriptionUsesMultipleFieldsAt, SubscriptionUsesIntrospectionAt, SubscriptionUsesConditionalSelectionAt}
 use Rattle.rule_subscriptions.specs.Told.{FragmentsUnderOwnNames, TellsSubscription}
-use Rattle.rule_always.specs.Stays.{is_directive}
+use Rattle.rule_subscriptions.specs.Stays.{is_directive}
 use Rattle.rule_subscriptions.specs.Listed.{root_names, multiple_fields, introspection, conditional, at_root}
 use Rattle.rule_subscriptions.specs.Rooted.{Apart, AreRoots}
-use Rattle.rule_always.proofs.Mapped.{in_mapped}
-use Rattle.rule_always.proofs.Staying.{or_cases, or_left, or_right, named_so, so_named}
-use Rattle.rule_always.proofs.Found.{name_here}
+use Rattle.rule_subscriptions.proofs.Mapped.{in_mapped}
+use Rattle.rule_subscriptions.proofs.Staying.{or_cases, or_left, or_right, named_so, so_named}
+use Rattle.rule_subscriptions.proofs.Found.{name_here}
 use Rattle.rule_subscriptions.proofs.Listing.{when_true, true_when, at_index, index_at, option_in, in_option, mapped_told, told_mapped}
 
 pub name_back : (n : List ℕ) (names : List (List ℕ)) → Contains names n → list_any (bytes_eq n) names ≡ true

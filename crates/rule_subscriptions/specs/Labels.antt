@@ -14,8 +14,8 @@ use Rattle.document_meaning.specs.MeantTree.{MeantSelection, MeantSet}
 use Rattle.fault_document_data.specs.DocumentBreaches.{DeferLabelMustNotBeVariable, DuplicateDeferLabel}
 use Rattle.rule_document_definitions.specs.DocumentFaults.{Broken, broken}
 use Rattle.rule_document_definitions.specs.Selected.{selection_directives}
-use Rattle.rule_always.specs.Inside.{contents_in, contents_of}
-use Rattle.rule_always.specs.Stays.{is_directive, all_stay}
+use Rattle.rule_subscriptions.specs.Inside.{contents_in, contents_of}
+use Rattle.rule_subscriptions.specs.Stays.{is_directive, all_stay}
 
 -- the values of nodes, with their places
 abbrev pub values_meant : List (Node Value) → List (Placed Place (ValueTree Place))

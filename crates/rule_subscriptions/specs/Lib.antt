@@ -5,3 +5,7 @@ pub mod Nested
 pub mod Rooted
 pub mod Labels
 pub mod Documents
+pub mod Always
+pub mod Inside
+pub mod Stays
+pub mod Lent

@@ -13,7 +13,7 @@ use Rattle.rule_document_definitions.specs.DocumentFaults.{Broken, broken}
 use Rattle.rule_document_definitions.specs.Selected.{operation_name, selection_directives}
 use Rattle.rule_document_definitions.specs.RootFields.{meta_field_names}
 use Rattle.rule_document_definitions.specs.DeferUses.{given_if}
-use Rattle.rule_always.specs.Stays.{is_directive}
+use Rattle.rule_subscriptions.specs.Stays.{is_directive}
 
 module _ {P : Type 0} where
   -- ---- subscriptions

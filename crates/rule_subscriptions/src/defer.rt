@@ -3,19 +3,19 @@
 ghost use Rattle.std.specs.Prelude.{◌≡◌, flat_map, OnOk};
 ghost use Rattle.graphql_names.specs.Placed.{node_tree};
 ghost use Rattle.tree_directives.specs.DirectiveTree.{directive_tree};
-ghost use Rattle.document_typing.specs.DocumentView.{document_meant, operation_meant};
+ghost use Rattle.rule_document_ground.specs.in_typing.DocumentView.{document_meant, operation_meant};
 ghost use Rattle.rule_document_definitions.specs.Defer.{DeferBreaks};
 ghost use Rattle.rule_subscriptions.specs.Broken.{AddsBroken, AddsThese};
 ghost use Rattle.rule_subscriptions.specs.Listed.{deferred_at_root, fragment_deferred, is_conditional, deferred_always, always_deferred};
-ghost use Rattle.rule_always.specs.Lent.{lent, lent_all};
+ghost use Rattle.rule_subscriptions.specs.Lent.{lent, lent_all};
 
+use crate::always::always_reached;
 use crate::breach::Breach;
 use crate::roots::root_selections;
 use document_typed_operations::{ExecutableDocument, Operation};
 use document_typed_selections::Selection;
 use fault_document_data::BuildError;
 use graphql_names::Node;
-use rule_always::always_reached;
 use rule_document_ground::tell_breach;
 use std::alloc::AllocError;
 use tree_directives::Directive;

@@ -7,13 +7,13 @@ ghost use Rattle.tree_literals.specs.ValueTree.{value_tree};
 ghost use Rattle.tree_directives.specs.DirectiveTree.{directive_tree};
 ghost use Rattle.document_meaning.specs.MeantTree.{meant_of_set};
 ghost use Rattle.document_typed_selections.specs.TypedTree.{typed_set_tree};
-ghost use Rattle.document_typing.specs.DocumentView.{document_meant};
+ghost use Rattle.rule_document_ground.specs.in_typing.DocumentView.{document_meant};
 ghost use Rattle.rule_document_definitions.specs.DeferUses.{labels};
 ghost use Rattle.rule_document_definitions.specs.Defer.{LabelsBreak};
 ghost use Rattle.indexmap.specs.IndexMap.{get_by_text};
 ghost use Rattle.rule_subscriptions.specs.Broken.{AddsBroken, AddsThese};
 ghost use Rattle.rule_subscriptions.specs.Labels.{values_meant, label_of, labels_of, labels_at, labels_in, variable_label, label_again, label_breaks, told_again, NotesFirst, NotesLabel};
-ghost use Rattle.rule_always.specs.Lent.{lent};
+ghost use Rattle.rule_subscriptions.specs.Lent.{lent};
 ghost use Rattle.rule_subscriptions.specs.Rooted.{operation_set, fragment_set, alone_told};
 
 use crate::breach::Breach;

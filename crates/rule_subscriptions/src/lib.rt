@@ -7,6 +7,7 @@
 //! Begin with `documents.rt`, then `subscriptions.rt`, `defer.rt` and `labels.rt`.
 #![tactic(auto)]
 
+mod always;
 mod breach;
 mod defer;
 mod documents;

@@ -3,10 +3,10 @@ ghost use Rattle.std.specs.Prelude.{◌≡◌, IsTrue};
 ghost use Rattle.std.specs.List.{list_any};
 ghost use Rattle.document_meaning.specs.MeantTree.{meant_of_set};
 ghost use Rattle.document_typed_selections.specs.TypedTree.{typed_set_tree};
-ghost use Rattle.document_typing.specs.DocumentView.{document_meant};
+ghost use Rattle.rule_document_ground.specs.in_typing.DocumentView.{document_meant};
 ghost use Rattle.rule_document_definitions.specs.Limits.{path_bound, PassesPathBound};
 ghost use Rattle.rule_subscriptions.specs.Nested.{NestsTooDeep, deeper_in, deeper_of, some_nests};
-ghost use Rattle.rule_always.specs.Lent.{lent};
+ghost use Rattle.rule_subscriptions.specs.Lent.{lent};
 ghost use Rattle.rule_subscriptions.specs.Rooted.{operation_set, fragment_set, alone_so};
 
 use document_typed_operations::{ExecutableDocument, Fragment, Operation};

@@ -1,8 +1,8 @@
 //! The selections at the root of an operation.
 ghost use Rattle.std.specs.Prelude.{IfOk};
-ghost use Rattle.document_typing.specs.DocumentView.{document_meant, operation_meant};
+ghost use Rattle.rule_document_ground.specs.in_typing.DocumentView.{document_meant, operation_meant};
 ghost use Rattle.rule_subscriptions.specs.Rooted.{AreRoots};
-ghost use Rattle.rule_always.specs.Lent.{lent_all};
+ghost use Rattle.rule_subscriptions.specs.Lent.{lent_all};
 
 use document_typed_operations::{ExecutableDocument, Operation};
 use document_typed_selections::Selection;

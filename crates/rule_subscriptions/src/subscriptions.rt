@@ -4,11 +4,11 @@ ghost use Rattle.std.specs.List.{list_any};
 ghost use Rattle.std.specs.Str.{bytes_eq};
 ghost use Rattle.graphql_names.specs.Placed.{node_tree};
 ghost use Rattle.tree_directives.specs.DirectiveTree.{directive_tree};
-ghost use Rattle.document_typing.specs.DocumentView.{document_meant, operation_meant};
+ghost use Rattle.rule_document_ground.specs.in_typing.DocumentView.{document_meant, operation_meant};
 ghost use Rattle.rule_document_definitions.specs.RootFields.{meta_field_names};
 ghost use Rattle.rule_subscriptions.specs.Broken.{AddsThese};
 ghost use Rattle.rule_subscriptions.specs.Listed.{root_names, multiple_fields, introspection, conditional, at_root};
-ghost use Rattle.rule_always.specs.Lent.{lent, lent_all};
+ghost use Rattle.rule_subscriptions.specs.Lent.{lent, lent_all};
 ghost use Rattle.rule_subscriptions.specs.Told.{FragmentsUnderOwnNames, AddsSubscription};
 
 use crate::breach::Breach;

@@ -11,3 +11,4 @@ pub mod Numbered
 pub mod Uses
 pub mod Alone
 pub mod SchemaSteps
+pub use Rattle.rule_values.proofs as in_rule_values

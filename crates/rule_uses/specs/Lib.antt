@@ -9,3 +9,5 @@ pub mod Steps
 pub mod Telling
 -- The crates beneath, for those above.
 pub use Rattle.rule_values.specs.in_rule_definitions as in_rule_definitions
+pub use Rattle.rule_values.specs.in_fault_data as in_fault_data
+pub use Rattle.rule_values.specs as in_rule_values

@@ -23,3 +23,9 @@ pub use schema_uses::check_schema_directives;
 pub use taken::check_taken;
 pub use taker::{Taker, TakerName};
 pub use usage::usage_fault;
+
+// Of the crates beneath, for those above.
+pub use rule_values::{
+    DefinedVariables, DiagnosticData, Fault, Schema, TypeAttributeCoordinate, check_value,
+    note_first, tell, type_breaks, unique_input_values,
+};

@@ -2,10 +2,10 @@
 ghost use Rattle.std.specs.Prelude.{◌≡◌, OnOk};
 ghost use Rattle.graphql_names.specs.Placed.{Place, node_tree};
 ghost use Rattle.document_typed_operations.specs.TypedDocument.{typed_operation_tree};
-ghost use Rattle.document_typing.specs.DocumentView.{meant_by_operation};
-ghost use Rattle.rule_values.specs.in_schema.SchemaOf.{schema_tree};
-ghost use Rattle.rule_values.specs.in_fault_data.Adds.{Adds};
-ghost use Rattle.rule_values.specs.Wanting.{variables_of};
+ghost use Rattle.rule_document_ground.specs.in_typing.DocumentView.{meant_by_operation};
+ghost use Rattle.rule_document_ground.specs.in_schema.SchemaOf.{schema_tree};
+ghost use Rattle.rule_uses.specs.in_fault_data.Adds.{Adds};
+ghost use Rattle.rule_uses.specs.in_rule_values.Wanting.{variables_of};
 ghost use Rattle.schema_types.specs.Addresses.{Address};
 ghost use Rattle.document_meaning.specs.MeantTree.{MeantDocument};
 ghost use Rattle.rule_document_ground.specs.Reach.{IsReachOf};
@@ -21,7 +21,7 @@ use document_typed_operations::Operation;
 use graphql_names::{Name, Node};
 use indexmap::IndexSet;
 use rule_document_ground::Reach;
-use rule_values::{Fault, Schema};
+use rule_uses::{Fault, Schema};
 use std::alloc::AllocError;
 use tree_operations::VariableDefinition;
 

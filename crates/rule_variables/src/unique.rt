@@ -5,15 +5,15 @@ ghost use Rattle.tree_operations.specs.OperationTree.{variable_definition_tree};
 ghost use Rattle.schema_components.specs.Lists.{each_place};
 ghost use Rattle.rule_definitions.specs.Names.{defined_name};
 ghost use Rattle.rule_definitions.specs.Words.{AtSomeIndex};
-ghost use Rattle.rule_values.specs.in_fault_data.Adds.{Adds};
-ghost use Rattle.rule_values.specs.Firsts.{AreFirsts};
-ghost use Rattle.rule_values.specs.Telling.{Tells};
-ghost use Rattle.rule_values.specs.Wanting.{variables_of};
+ghost use Rattle.rule_uses.specs.in_fault_data.Adds.{Adds};
+ghost use Rattle.rule_uses.specs.in_rule_values.Firsts.{AreFirsts};
+ghost use Rattle.rule_uses.specs.in_rule_values.Telling.{Tells};
+ghost use Rattle.rule_uses.specs.in_rule_values.Wanting.{variables_of};
 ghost use Rattle.rule_variables.specs.VariableFaults.{variable_again, repeated_variable, DefaultKeyBreaks};
 
 use graphql_names::{Name, Node, SourceSpan};
 use indexmap::IndexMap;
-use rule_values::{DiagnosticData, Fault, note_first, tell, unique_input_values};
+use rule_uses::{DiagnosticData, Fault, note_first, tell, unique_input_values};
 use std::alloc::AllocError;
 use tree_operations::VariableDefinition;
 

@@ -2,10 +2,10 @@
 use Rattle.std.proofs.Common.{◌≡◌, ℕ, ◌+◌, ◌<◌, ◌≤◌, ◌^◌, Bool, true, false, [], ◌∷◌, ◌++◌, None, Some, refl, sym, ap, subst, ◌∙◌, cond, if◌then◌else◌, true≢false, arith}
 use Rattle.std.proofs.lemmas.List.{append_assoc, append-nil}
 use Rattle.graphql_names.specs.Placed.{Place}
-use Rattle.schema_fold.specs.in_definitions.DefinitionTree.{DefinitionTree}
-use Rattle.schema_fold.specs.in_definitions.Queries.{is_extension, definition_place}
+use Rattle.schema_built_in.specs.in_definitions.DefinitionTree.{DefinitionTree}
+use Rattle.schema_built_in.specs.in_definitions.Queries.{is_extension, definition_place}
 use Rattle.schema_components.proofs.Places.{each_place-push}
-use Rattle.schema_fold.specs.Listed.{Definitions, Listed, listed_after}
+use Rattle.schema_built_in.specs.in_fold.Listed.{Definitions, Listed, listed_after}
 use Rattle.schema_building.specs.Numbers.{extension_count, HaveNumbers}
 use Rattle.schema_building.specs.TextsView.{TextsView}
 use Rattle.schema_building.specs.TextsList.{IsListOf, AddsDefinitions, IsListRefusal}

@@ -3,12 +3,12 @@ use Rattle.std.proofs.Common.{◌≡◌, ℕ, true, false, List, [], ◌∷◌, 
 use Rattle.std.proofs.lemmas.List.{length-map, drop-map}
 use Rattle.graphql_names.specs.Placed.{Place}
 use Rattle.schema_components.specs.Lists.{firsts}
-use Rattle.schema_fold.specs.in_schema_types.TypeParts.{TypeParts}
-use Rattle.schema_fold.specs.Adoption.{orphans, settled, Settings}
+use Rattle.schema_built_in.specs.in_schema_types.TypeParts.{TypeParts}
+use Rattle.schema_built_in.specs.in_fold.Adoption.{orphans, settled, Settings}
 use Rattle.schema_built_in.specs.Table.{built_in_definitions}
-use Rattle.schema_fold.specs.Listed.{Definitions, Listed, numbered, definitions_of}
-use Rattle.schema_fold.specs.ListedView.{listed_view}
-use Rattle.schema_fold.specs.declared.listed.Listed.{Listed as Rust}
+use Rattle.schema_built_in.specs.in_fold.Listed.{Definitions, Listed, numbered, definitions_of}
+use Rattle.schema_built_in.specs.in_fold.ListedView.{listed_view}
+use Rattle.schema_built_in.specs.in_fold.declared.listed.Listed.{Listed as Rust}
 use Rattle.schema_building.proofs.Numbering.{definitions_numbered}
 use Rattle.schema_building.specs.Building.{orphan_names, IsAddRefusal}
 use Rattle.schema_building.specs.BuilderValue.{BuilderValue}

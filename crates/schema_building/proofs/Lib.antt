@@ -6,4 +6,4 @@ pub mod Settled
 pub mod Growing
 pub mod Keeping
 pub mod Schemas
-pub use Rattle.schema_fold.proofs.in_schema_types as in_schema_types
+pub use Rattle.schema_built_in.proofs.in_schema_types as in_schema_types

@@ -3,10 +3,10 @@ use Rattle.std.proofs.Common.{◌≡◌, ℕ, ◌+◌, Bool, true, false, ◌||�
 use Rattle.std.specs.List.{filter, list_any}
 use Rattle.std.proofs.lemmas.List.{append_assoc, append-nil}
 use Rattle.graphql_names.specs.Placed.{Place}
-use Rattle.schema_fold.specs.in_definitions.DefinitionTree.{DefinitionTree}
-use Rattle.schema_fold.specs.in_definitions.Queries.{is_extension, definition_place}
+use Rattle.schema_built_in.specs.in_definitions.DefinitionTree.{DefinitionTree}
+use Rattle.schema_built_in.specs.in_definitions.Queries.{is_extension, definition_place}
 use Rattle.schema_components.specs.Lists.{each_place_after}
-use Rattle.schema_fold.specs.Listed.{Definitions, Listed, listed_after, numbered, definitions_of}
+use Rattle.schema_built_in.specs.in_fold.Listed.{Definitions, Listed, listed_after, numbered, definitions_of}
 use Rattle.schema_building.specs.Numbers.{extension_count}
 use Rattle.schema_building.specs.Settling.{unnumbered}
 

@@ -4,12 +4,12 @@ use Rattle.std.specs.List.{find}
 use Rattle.std.specs.Option.{option_map_or}
 use Rattle.std.specs.Str.{bytes_eq}
 use Rattle.graphql_names.specs.Placed.{Place}
-use Rattle.schema_fold.specs.in_definitions.DefinitionTree.{DefinitionTree}
-use Rattle.schema_fold.specs.in_schema_types.SchemaTree.{same_kind}
-use Rattle.schema_fold.specs.in_schema_types.TypeParts.{TypeDefinition, type_here}
-use Rattle.schema_fold.specs.in_schema_types.declared.type_kind.TypeKind.TheVariants.{Object}
-use Rattle.schema_fold.specs.Listed.{Definitions, type_name, types_in}
-use Rattle.schema_fold.specs.SchemaFold.{is_object_in}
+use Rattle.schema_built_in.specs.in_definitions.DefinitionTree.{DefinitionTree}
+use Rattle.schema_built_in.specs.in_schema_types.SchemaTree.{same_kind}
+use Rattle.schema_built_in.specs.in_schema_types.TypeParts.{TypeDefinition, type_here}
+use Rattle.schema_built_in.specs.in_schema_types.declared.type_kind.TypeKind.TheVariants.{Object}
+use Rattle.schema_built_in.specs.in_fold.Listed.{Definitions, type_name, types_in}
+use Rattle.schema_built_in.specs.in_fold.SchemaFold.{is_object_in}
 use Rattle.schema_built_in.specs.Table.{built_in_definitions}
 
 -- a definition before others defines no type, or one of the name, or one of another name

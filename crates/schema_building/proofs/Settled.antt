@@ -7,17 +7,17 @@ use Rattle.std.proofs.lemmas.List.Folds.{list_any-append}
 use Rattle.std.specs.Str.{bytes_eq}
 use Rattle.std.proofs.lemmas.Slice.Eq.{bytes_eq-Decides}
 use Rattle.graphql_names.specs.Placed.{Place}
-use Rattle.schema_fold.specs.in_definitions.DefinitionTree as tree
-use Rattle.schema_fold.specs.in_definitions.DefinitionTree.{DefinitionTree}
-use Rattle.schema_fold.specs.in_definitions.Queries.{is_extension}
+use Rattle.schema_built_in.specs.in_definitions.DefinitionTree as tree
+use Rattle.schema_built_in.specs.in_definitions.DefinitionTree.{DefinitionTree}
+use Rattle.schema_built_in.specs.in_definitions.Queries.{is_extension}
 use Rattle.schema_components.specs.Lists.{firsts, has_name}
-use Rattle.schema_fold.specs.in_schema_types.TypeParts.{TypeParts, TypeDefinition, type_here, type_extension_here}
-use Rattle.schema_fold.specs.in_schema_types.declared.type_kind.TypeKind.{TypeKind}
-use Rattle.schema_fold.specs.in_schema_types.declared.type_kind.TypeKind.TheVariants as kind
-use Rattle.schema_fold.specs.Listed.{Definitions, Listed, numbered, type_name, types_in, type_named, definitions_of}
-use Rattle.schema_fold.specs.SchemaFold.{schema_extension_here, schema_is_defined}
+use Rattle.schema_built_in.specs.in_schema_types.TypeParts.{TypeParts, TypeDefinition, type_here, type_extension_here}
+use Rattle.schema_built_in.specs.in_schema_types.declared.type_kind.TypeKind.{TypeKind}
+use Rattle.schema_built_in.specs.in_schema_types.declared.type_kind.TypeKind.TheVariants as kind
+use Rattle.schema_built_in.specs.in_fold.Listed.{Definitions, Listed, numbered, type_name, types_in, type_named, definitions_of}
+use Rattle.schema_built_in.specs.in_fold.SchemaFold.{schema_extension_here, schema_is_defined}
 use Rattle.schema_built_in.specs.Table.{built_in_definitions}
-use Rattle.schema_fold.specs.Adoption.{Settings, settled, is_redefinition, without_redefinitions, orphans, empty_type, empty_schema, has_orphan_schema, with_types, with_schema}
+use Rattle.schema_built_in.specs.in_fold.Adoption.{Settings, settled, is_redefinition, without_redefinitions, orphans, empty_type, empty_schema, has_orphan_schema, with_types, with_schema}
 use Rattle.schema_building.proofs.Numbering.{definitions_numbered}
 use Rattle.schema_fold_index.specs.Index.{NamedKind}
 use Rattle.schema_building.specs.Noted.{named_kind, parts_key, first_kinds, extended_in}

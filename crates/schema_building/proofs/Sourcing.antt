@@ -1,8 +1,8 @@
 -- Lemmas on sources.
 use Rattle.std.proofs.Common.{◌≡◌, Bool, true, false, List, [], ◌∷◌, map, refl, ap, cond, nat_eq}
 use Rattle.graphql_names.specs.declared.span.FileId.{FileId}
-use Rattle.schema_fold.specs.in_definitions.Sources.{source_of, numbered_source}
-use Rattle.schema_fold.specs.in_definitions.declared.document.SourceFile.{SourceFile}
+use Rattle.schema_built_in.specs.in_definitions.Sources.{source_of, numbered_source}
+use Rattle.schema_built_in.specs.in_definitions.declared.document.SourceFile.{SourceFile}
 use Rattle.indexmap.specs.IndexMap.{insert_entry}
 
 pub insert_viewed : (es : List (FileId × SourceFile)) (file : FileId) (source : SourceFile)

@@ -2,12 +2,12 @@
 use Rattle.std.specs.Prelude.{◌≡◌, true, false, List, [], ◌++◌, map, if◌then◌else◌}
 use Rattle.graphql_names.specs.Placed.{Place, Text}
 use Rattle.schema_components.specs.Lists.{firsts}
-use Rattle.schema_fold.specs.in_schema_types.SchemaTree.{SchemaTree}
-use Rattle.schema_fold.specs.Listed.{Definitions}
-use Rattle.schema_fold.specs.Adoption.{Settings, settled, orphans, parts_name}
+use Rattle.schema_built_in.specs.in_schema_types.SchemaTree.{SchemaTree}
+use Rattle.schema_built_in.specs.in_fold.Listed.{Definitions}
+use Rattle.schema_built_in.specs.in_fold.Adoption.{Settings, settled, orphans, parts_name}
 use Rattle.schema_built_in.specs.Table.{built_in_definitions}
-use Rattle.schema_fold.specs.BuildErrors.{BuildFault, Fails}
-use Rattle.schema_fold.specs.Fold.{fold}
+use Rattle.schema_built_in.specs.in_fold.BuildErrors.{BuildFault, Fails}
+use Rattle.schema_built_in.specs.in_fold.Fold.{fold}
 use Rattle.schema_building.specs.BuilderValue.{BuilderValue}
 use Rattle.schema_building.specs.Numbers.{HaveNumbers}
 use Rattle.schema_building.specs.SourcesView.{Sources, with_sources}

@@ -2,7 +2,7 @@
 use Rattle.std.specs.Prelude.{◌≡◌, ℕ, ◌+◌, ◌-◌, Bool, false, List, map, Option}
 use Rattle.graphql_names.specs.Placed.{Place}
 use Rattle.schema_components.specs.Given.{ExtensionTree}
-use Rattle.schema_fold.specs.Listed.{Definitions, Listed, numbered, definitions_of}
+use Rattle.schema_built_in.specs.in_fold.Listed.{Definitions, Listed, numbered, definitions_of}
 use Rattle.schema_fold_index.specs.Index.{IsIndexOf}
 use Rattle.schema_building.specs.Numbers.{extension_count, HaveNumbers}
 use Rattle.schema_building.specs.TextsView.{texts_view}

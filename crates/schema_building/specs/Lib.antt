@@ -12,6 +12,6 @@ pub mod SettingsView
 pub mod Settling
 pub mod ListView
 pub use Rattle.schema_built_in.specs as in_built_in
-pub use Rattle.schema_fold.specs as in_fold
+pub use Rattle.schema_built_in.specs.in_fold as in_fold
 pub use Rattle.schema_fold_index.specs as in_fold_index
-pub use Rattle.schema_fold.specs.in_schema_types as in_schema_types
+pub use Rattle.schema_built_in.specs.in_schema_types as in_schema_types

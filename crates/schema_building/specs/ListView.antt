@@ -3,11 +3,11 @@ use Rattle.std.specs.Prelude.{◌≡◌, ◌++◌, List, [], ◌∷◌, map, Non
 use Rattle.std.specs.declared.alloc.Global.{Global}
 use Rattle.graphql_names.specs.Node.{content, place}
 use Rattle.graphql_names.specs.declared.node.Node.{Node}
-use Rattle.schema_fold.specs.in_definitions.declared.definition.Definition.{Definition}
+use Rattle.schema_built_in.specs.in_definitions.declared.definition.Definition.{Definition}
 use Rattle.schema_built_in.specs.Table.{built_in_definitions}
-use Rattle.schema_fold.specs.Listed.{Listed}
-use Rattle.schema_fold.specs.ListedView.{listed_view}
-use Rattle.schema_fold.specs.declared.listed.Listed.{Listed as Rust}
+use Rattle.schema_built_in.specs.in_fold.Listed.{Listed}
+use Rattle.schema_built_in.specs.in_fold.ListedView.{listed_view}
+use Rattle.schema_built_in.specs.in_fold.declared.listed.Listed.{Listed as Rust}
 use Rattle.schema_building.specs.Settling.{unnumbered, settled_from}
 use Rattle.schema_building.specs.SettingsView.{settings_view}
 use Rattle.schema_building.specs.TextsView.{texts_view}

@@ -3,8 +3,8 @@ use Rattle.std.specs.Prelude.{ℕ, List, map, option_to_list}
 use Rattle.std.specs.List.{flat_map}
 use Rattle.graphql_names.specs.Placed.{Place}
 use Rattle.schema_components.specs.Lists.{firsts}
-use Rattle.schema_fold.specs.in_schema_types.TypeParts.{TypeParts, type_extension_here}
-use Rattle.schema_fold.specs.Listed.{Definitions, types_in}
+use Rattle.schema_built_in.specs.in_schema_types.TypeParts.{TypeParts, type_extension_here}
+use Rattle.schema_built_in.specs.in_fold.Listed.{Definitions, types_in}
 use Rattle.schema_fold_index.specs.Index.{NamedKind}
 
 abbrev pub named_kind : TypeParts Place → NamedKind

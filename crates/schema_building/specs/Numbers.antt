@@ -1,8 +1,8 @@
 -- Whether there are numbers for the extensions of a list.
 use Rattle.std.specs.Prelude.{ℕ, ◌+◌, ◌<◌, ◌^◌, length}
 use Rattle.std.specs.List.{filter}
-use Rattle.schema_fold.specs.in_definitions.Queries.{is_extension}
-use Rattle.schema_fold.specs.Listed.{Definitions}
+use Rattle.schema_built_in.specs.in_definitions.Queries.{is_extension}
+use Rattle.schema_built_in.specs.in_fold.Listed.{Definitions}
 
 -- how many definitions are extensions
 abbrev pub extension_count : Definitions → ℕ

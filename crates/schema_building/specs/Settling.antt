@@ -2,11 +2,11 @@
 use Rattle.std.specs.Prelude.{Bool, not, ◌&&◌, List, [], ◌∷◌, ◌++◌, map, None, is_some, if◌then◌else◌}
 use Rattle.std.specs.List.{filter, list_any}
 use Rattle.graphql_names.specs.Placed.{Place}
-use Rattle.schema_fold.specs.in_definitions.DefinitionTree.{DefinitionTree}
-use Rattle.schema_fold.specs.in_schema_types.TypeParts.{bare, definition_by}
-use Rattle.schema_fold.specs.Listed.{Definitions, Listed, definitions_of}
-use Rattle.schema_fold.specs.SchemaFold.{schema_extension_here, schema_is_defined}
-use Rattle.schema_fold.specs.Adoption.{Settings, is_redefinition, empty_schema}
+use Rattle.schema_built_in.specs.in_definitions.DefinitionTree.{DefinitionTree}
+use Rattle.schema_built_in.specs.in_schema_types.TypeParts.{bare, definition_by}
+use Rattle.schema_built_in.specs.in_fold.Listed.{Definitions, Listed, definitions_of}
+use Rattle.schema_built_in.specs.in_fold.SchemaFold.{schema_extension_here, schema_is_defined}
+use Rattle.schema_built_in.specs.in_fold.Adoption.{Settings, is_redefinition, empty_schema}
 use Rattle.schema_built_in.specs.Table.{built_in_definitions}
 use Rattle.schema_fold_index.specs.Index.{NamedKind}
 

@@ -1,8 +1,8 @@
 -- The sources of a builder: those of all documents, the last of each number.
 use Rattle.std.specs.Prelude.{ℕ, List, [], ◌∷◌, map, nat_eq}
 use Rattle.graphql_names.specs.declared.span.FileId.{FileId}
-use Rattle.schema_fold.specs.in_definitions.Sources.{Source, numbered_source}
-use Rattle.schema_fold.specs.in_definitions.declared.document.SourceFile.{SourceFile}
+use Rattle.schema_built_in.specs.in_definitions.Sources.{Source, numbered_source}
+use Rattle.schema_built_in.specs.in_definitions.declared.document.SourceFile.{SourceFile}
 use Rattle.indexmap.specs.IndexMap.{IndexMap, insert_entry}
 
 abbrev pub Sources : Type 0

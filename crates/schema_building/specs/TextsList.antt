@@ -1,6 +1,6 @@
 -- Private: leads to `specs/Building.antt`. The definitions of texts with their numbers.
 use Rattle.std.specs.Prelude.{◌≡◌, ℕ, ◌+◌, ◌++◌}
-use Rattle.schema_fold.specs.Listed.{Definitions, numbered}
+use Rattle.schema_built_in.specs.in_fold.Listed.{Definitions, numbered}
 use Rattle.schema_building.specs.Numbers.{extension_count, HaveNumbers}
 use Rattle.schema_building.specs.declared.refusal.BuilderRefusal.{BuilderRefusal}
 use Rattle.schema_building.specs.declared.refusal.BuilderRefusal.TheVariants.{Memory, Spent, Failed}

@@ -1,7 +1,7 @@
 -- What contracts see of the list of the texts' definitions.
 use Rattle.std.specs.Prelude.{ℕ, List, map}
-use Rattle.schema_fold.specs.Listed.{Listed}
-use Rattle.schema_fold.specs.ListedView.{listed_view}
+use Rattle.schema_built_in.specs.in_fold.Listed.{Listed}
+use Rattle.schema_built_in.specs.in_fold.ListedView.{listed_view}
 use Rattle.schema_building.specs.declared.texts.Texts.{Texts}
 
 -- the number that the next extension gets, and the definitions with their numbers

@@ -6,8 +6,8 @@ use Rattle.std.specs.Map.{lookup}
 use Rattle.std.specs.Str.{bytes_eq}
 use Rattle.graphql_names.specs.NameValue.{NameValue}
 use Rattle.graphql_names.specs.Placed.{Place, Text, name_tree}
-use Rattle.schema_fold.specs.in_schema_types.declared.type_kind.TypeKind.{TypeKind}
-use Rattle.schema_fold.specs.Listed.{type_named}
+use Rattle.schema_built_in.specs.in_schema_types.declared.type_kind.TypeKind.{TypeKind}
+use Rattle.schema_built_in.specs.in_fold.Listed.{type_named}
 use Rattle.schema_built_in.specs.Table.{built_in_definitions}
 use Rattle.schema_fold_index.specs.Index.{NamedKind, FiledEntries, filed_kind}
 use Rattle.schema_fold_index.specs.declared.index.Index.{Index}

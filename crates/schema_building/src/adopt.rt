@@ -1,6 +1,6 @@
 //! Adoption: empty definitions for what is extended and not defined.
 ghost use Rattle.std.specs.Prelude.{map, OnOk};
-ghost use Rattle.schema_fold.specs.Listed.{definitions_of};
+ghost use Rattle.schema_built_in.specs.in_fold.Listed.{definitions_of};
 ghost use Rattle.schema_building.specs.Settling.{unnumbered, empty_of, adopted_schema};
 ghost use Rattle.schema_building.specs.Waiting.{orphan_kinds};
 ghost use Rattle.schema_building.specs.ListView.{listed_in, Lists};
@@ -8,7 +8,7 @@ ghost use Rattle.schema_building.specs.ListView.{listed_in, Lists};
 use crate::defined::{has_schema_extension, schema_is_defined};
 use crate::empty::{push_empty_type, push_unplaced};
 use crate::waiting::OrphanExtensionTypes;
-use schema_fold::Listed;
+use schema_built_in::Listed;
 use schema_fold_index::Index;
 use std::alloc::{AllocError, Global};
 use tree_directives::DirectiveList;

@@ -1,10 +1,10 @@
 //! What is asked of a schema builder's state.
 ghost use Rattle.std.specs.Prelude.{◌≡◌, ◌≤◌, ◌++◌, [], true, false, drop, length, map, IfOk, IfErr, OnOk};
-ghost use Rattle.schema_fold.specs.in_definitions.DefinitionTree.{document_tree};
-ghost use Rattle.schema_fold.specs.in_definitions.Sources.{sources_of};
+ghost use Rattle.schema_built_in.specs.in_definitions.DefinitionTree.{document_tree};
+ghost use Rattle.schema_built_in.specs.in_definitions.Sources.{sources_of};
 ghost use Rattle.schema_built_in.specs.Table.{built_in_definitions};
-ghost use Rattle.schema_fold.specs.Listed.{numbered, definitions_of};
-ghost use Rattle.schema_fold.specs.ListedView.{listed_view};
+ghost use Rattle.schema_built_in.specs.in_fold.Listed.{numbered, definitions_of};
+ghost use Rattle.schema_built_in.specs.in_fold.ListedView.{listed_view};
 ghost use Rattle.schema_fold_index.specs.Index.{IsIndexOf};
 ghost use Rattle.schema_building.specs.Building.{plain_settings, with_document, counted, lent_names, IsAddRefusal, IsBuildRefusal};
 ghost use Rattle.schema_building.specs.BuildingView.{builder_view};
@@ -23,8 +23,8 @@ use crate::texts::Texts;
 use crate::waiting::OrphanExtensionTypes;
 use graphql_names::FileId;
 use indexmap::IndexMap;
+use schema_built_in::{Document, SourceFile};
 use schema_components::Extensions;
-use schema_fold::{Document, SourceFile};
 use schema_fold_index::Index;
 use std::alloc::Global;
 

@@ -1,12 +1,12 @@
 //! The names of the types that each schema has.
 ghost use Rattle.std.specs.Prelude.{◌≡◌, map, is_some};
-ghost use Rattle.schema_fold.specs.in_definitions.DefinitionTree.{definition_tree};
+ghost use Rattle.schema_built_in.specs.in_definitions.DefinitionTree.{definition_tree};
 ghost use Rattle.schema_components.specs.Lists.{is_among};
-ghost use Rattle.schema_fold.specs.Listed.{type_named};
-ghost use Rattle.schema_fold.specs.Adoption.{is_redefinition};
+ghost use Rattle.schema_built_in.specs.in_fold.Listed.{type_named};
+ghost use Rattle.schema_built_in.specs.in_fold.Adoption.{is_redefinition};
 ghost use Rattle.schema_built_in.specs.Table.{built_in_definitions};
 
-use schema_fold::{Definition, type_definition};
+use schema_built_in::{Definition, type_definition};
 
 /// Whether a type of that name is built in: a scalar (section 3.5) or a type of introspection (section 4.2).
 // By names alone, as this takes no memory: the definitions of `schema_built_in` would have to be made first.

@@ -1,12 +1,12 @@
 //! Whether a list of definitions extends the schema, and whether it defines it.
 ghost use Rattle.std.specs.Prelude.{◌≡◌, map, is_some};
 ghost use Rattle.std.specs.List.{list_any};
-ghost use Rattle.schema_fold.specs.in_definitions.DefinitionTree.{definition_tree};
-ghost use Rattle.schema_fold.specs.Listed.{definitions_of};
-ghost use Rattle.schema_fold.specs.SchemaFold.{schema_here, schema_extension_here, schema_definition_in, is_object_in, schema_is_defined};
-ghost use Rattle.schema_fold.specs.ListedView.{listed_view};
+ghost use Rattle.schema_built_in.specs.in_definitions.DefinitionTree.{definition_tree};
+ghost use Rattle.schema_built_in.specs.in_fold.Listed.{definitions_of};
+ghost use Rattle.schema_built_in.specs.in_fold.SchemaFold.{schema_here, schema_extension_here, schema_definition_in, is_object_in, schema_is_defined};
+ghost use Rattle.schema_built_in.specs.in_fold.ListedView.{listed_view};
 
-use schema_fold::{Definition, Listed, TypeKind, type_definition};
+use schema_built_in::{Definition, Listed, TypeKind, type_definition};
 use tree_operations::OperationType;
 
 /// Whether the schema is extended.

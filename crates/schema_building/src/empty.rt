@@ -5,7 +5,7 @@ ghost use Rattle.schema_building.specs.Settling.{unnumbered, empty_of};
 ghost use Rattle.schema_building.specs.ListView.{Lists, ListsUnplaced};
 
 use graphql_names::{Name, Node};
-use schema_fold::{Definition, Listed, TypeKind};
+use schema_built_in::{Definition, Listed, TypeKind};
 use std::alloc::{AllocError, Global};
 use tree_composite_types::{InterfaceTypeDefinition, ObjectTypeDefinition, UnionTypeDefinition};
 use tree_directives::DirectiveList;

@@ -1,10 +1,10 @@
 //! The list of definitions that counts: what is built in, and what the settings make of the texts.
 ghost use Rattle.std.specs.Prelude.{◌≡◌, ◌≤◌, [], false, length, map, take, OnOk, IfOk};
 ghost use Rattle.std.specs.List.{filter};
-ghost use Rattle.schema_fold.specs.in_definitions.DefinitionTree.{definition_tree};
+ghost use Rattle.schema_built_in.specs.in_definitions.DefinitionTree.{definition_tree};
 ghost use Rattle.schema_built_in.specs.Table.{built_in_definitions};
-ghost use Rattle.schema_fold.specs.Listed.{definitions_of};
-ghost use Rattle.schema_fold.specs.ListedView.{listed_view};
+ghost use Rattle.schema_built_in.specs.in_fold.Listed.{definitions_of};
+ghost use Rattle.schema_built_in.specs.in_fold.ListedView.{listed_view};
 ghost use Rattle.schema_fold_index.specs.Index.{IsIndexOf};
 ghost use Rattle.schema_building.specs.Settling.{unnumbered, is_kept};
 ghost use Rattle.schema_building.specs.ListView.{listed_in, settled_list, Lists};
@@ -12,8 +12,7 @@ ghost use Rattle.schema_building.specs.ListView.{listed_in, settled_list, Lists}
 use crate::adopt::{adopt_schema, adopt_types};
 use crate::built_in_types::is_redefinition;
 use crate::texts::{Texts, push_shared};
-use schema_built_in::built_in_definitions;
-use schema_fold::{Definition, Listed};
+use schema_built_in::{Definition, Listed, built_in_definitions};
 use schema_fold_index::Index;
 use std::alloc::{AllocError, Global};
 

@@ -1,12 +1,12 @@
 //! The sources of several documents.
 ghost use Rattle.std.specs.Prelude.{◌≡◌, nat_eq, OnOk};
-ghost use Rattle.schema_fold.specs.in_definitions.Sources.{source_of};
+ghost use Rattle.schema_built_in.specs.in_definitions.Sources.{source_of};
 ghost use Rattle.indexmap.specs.IndexMap.{insert_entry};
 ghost use Rattle.schema_building.specs.SourcesView.{sources_view, with_sources};
 
 use graphql_names::FileId;
 use indexmap::IndexMap;
-use schema_fold::SourceFile;
+use schema_built_in::SourceFile;
 use std::alloc::AllocError;
 
 /// Adds the sources of a document. One that has the number of an earlier one replaces it.

@@ -6,7 +6,7 @@ use crate::settle::Settings;
 use crate::texts::Texts;
 use graphql_names::FileId;
 use indexmap::IndexMap;
-use schema_fold::{Listed, SourceFile};
+use schema_built_in::{Listed, SourceFile};
 use schema_fold_index::Index;
 use std::alloc::Global;
 

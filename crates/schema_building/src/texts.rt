@@ -1,8 +1,8 @@
 //! The list of the texts' definitions, and its index.
 ghost use Rattle.std.specs.Prelude.{◌≡◌, ◌+◌, ◌<◌, ◌^◌, ◌++◌, [], ◌∷◌, map, true, Some, None, if◌then◌else◌, IfOk, IfErr, OnOk, OnErr};
 ghost use Rattle.std.specs.Option.{option_map};
-ghost use Rattle.schema_fold.specs.in_definitions.DefinitionTree.{definition_tree};
-ghost use Rattle.schema_fold.specs.in_definitions.Queries.{is_extension, definition_place};
+ghost use Rattle.schema_built_in.specs.in_definitions.DefinitionTree.{definition_tree};
+ghost use Rattle.schema_built_in.specs.in_definitions.Queries.{is_extension, definition_place};
 ghost use Rattle.schema_components.specs.Given.{extension_tree};
 ghost use Rattle.schema_building.specs.KeptView.{definitions, KeepsIndex};
 ghost use Rattle.schema_building.specs.TextsView.{texts_view};
@@ -10,8 +10,8 @@ ghost use Rattle.schema_building.specs.TextsList.{AddsDefinitions, IsListRefusal
 ghost use Rattle.schema_building.specs.ListView.{Lists};
 
 use crate::refusal::BuilderRefusal;
+use schema_built_in::{Definition, Listed};
 use schema_components::{ExtensionId, Extensions};
-use schema_fold::{Definition, Listed};
 use schema_fold_index::Index;
 use std::alloc::{AllocError, Global};
 

@@ -7,7 +7,7 @@ use crate::built_in_types::is_built_in_type;
 use graphql_names::Name;
 use indexmap::IndexMap;
 use indexmap::map::Slice;
-use schema_fold::TypeKind;
+use schema_built_in::TypeKind;
 use schema_fold_index::{Filed, Index};
 
 /// Lends the names of the types that are extended and not defined, in the order of their first extensions.

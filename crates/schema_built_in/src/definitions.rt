@@ -14,9 +14,8 @@ use crate::members::{fields_of, values_of};
 use crate::parts::{arguments_of, node_here};
 use crate::table::{ArgumentRow, FieldRow, ROWS, Row};
 use graphql_names::{Name, Node};
-use schema_fold::Definition;
+use schema_fold::{Definition, ObjectTypeDefinition};
 use std::alloc::{AllocError, Global};
-use tree_composite_types::ObjectTypeDefinition;
 use tree_directives::{
     DirectiveDefinition, DirectiveList, DirectiveLocation, InputValueDefinition,
 };

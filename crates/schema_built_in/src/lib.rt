@@ -14,3 +14,6 @@ mod table;
 
 pub use definitions::{built_in_definitions, is_built_in_scalar};
 pub use meta_fields::{schema_field, type_field, typename_field};
+
+// Of the crates beneath, for those above.
+pub use schema_fold::{Definition, Document, Listed, SourceFile, TypeKind, type_definition};

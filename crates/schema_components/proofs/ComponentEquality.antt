@@ -3,7 +3,7 @@ use Rattle.std.proofs.Common.{◌≡◌, ℕ, List}
 use Rattle.std.specs.Bool.{Decides}
 use Rattle.std.specs.Str.{bytes_eq}
 use Rattle.std.proofs.lemmas.Slice.Eq.{bytes_eq-Decides}
-use Rattle.graphql_names.specs.Node.{content}
+use Rattle.graphql_values.specs.in_names.Node.{content}
 use Rattle.graphql_values.specs.DirectiveTree.{directive_tree, unplaced_directive}
 use Rattle.graphql_values.proofs.Decided.{lists_decide}
 use Rattle.graphql_values.proofs.DirectiveEquality.{directive_eq, directive_eq-Decides}

@@ -1,6 +1,6 @@
 -- Applied directives with where each comes from (GraphQL, October 2021, section 2.12).
 use Rattle.std.specs.Prelude.{ℕ, Bool, List, map, bytes_eq}
-use Rattle.graphql_names.specs.Node.{content}
+use Rattle.graphql_values.specs.in_names.Node.{content}
 use Rattle.graphql_values.specs.Placed.{Placed, Place}
 use Rattle.graphql_values.specs.DirectiveTree.{DirectiveTree, directive_tree, unplaced_directive}
 use Rattle.graphql_values.specs.in_directives.declared.directive.Directive.{Directive}

@@ -1,11 +1,11 @@
 //! Nodes and where they come from.
 ghost use Rattle.std.specs.Prelude.{◌≡◌};
 ghost use Rattle.std.specs.Option.{option_copied};
-ghost use Rattle.graphql_names.specs.Node.{content, place};
+ghost use Rattle.graphql_values.specs.in_names.Node.{content, place};
 ghost use Rattle.schema_components.specs.Given.{extension_id};
 
 use crate::extension::ExtensionId;
-use graphql_names::Node;
+use graphql_values::Node;
 use std::alloc::AllocError;
 use std::ops::Deref;
 

@@ -2,7 +2,7 @@
 ghost use Rattle.std.specs.Prelude.{◌≡◌, Some};
 
 use crate::component::ComponentOrigin;
-use graphql_names::Name;
+use graphql_values::Name;
 use std::alloc::AllocError;
 use std::fmt;
 use std::ops::Deref;

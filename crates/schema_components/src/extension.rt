@@ -1,9 +1,9 @@
 //! Extensions by number.
 ghost use Rattle.std.specs.Prelude.{◌≡◌, ◌≢◌, ℕ, ◌+◌, ◌<◌, ◌^◌, IfOk, IfErr, OnErr, OnOk};
-ghost use Rattle.graphql_names.specs.Node.{content, place};
+ghost use Rattle.graphql_values.specs.in_names.Node.{content, place};
 ghost use Rattle.schema_components.specs.Given.{number_of, place_of};
 
-use graphql_names::{Node, SourceSpan, Spent};
+use graphql_values::{Node, SourceSpan, Spent};
 use std::alloc::{AllocFailed, Global};
 use std::marker::Model;
 

@@ -16,4 +16,6 @@ pub use component::{Component, ComponentOrigin};
 pub use component_name::ComponentName;
 pub use directive_list::{DirectiveList, NamedComponents};
 pub use extension::{ExtensionId, Extensions};
-pub use graphql_values::OperationType;
+pub use graphql_values::{Directive, InputValueDefinition, OperationType};
+
+// Of the crates beneath, for those above.

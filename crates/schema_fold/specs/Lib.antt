@@ -20,5 +20,6 @@ pub use Rattle.schema_types.specs.in_components as in_components
 pub use Rattle.tree_definitions.specs as in_definitions
 pub use Rattle.tree_directives.specs as in_directives
 pub use Rattle.tree_directives.specs.in_literals as in_literals
-pub use Rattle.tree_operations.specs as in_operations
+pub use Rattle.tree_definitions.specs.in_operations as in_operations
 pub use Rattle.schema_types.specs.in_type_members as in_type_members
+pub use Rattle.schema_types.specs.in_values as in_values

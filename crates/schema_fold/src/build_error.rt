@@ -5,7 +5,7 @@ ghost use Rattle.schema_fold.specs.Steps.{repeat_fault};
 
 use graphql_names::{Name, SourceSpan};
 use std::alloc::AllocError;
-use tree_operations::OperationType;
+use tree_definitions::OperationType;
 
 /// What breaks a folding rule, with the names that its message tells (section 3).
 pub enum BuildError {

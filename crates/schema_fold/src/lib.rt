@@ -25,4 +25,6 @@ pub use insert::insert_new;
 pub use listed::Listed;
 pub use parts::{Defined, Parts, extension_parts, type_definition};
 pub use schema_types::{ExtendedType, SchemaDefinition, TypeKind, node_at};
-pub use tree_definitions::{Definition, Document, SourceFile};
+pub use tree_definitions::{Definition, Document, ObjectTypeDefinition, SourceFile};
+
+// Of the crates beneath, for those above.

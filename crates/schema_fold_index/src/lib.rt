@@ -8,3 +8,9 @@
 mod index;
 
 pub use index::{Filed, Index};
+
+// Of the crates beneath, for those above.
+pub use schema_fold::{
+    BuildError, Defined, Definition, ExtendedType, Listed, Parts, TypeKind, extension_parts,
+    fold_type, insert_new, tell, type_definition,
+};

@@ -3,16 +3,15 @@ ghost use Rattle.std.specs.Prelude.{◌≡◌, ◌≤◌, [], drop, length, map,
 ghost use Rattle.schema_fold.specs.FaultView.{faults_of};
 ghost use Rattle.schema_fold.specs.Listed.{definitions_of};
 ghost use Rattle.schema_fold.specs.ListedView.{listed_view};
-ghost use Rattle.schema_fold_index.specs.Index.{IsIndexOf};
+ghost use Rattle.schema_fold_types.specs.in_fold_index.Index.{IsIndexOf};
 ghost use Rattle.schema_fold_lists.specs.FoldedView.{folded_view};
 ghost use Rattle.schema_fold_lists.specs.ListBuilt.{FoldsList};
 
 use graphql_names::{Name, Node, SourceSpan};
 use indexmap::IndexMap;
 use schema_fold::{BuildError, ExtendedType, Listed, SchemaDefinition};
-use schema_fold_index::Index;
 use schema_fold_roots::{fold_directives, fold_schema};
-use schema_fold_types::{fold_types, tell_misplaced};
+use schema_fold_types::{Index, fold_types, tell_misplaced};
 use std::alloc::{AllocError, Global};
 use tree_directives::DirectiveDefinition;
 

@@ -8,10 +8,10 @@ use Rattle.std.specs.Str.{bytes_eq}
 use Rattle.std.proofs.lemmas.Bool.{lt-ltb, le-ltb}
 use Rattle.std.proofs.lemmas.List.{length-append}
 use Rattle.graphql_names.specs.Placed.{Place}
-use Rattle.schema_fold.specs.in_definitions.DefinitionTree.{DefinitionTree}
-use Rattle.schema_fold.specs.in_components.Lists.{has_name}
-use Rattle.schema_fold.specs.in_schema_types.TypeParts.{TypeDefinition, type_here}
-use Rattle.schema_fold.specs.Listed.{Definitions, type_name, types_in}
+use Rattle.schema_fold_index.specs.in_definitions.DefinitionTree.{DefinitionTree}
+use Rattle.schema_fold_index.specs.in_components.Lists.{has_name}
+use Rattle.schema_fold_index.specs.in_schema_types.TypeParts.{TypeDefinition, type_here}
+use Rattle.schema_fold_index.specs.in_fold.Listed.{Definitions, type_name, types_in}
 use Rattle.schema_fold_index.specs.declared.index.Filed.{Filed}
 use Rattle.schema_fold_index.specs.Index.{StandingParts, standing_name, parts_here, standing_after, standing_in_list, positions_named, positions_of, FiledEntries, AreFiled, is_filed_before}
 

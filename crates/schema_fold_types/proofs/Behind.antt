@@ -2,12 +2,12 @@
 use Rattle.std.proofs.Common.{◌≡◌, ℕ, Bool, ◌&&◌, ◌||◌, not, List, ◌++◌, Option, None, Some, refl, sym, ap, ◌∙◌, is_some}
 use Rattle.std.specs.Option.{option_map_or, option_or}
 use Rattle.graphql_names.specs.Placed.{Place}
-use Rattle.schema_fold.specs.in_definitions.DefinitionTree.{DefinitionTree}
-use Rattle.schema_fold.specs.in_components.Lists.{has_name}
-use Rattle.schema_fold.specs.in_schema_types.TypeParts.{type_here}
-use Rattle.schema_fold.specs.Listed.{Definitions, type_name, type_named, types_in}
-use Rattle.schema_fold.specs.SchemaFold.{schema_here, schema_definition_in}
-use Rattle.schema_fold.specs.BuildErrors.{SchemaDefinitionCollision, TypeDefinitionCollision}
+use Rattle.schema_fold_index.specs.in_definitions.DefinitionTree.{DefinitionTree}
+use Rattle.schema_fold_index.specs.in_components.Lists.{has_name}
+use Rattle.schema_fold_index.specs.in_schema_types.TypeParts.{type_here}
+use Rattle.schema_fold_index.specs.in_fold.Listed.{Definitions, type_name, type_named, types_in}
+use Rattle.schema_fold_index.specs.in_fold.SchemaFold.{schema_here, schema_definition_in}
+use Rattle.schema_fold_index.specs.in_fold.BuildErrors.{SchemaDefinitionCollision, TypeDefinitionCollision}
 use Rattle.schema_fold_types.specs.Seen.{Seen, seen_of, kind_in, is_scalar_in, kind_seen, told_where, faults_at, executable_told, scalar_redefinition_told, definition_faults, faults_behind}
 use Rattle.schema_fold_types.proofs.Named.{some_named}
 use Rattle.schema_fold_types.proofs.Seeing.{kind_in_is, some_map}

@@ -1,9 +1,9 @@
 -- The folding rules are those on positions, that on directive definitions, that on roots, and those on the components of types.
 use Rattle.std.proofs.Common.{◌⊎◌, ℕ, inl, inr}
 use Rattle.std.specs.Prelude.{◌↔◌}
-use Rattle.schema_fold.specs.Listed.{Definitions}
-use Rattle.schema_fold.specs.BuildErrors as fails
-use Rattle.schema_fold.specs.BuildErrors.{BuildFault, Fails, BreaksSomewhere, DirectiveDefinitionCollisionAt, DuplicateRootOperationIn}
+use Rattle.schema_fold_index.specs.in_fold.Listed.{Definitions}
+use Rattle.schema_fold_index.specs.in_fold.BuildErrors as fails
+use Rattle.schema_fold_index.specs.in_fold.BuildErrors.{BuildFault, Fails, BreaksSomewhere, DirectiveDefinitionCollisionAt, DuplicateRootOperationIn}
 use Rattle.schema_fold_types.specs.TypeFaults as of_type
 use Rattle.schema_fold_types.specs.TypeFaults.{FailsInType}
 use Rattle.schema_fold_types.specs.Misplaced as placed

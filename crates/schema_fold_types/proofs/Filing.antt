@@ -5,16 +5,16 @@ use Rattle.std.specs.Option.{option_map_or}
 use Rattle.std.specs.Str.{bytes_eq}
 use Rattle.std.proofs.lemmas.Grind.{flat_map-append}
 use Rattle.graphql_names.specs.Placed.{Place}
-use Rattle.schema_fold.specs.in_components.Given.{Given}
-use Rattle.schema_fold.specs.in_components.Lists.{firsts}
-use Rattle.schema_fold.specs.in_schema_types.SchemaTree.{SchemaType, same_kind}
-use Rattle.schema_fold.specs.in_schema_types.TypeParts.{TypeParts, TypeDefinition, type_extension_here}
-use Rattle.schema_fold.specs.Components.{go_together, extension_here, keyed_firsts, field_key, value_key, input_key}
-use Rattle.schema_fold.specs.Collected.{class_from, collected_from}
-use Rattle.schema_fold.specs.Kept.{component_faults}
-use Rattle.schema_fold.specs.Listed.{Listed, type_name, definitions_of}
-use Rattle.schema_fold.specs.Fold.{folded_type}
-use Rattle.schema_fold.specs.BuildErrors.{BuildFault}
+use Rattle.schema_fold_index.specs.in_components.Given.{Given}
+use Rattle.schema_fold_index.specs.in_components.Lists.{firsts}
+use Rattle.schema_fold_index.specs.in_schema_types.SchemaTree.{SchemaType, same_kind}
+use Rattle.schema_fold_index.specs.in_schema_types.TypeParts.{TypeParts, TypeDefinition, type_extension_here}
+use Rattle.schema_fold_index.specs.in_fold.Components.{go_together, extension_here, keyed_firsts, field_key, value_key, input_key}
+use Rattle.schema_fold_index.specs.in_fold.Collected.{class_from, collected_from}
+use Rattle.schema_fold_index.specs.in_fold.Kept.{component_faults}
+use Rattle.schema_fold_index.specs.in_fold.Listed.{Listed, type_name, definitions_of}
+use Rattle.schema_fold_index.specs.in_fold.Fold.{folded_type}
+use Rattle.schema_fold_index.specs.in_fold.BuildErrors.{BuildFault}
 use Rattle.schema_fold_types.specs.TypeFaults.{faults_of_type}
 use Rattle.schema_fold_types.specs.ListTypes.{ExtendsNone}
 use Rattle.schema_fold_types.specs.Filing.{type_by, types_by, faults_by}

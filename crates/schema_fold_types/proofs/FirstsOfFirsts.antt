@@ -2,8 +2,8 @@
 use Rattle.std.proofs.Common.{◌≡◌, ◌⊎◌, ℕ, Bool, true, false, ◌||◌, List, [], ◌∷◌, ◌++◌, refl, sym, ap, ◌∙◌, inl, inr, cond, if◌then◌else◌}
 use Rattle.std.specs.Str.{bytes_eq}
 use Rattle.std.proofs.lemmas.Slice.Eq.{bytes_eq-Decides}
-use Rattle.schema_fold.specs.in_components.Lists.{each_place_after, firsts, has_name}
-use Rattle.schema_fold.proofs.in_components.Firsts.{has_name-push}
+use Rattle.schema_fold_index.specs.in_components.Lists.{each_place_after, firsts, has_name}
+use Rattle.schema_fold_index.proofs.in_components.Firsts.{has_name-push}
 
 either : (a b : Bool) → (a || b) ≡ true → (a ≡ true) ⊎ (b ≡ true)
 either true b h = inl refl

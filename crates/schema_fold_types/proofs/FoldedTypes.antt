@@ -4,13 +4,13 @@ use Rattle.std.specs.List.{flat_map}
 use Rattle.std.proofs.lemmas.List.{map-append}
 use Rattle.std.proofs.lemmas.Grind.{flat_map-append}
 use Rattle.graphql_names.specs.Placed.{Place}
-use Rattle.schema_fold.specs.in_components.Lists.{firsts}
-use Rattle.schema_fold.specs.in_components.Names.{Entries}
-use Rattle.schema_fold.specs.in_schema_types.SchemaTree.{SchemaType}
-use Rattle.schema_fold.specs.in_schema_types.TypeParts.{type_here}
-use Rattle.schema_fold.specs.Listed.{Definitions, Listed, numbered, type_name, types_in, definitions_of}
-use Rattle.schema_fold.specs.Fold.{folded_type, folded_types}
-use Rattle.schema_fold.specs.BuildErrors.{BuildFault}
+use Rattle.schema_fold_index.specs.in_components.Lists.{firsts}
+use Rattle.schema_fold_index.specs.in_components.Names.{Entries}
+use Rattle.schema_fold_index.specs.in_schema_types.SchemaTree.{SchemaType}
+use Rattle.schema_fold_index.specs.in_schema_types.TypeParts.{type_here}
+use Rattle.schema_fold_index.specs.in_fold.Listed.{Definitions, Listed, numbered, type_name, types_in, definitions_of}
+use Rattle.schema_fold_index.specs.in_fold.Fold.{folded_type, folded_types}
+use Rattle.schema_fold_index.specs.in_fold.BuildErrors.{BuildFault}
 use Rattle.schema_fold_types.specs.TypeFaults.{faults_of_type, faults_of_types, FailsInType}
 use Rattle.schema_fold_index.proofs.Listing.{definitions_numbered}
 use Rattle.schema_fold_types.proofs.Telling.{told_more}

@@ -6,16 +6,16 @@ use Rattle.std.specs.Str.{bytes_eq}
 use Rattle.std.proofs.lemmas.List.{append_assoc, append-nil}
 use Rattle.graphql_names.specs.NameValue.{NameValue}
 use Rattle.graphql_names.specs.Placed.{Place}
-use Rattle.schema_fold.specs.in_definitions.DefinitionTree.{DefinitionTree}
-use Rattle.schema_fold.specs.in_components.Lists.{firsts}
-use Rattle.schema_fold.specs.in_components.Names.{Entries}
-use Rattle.schema_fold.proofs.in_components.Firsts.{kept_seen, kept_new, is_some-firsts, firsts-push_seen, firsts-push_new}
-use Rattle.schema_fold.specs.in_schema_types.SchemaTree.{SchemaType}
-use Rattle.schema_fold.specs.in_schema_types.TypeParts.{TypeDefinition, type_here}
-use Rattle.schema_fold.specs.in_schema_types.TypeView.{extended_type}
-use Rattle.schema_fold.specs.in_schema_types.declared.extended_type.ExtendedType.{ExtendedType}
-use Rattle.schema_fold.specs.Listed.{Listed, type_name, types_in}
-use Rattle.schema_fold.specs.BuildErrors.{BuildFault}
+use Rattle.schema_fold_index.specs.in_definitions.DefinitionTree.{DefinitionTree}
+use Rattle.schema_fold_index.specs.in_components.Lists.{firsts}
+use Rattle.schema_fold_index.specs.in_components.Names.{Entries}
+use Rattle.schema_fold_index.proofs.in_components.Firsts.{kept_seen, kept_new, is_some-firsts, firsts-push_seen, firsts-push_new}
+use Rattle.schema_fold_index.specs.in_schema_types.SchemaTree.{SchemaType}
+use Rattle.schema_fold_index.specs.in_schema_types.TypeParts.{TypeDefinition, type_here}
+use Rattle.schema_fold_index.specs.in_schema_types.TypeView.{extended_type}
+use Rattle.schema_fold_index.specs.in_schema_types.declared.extended_type.ExtendedType.{ExtendedType}
+use Rattle.schema_fold_index.specs.in_fold.Listed.{Listed, type_name, types_in}
+use Rattle.schema_fold_index.specs.in_fold.BuildErrors.{BuildFault}
 use Rattle.schema_fold_types.specs.TypeFaults.{faults_of_type}
 use Rattle.schema_fold_index.proofs.Listing.{flat_map-push}
 use Rattle.schema_fold_types.specs.Filing.{type_by, types_by, faults_by, FoldsOn}

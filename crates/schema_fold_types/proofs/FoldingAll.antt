@@ -6,15 +6,15 @@ use Rattle.std.specs.Option.{option_map, option_map_or}
 use Rattle.std.proofs.lemmas.List.{append-nil}
 use Rattle.std.proofs.lemmas.Option.{slice_get-map, slice_get-get_or, slice_get_past}
 use Rattle.graphql_names.specs.Placed.{Place}
-use Rattle.schema_fold.specs.in_definitions.DefinitionTree.{DefinitionTree, definition_tree}
-use Rattle.schema_fold.specs.in_components.Lists.{firsts}
-use Rattle.schema_fold.specs.in_components.Names.{Entries}
-use Rattle.schema_fold.specs.in_schema_types.SchemaTree.{SchemaType}
-use Rattle.schema_fold.specs.in_schema_types.TypeParts.{TypeDefinition, type_here, type_extension_here}
-use Rattle.schema_fold.specs.Listed.{Listed, type_name, types_in, definitions_of}
-use Rattle.schema_fold.specs.ListedView.{listed_view}
-use Rattle.schema_fold.specs.BuildErrors.{BuildFault}
-use Rattle.schema_fold.specs.declared.listed.Listed.{Listed as Rust}
+use Rattle.schema_fold_index.specs.in_definitions.DefinitionTree.{DefinitionTree, definition_tree}
+use Rattle.schema_fold_index.specs.in_components.Lists.{firsts}
+use Rattle.schema_fold_index.specs.in_components.Names.{Entries}
+use Rattle.schema_fold_index.specs.in_schema_types.SchemaTree.{SchemaType}
+use Rattle.schema_fold_index.specs.in_schema_types.TypeParts.{TypeDefinition, type_here, type_extension_here}
+use Rattle.schema_fold_index.specs.in_fold.Listed.{Listed, type_name, types_in, definitions_of}
+use Rattle.schema_fold_index.specs.in_fold.ListedView.{listed_view}
+use Rattle.schema_fold_index.specs.in_fold.BuildErrors.{BuildFault}
+use Rattle.schema_fold_index.specs.in_fold.declared.listed.Listed.{Listed as Rust}
 use Rattle.schema_fold_index.specs.declared.index.Filed.{Filed}
 use Rattle.schema_fold_types.specs.Filing.{type_by, FoldsOn}
 use Rattle.schema_fold_index.specs.Index.{FiledEntries, AreFiled, standing_in_list, parts_here, defined_at, extensions_under}

@@ -16,4 +16,4 @@ pub mod Judging
 pub mod TellingMisplaced
 pub mod Turns
 pub mod MisplacedRows
-pub use Rattle.schema_fold.proofs as in_fold
+pub use Rattle.schema_fold_index.proofs.in_fold as in_fold

@@ -4,9 +4,9 @@ use Rattle.std.specs.List.{find}
 use Rattle.std.specs.Map.{lookup}
 use Rattle.std.specs.Option.{option_map}
 use Rattle.std.specs.Str.{bytes_eq}
-use Rattle.schema_fold.specs.in_components.Lists.{firsts}
-use Rattle.schema_fold.specs.Listed.{Definitions, numbered, type_name, type_named, types_in}
-use Rattle.schema_fold.specs.Fold.{folded_type, folded_types}
+use Rattle.schema_fold_index.specs.in_components.Lists.{firsts}
+use Rattle.schema_fold_index.specs.in_fold.Listed.{Definitions, numbered, type_name, type_named, types_in}
+use Rattle.schema_fold_index.specs.in_fold.Fold.{folded_type, folded_types}
 use Rattle.schema_fold_types.proofs.Named.{named, find_firsts}
 
 module _ {X V : Type 0} (key : X → List ℕ) (made : X → V) where

@@ -3,8 +3,8 @@ use Rattle.std.proofs.Common.{◌≡◌, ℕ, Bool, true, false, ◌||◌, List,
 use Rattle.std.specs.List.{find}
 use Rattle.std.specs.Str.{bytes_eq}
 use Rattle.std.proofs.lemmas.Slice.Eq.{bytes_eq-Decides}
-use Rattle.schema_fold.specs.in_components.Lists.{each_place_after, firsts, has_name}
-use Rattle.schema_fold.proofs.in_components.Firsts.{has_name-push}
+use Rattle.schema_fold_index.specs.in_components.Lists.{each_place_after, firsts, has_name}
+use Rattle.schema_fold_index.proofs.in_components.Firsts.{has_name-push}
 
 module _ {X : Type 0} (key : X → List ℕ) where
   abbrev pub named : List ℕ → X → Bool

@@ -7,15 +7,15 @@ use Rattle.std.specs.Str.{bytes_eq}
 use Rattle.std.proofs.lemmas.List.Elements.{All-map}
 use Rattle.std.proofs.lemmas.Slice.Eq.{bytes_eq-Decides}
 use Rattle.graphql_names.specs.Placed.{Placed, Place}
-use Rattle.schema_fold.specs.in_directives.DirectiveTree.{DirectiveDefinitionTree}
-use Rattle.schema_fold.specs.in_components.Lists.{each_place_after, firsts, has_name}
-use Rattle.schema_fold.specs.in_components.Names.{Entries}
-use Rattle.schema_fold.specs.in_components.Given.{given_name}
-use Rattle.schema_fold.proofs.in_components.Firsts.{has_name-push}
-use Rattle.schema_fold.specs.in_schema_types.TypeParts.{TypeDefinition}
-use Rattle.schema_fold.specs.Listed.{Definitions, Listed, numbered, type_name, types_in, directive_name, directives_in}
-use Rattle.schema_fold.specs.Components.{components, field_key, value_key, input_key}
-use Rattle.schema_fold.specs.Fold.{folded_type, folded_types, chosen_directive, folded_directives, fold}
+use Rattle.tree_operations.specs.in_directives.DirectiveTree.{DirectiveDefinitionTree}
+use Rattle.schema_fold_index.specs.in_components.Lists.{each_place_after, firsts, has_name}
+use Rattle.schema_fold_index.specs.in_components.Names.{Entries}
+use Rattle.schema_fold_index.specs.in_components.Given.{given_name}
+use Rattle.schema_fold_index.proofs.in_components.Firsts.{has_name-push}
+use Rattle.schema_fold_index.specs.in_schema_types.TypeParts.{TypeDefinition}
+use Rattle.schema_fold_index.specs.in_fold.Listed.{Definitions, Listed, numbered, type_name, types_in, directive_name, directives_in}
+use Rattle.schema_fold_index.specs.in_fold.Components.{components, field_key, value_key, input_key}
+use Rattle.schema_fold_index.specs.in_fold.Fold.{folded_type, folded_types, chosen_directive, folded_directives, fold}
 use Rattle.schema_fold_types.specs.OwnNames.{AreNamed, HasOwnNames, TypesUnderOwnNames, UnderOwnNames}
 
 module _ {X : Type 0} (key : X → List ℕ) where

@@ -9,20 +9,20 @@ use Rattle.std.proofs.lemmas.List.Folds.{find-append}
 use Rattle.std.proofs.lemmas.Grind.{flat_map-append}
 use Rattle.graphql_names.specs.NameValue.{NameValue}
 use Rattle.graphql_names.specs.Placed.{Place}
-use Rattle.schema_fold.specs.in_components.in_values.OperationQueries.{default_root_name}
-use Rattle.schema_fold.specs.in_directives.declared.operation_type.OperationType.{OperationType}
-use Rattle.schema_fold.specs.in_directives.declared.operation_type.OperationType.TheVariants as operation
-use Rattle.schema_fold.specs.in_definitions.DefinitionTree.{DefinitionTree}
-use Rattle.schema_fold.specs.in_components.Lists.{firsts, has_name}
-use Rattle.schema_fold.specs.in_components.Names.{Entries}
-use Rattle.schema_fold.proofs.in_components.Firsts.{kept_seen, kept_new}
-use Rattle.schema_fold.specs.in_schema_types.SchemaTree.{same_kind}
-use Rattle.schema_fold.specs.in_schema_types.TypeParts.{TypeDefinition, type_here}
-use Rattle.schema_fold.specs.in_schema_types.declared.type_kind.TypeKind.{TypeKind}
-use Rattle.schema_fold.specs.in_schema_types.declared.type_kind.TypeKind.TheVariants.{Scalar, Object}
-use Rattle.schema_fold.specs.Listed.{Definitions, type_name, types_in, type_named}
-use Rattle.schema_fold.specs.SchemaFold.{Root, SchemaGiver, schema_here, schema_definition_in, is_object_in, schema_is_defined}
-use Rattle.schema_fold.specs.BuildErrors.{is_built_in_scalar}
+use Rattle.schema_fold_index.specs.in_values.OperationQueries.{default_root_name}
+use Rattle.tree_operations.specs.in_directives.declared.operation_type.OperationType.{OperationType}
+use Rattle.tree_operations.specs.in_directives.declared.operation_type.OperationType.TheVariants as operation
+use Rattle.schema_fold_index.specs.in_definitions.DefinitionTree.{DefinitionTree}
+use Rattle.schema_fold_index.specs.in_components.Lists.{firsts, has_name}
+use Rattle.schema_fold_index.specs.in_components.Names.{Entries}
+use Rattle.schema_fold_index.proofs.in_components.Firsts.{kept_seen, kept_new}
+use Rattle.schema_fold_index.specs.in_schema_types.SchemaTree.{same_kind}
+use Rattle.schema_fold_index.specs.in_schema_types.TypeParts.{TypeDefinition, type_here}
+use Rattle.schema_fold_index.specs.in_schema_types.declared.type_kind.TypeKind.{TypeKind}
+use Rattle.schema_fold_index.specs.in_schema_types.declared.type_kind.TypeKind.TheVariants.{Scalar, Object}
+use Rattle.schema_fold_index.specs.in_fold.Listed.{Definitions, type_name, types_in, type_named}
+use Rattle.schema_fold_index.specs.in_fold.SchemaFold.{Root, SchemaGiver, schema_here, schema_definition_in, is_object_in, schema_is_defined}
+use Rattle.schema_fold_index.specs.in_fold.BuildErrors.{is_built_in_scalar}
 use Rattle.schema_fold_index.proofs.Listing.{flat_map-push}
 use Rattle.schema_fold_types.proofs.Named.{named, some_named, find_firsts}
 use Rattle.schema_fold_types.specs.Seen.{Seen, first_kinds, seen_of, Sees, SeesType, kind_in, is_scalar_in, kind_seen, root_seen, schema_seen}

@@ -2,8 +2,8 @@
 use Rattle.std.proofs.Common.{◌≡◌, ◌⊎◌, ℕ, Bool, true, false, List, [], ◌∷◌, ◌++◌, map, refl, sym, ap, subst, ◌∙◌, inl, inr, cond, if◌then◌else◌, Contains}
 use Rattle.std.specs.Prelude.{◌↔◌}
 use Rattle.std.proofs.lemmas.List.Elements.{Contains-append_left, Contains-append_right, Contains-append_cases}
-use Rattle.schema_fold.specs.in_components.Lists.{repeats, has_name, IsRepeated}
-use Rattle.schema_fold.proofs.in_components.Places.{not_in_nil, Contains-cons, Contains-first, Contains-rest, found_at, given_at, AtSomePlace-map, only, is_only}
+use Rattle.schema_fold_index.specs.in_components.Lists.{repeats, has_name, IsRepeated}
+use Rattle.schema_fold_index.proofs.in_components.Places.{not_in_nil, Contains-cons, Contains-first, Contains-rest, found_at, given_at, AtSomePlace-map, only, is_only}
 
 module _ {X F : Type 0} (note : X → F) where
   pub from_map : (xs : List X) (f : F) → Contains (map note xs) f → (x : X) × (Contains xs x × (f ≡ note x))

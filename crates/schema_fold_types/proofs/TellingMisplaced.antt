@@ -3,11 +3,11 @@ use Rattle.std.proofs.Common.{◌≡◌, List, ◌++◌, inl, inr, Contains}
 use Rattle.std.specs.List.{flat_map}
 use Rattle.std.proofs.lemmas.List.Elements.{Contains-append_left, Contains-append_right, Contains-append_cases}
 use Rattle.graphql_names.specs.Placed.{Place}
-use Rattle.schema_fold.specs.in_definitions.DefinitionTree.{DefinitionTree}
-use Rattle.schema_fold.specs.in_components.Lists.{AtSomePlace}
-use Rattle.schema_fold.proofs.in_components.Places.{found_at, given_at, found_among, given_among, AtSomePlace-map}
-use Rattle.schema_fold.specs.Listed.{Definitions}
-use Rattle.schema_fold.specs.BuildErrors.{BuildFault}
+use Rattle.schema_fold_index.specs.in_definitions.DefinitionTree.{DefinitionTree}
+use Rattle.schema_fold_index.specs.in_components.Lists.{AtSomePlace}
+use Rattle.schema_fold_index.proofs.in_components.Places.{found_at, given_at, found_among, given_among, AtSomePlace-map}
+use Rattle.schema_fold_index.specs.in_fold.Listed.{Definitions}
+use Rattle.schema_fold_index.specs.in_fold.BuildErrors.{BuildFault}
 use Rattle.schema_fold_types.proofs.Telling.{told_more}
 use Rattle.schema_fold_types.specs.Misplaced as placed
 use Rattle.schema_fold_types.specs.Misplaced.{Misplaced, TellsMisplaced}

@@ -4,27 +4,27 @@ use Rattle.std.specs.Prelude.{◌↔◌}
 use Rattle.std.specs.List.{flat_map}
 use Rattle.std.proofs.lemmas.List.Elements.{Contains-append_left, Contains-append_right, Contains-append_cases}
 use Rattle.graphql_names.specs.Placed.{Placed, Place, Text}
-use Rattle.schema_fold.specs.in_directives.DirectiveTree.{InputValueTree}
-use Rattle.schema_fold.specs.in_definitions.DefinitionTree.{DefinitionTree}
-use Rattle.schema_fold.specs.in_type_members.TypeSystemTree.{FieldDefinitionTree, EnumValueTree}
-use Rattle.schema_fold.specs.in_components.Lists.{firsts, has_name, AtSomePlace}
-use Rattle.schema_fold.specs.in_components.Given.{Given, given_name}
-use Rattle.schema_fold.proofs.in_components.Places.{not_in_nil, Contains-cons, Contains-first, Contains-rest, found_at, only}
-use Rattle.schema_fold.specs.in_schema_types.SchemaTree.{same_kind}
-use Rattle.schema_fold.specs.in_schema_types.TypeParts.{TypeDefinition, type_here}
-use Rattle.schema_fold.specs.in_schema_types.declared.type_kind.TypeKind.{TypeKind}
-use Rattle.schema_fold.specs.in_schema_types.declared.type_kind.TypeKind.TheVariants.{Scalar, Object, Interface, Union, Enum, InputObject}
-use Rattle.schema_fold.specs.Listed.{Definitions, Listed, numbered, type_name, types_in}
-use Rattle.schema_fold.specs.Components.{parts_of, keyed_firsts, field_key, value_key, input_key}
-use Rattle.schema_fold.specs.Collected.{AllComponents, collected_from}
-use Rattle.schema_fold.specs.Kept.{kept_from, repeat_faults, component_faults}
-use Rattle.schema_fold.specs.Made.{IsOfKind}
-use Rattle.schema_fold.specs.FaultView.{repeat_breach}
-use Rattle.schema_fold.specs.BuildErrors as breach
-use Rattle.schema_fold.specs.BuildErrors.{Breach, BuildFault}
-use Rattle.schema_fold.specs.declared.build_error.Repeat.{Repeat}
-use Rattle.schema_fold.specs.declared.build_error.Repeat.TheVariants as repeat
-use Rattle.schema_fold.proofs.OfKind.{folded_of_kind}
+use Rattle.tree_operations.specs.in_directives.DirectiveTree.{InputValueTree}
+use Rattle.schema_fold_index.specs.in_definitions.DefinitionTree.{DefinitionTree}
+use Rattle.schema_fold_index.specs.in_type_members.TypeSystemTree.{FieldDefinitionTree, EnumValueTree}
+use Rattle.schema_fold_index.specs.in_components.Lists.{firsts, has_name, AtSomePlace}
+use Rattle.schema_fold_index.specs.in_components.Given.{Given, given_name}
+use Rattle.schema_fold_index.proofs.in_components.Places.{not_in_nil, Contains-cons, Contains-first, Contains-rest, found_at, only}
+use Rattle.schema_fold_index.specs.in_schema_types.SchemaTree.{same_kind}
+use Rattle.schema_fold_index.specs.in_schema_types.TypeParts.{TypeDefinition, type_here}
+use Rattle.schema_fold_index.specs.in_schema_types.declared.type_kind.TypeKind.{TypeKind}
+use Rattle.schema_fold_index.specs.in_schema_types.declared.type_kind.TypeKind.TheVariants.{Scalar, Object, Interface, Union, Enum, InputObject}
+use Rattle.schema_fold_index.specs.in_fold.Listed.{Definitions, Listed, numbered, type_name, types_in}
+use Rattle.schema_fold_index.specs.in_fold.Components.{parts_of, keyed_firsts, field_key, value_key, input_key}
+use Rattle.schema_fold_index.specs.in_fold.Collected.{AllComponents, collected_from}
+use Rattle.schema_fold_index.specs.in_fold.Kept.{kept_from, repeat_faults, component_faults}
+use Rattle.schema_fold_index.specs.in_fold.Made.{IsOfKind}
+use Rattle.schema_fold_index.specs.in_fold.FaultView.{repeat_breach}
+use Rattle.schema_fold_index.specs.in_fold.BuildErrors as breach
+use Rattle.schema_fold_index.specs.in_fold.BuildErrors.{Breach, BuildFault}
+use Rattle.schema_fold_index.specs.in_fold.declared.build_error.Repeat.{Repeat}
+use Rattle.schema_fold_index.specs.in_fold.declared.build_error.Repeat.TheVariants as repeat
+use Rattle.schema_fold_index.proofs.in_fold.OfKind.{folded_of_kind}
 use Rattle.schema_fold_types.specs.TypeFaults.{faults_of_type, faults_of_types, FailsInType, ComponentRule, duplicate_implements_interface_in_object, duplicate_implements_interface_in_interface, object_field_name_collision, interface_field_name_collision, enum_value_name_collision, union_member_name_collision, input_field_name_collision}
 use Rattle.schema_fold_types.proofs.Telling.{told, IsTold}
 

@@ -2,13 +2,13 @@
 use Rattle.std.specs.Prelude.{◌≡◌, ℕ, List, ◌++◌, map}
 use Rattle.std.specs.List.{flat_map}
 use Rattle.graphql_names.specs.Placed.{Place}
-use Rattle.schema_fold.specs.in_components.Lists.{firsts}
-use Rattle.schema_fold.specs.in_components.Names.{Entries}
-use Rattle.schema_fold.specs.in_schema_types.SchemaTree.{SchemaType}
-use Rattle.schema_fold.specs.in_schema_types.TypeParts.{TypeDefinition}
-use Rattle.schema_fold.specs.Listed.{Listed, type_name}
-use Rattle.schema_fold.specs.Fold.{folded_type}
-use Rattle.schema_fold.specs.BuildErrors.{BuildFault}
+use Rattle.schema_fold_index.specs.in_components.Lists.{firsts}
+use Rattle.schema_fold_index.specs.in_components.Names.{Entries}
+use Rattle.schema_fold_index.specs.in_schema_types.SchemaTree.{SchemaType}
+use Rattle.schema_fold_index.specs.in_schema_types.TypeParts.{TypeDefinition}
+use Rattle.schema_fold_index.specs.in_fold.Listed.{Listed, type_name}
+use Rattle.schema_fold_index.specs.in_fold.Fold.{folded_type}
+use Rattle.schema_fold_index.specs.in_fold.BuildErrors.{BuildFault}
 use Rattle.schema_fold_types.specs.TypeFaults.{faults_of_type}
 
 -- ---- types with the extensions under their names

@@ -7,5 +7,5 @@ pub mod Seen
 pub mod SeenView
 pub mod OwnView
 pub mod Steps
-pub use Rattle.schema_fold.specs as in_fold
+pub use Rattle.schema_fold_index.specs.in_fold as in_fold
 pub use Rattle.schema_fold_index.specs as in_fold_index

@@ -2,13 +2,13 @@
 use Rattle.std.specs.Prelude.{◌≡◌, ◌↔◌, ◌⊎◌, ℕ, false, List, ◌++◌, map, is_some, Contains}
 use Rattle.std.specs.List.{flat_map, list_any}
 use Rattle.graphql_names.specs.Placed.{Place}
-use Rattle.schema_fold.specs.in_components.Lists.{firsts}
-use Rattle.schema_fold.specs.in_components.Names.{Entries}
-use Rattle.schema_fold.specs.in_schema_types.SchemaTree.{SchemaType}
-use Rattle.schema_fold.specs.in_schema_types.TypeParts.{TypeDefinition, type_extension_here}
-use Rattle.schema_fold.specs.Listed.{Definitions, Listed, numbered, type_name, types_in, definitions_of}
-use Rattle.schema_fold.specs.Fold.{folded_type, folded_types}
-use Rattle.schema_fold.specs.BuildErrors.{BuildFault}
+use Rattle.schema_fold_index.specs.in_components.Lists.{firsts}
+use Rattle.schema_fold_index.specs.in_components.Names.{Entries}
+use Rattle.schema_fold_index.specs.in_schema_types.SchemaTree.{SchemaType}
+use Rattle.schema_fold_index.specs.in_schema_types.TypeParts.{TypeDefinition, type_extension_here}
+use Rattle.schema_fold_index.specs.in_fold.Listed.{Definitions, Listed, numbered, type_name, types_in, definitions_of}
+use Rattle.schema_fold_index.specs.in_fold.Fold.{folded_type, folded_types}
+use Rattle.schema_fold_index.specs.in_fold.BuildErrors.{BuildFault}
 use Rattle.schema_fold_types.specs.TypeFaults.{faults_of_type, FailsInType}
 
 -- these extend no type

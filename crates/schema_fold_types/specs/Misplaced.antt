@@ -1,7 +1,7 @@
 -- Private: leads to `Fails` of `schema_fold`. The folding rules that are judged by what stands at a position of the list, together (GraphQL, October 2021, section 3).
 use Rattle.std.specs.Prelude.{◌↔◌, ◌⊎◌, List, Contains}
-use Rattle.schema_fold.specs.Listed.{Definitions}
-use Rattle.schema_fold.specs.BuildErrors.{BuildFault, BreaksSomewhere, ExecutableDefinitionAt, SchemaDefinitionCollisionAt, TypeDefinitionCollisionAt, BuiltInScalarTypeRedefinitionAt, OrphanSchemaExtensionAt, OrphanTypeExtensionAt, TypeExtensionKindMismatchAt}
+use Rattle.schema_fold_index.specs.in_fold.Listed.{Definitions}
+use Rattle.schema_fold_index.specs.in_fold.BuildErrors.{BuildFault, BreaksSomewhere, ExecutableDefinitionAt, SchemaDefinitionCollisionAt, TypeDefinitionCollisionAt, BuiltInScalarTypeRedefinitionAt, OrphanSchemaExtensionAt, OrphanTypeExtensionAt, TypeExtensionKindMismatchAt}
 
 -- one of these rules is broken so at some position of the texts
 pub data Misplaced (built_in texts : Definitions) (fault : BuildFault) : Type 0 where

@@ -4,11 +4,11 @@ use Rattle.std.specs.List.{IsDistinct}
 use Rattle.std.specs.Map.{keys_of, values_of}
 use Rattle.std.specs.Str.{bytes_eq}
 use Rattle.graphql_names.specs.Placed.{Place}
-use Rattle.schema_fold.specs.in_components.Names.{Entries}
-use Rattle.schema_fold.specs.in_components.Given.{given_name}
-use Rattle.schema_fold.specs.in_schema_types.SchemaTree.{SchemaType, SchemaTree}
-use Rattle.schema_fold.specs.Listed.{directive_name}
-use Rattle.schema_fold.specs.Components.{field_key, value_key, input_key}
+use Rattle.schema_fold_index.specs.in_components.Names.{Entries}
+use Rattle.schema_fold_index.specs.in_components.Given.{given_name}
+use Rattle.schema_fold_index.specs.in_schema_types.SchemaTree.{SchemaType, SchemaTree}
+use Rattle.schema_fold_index.specs.in_fold.Listed.{directive_name}
+use Rattle.schema_fold_index.specs.in_fold.Components.{field_key, value_key, input_key}
 
 -- the keys are the names of what stands under them, and no two are the same
 abbrev pub AreNamed : {V : Type 0} → (V → List ℕ) → Entries V → Type 0

@@ -5,20 +5,20 @@ use Rattle.std.specs.Map.{lookup}
 use Rattle.std.specs.Option.{option_map_or, option_or}
 use Rattle.std.specs.Str.{bytes_eq}
 use Rattle.graphql_names.specs.Placed.{Place}
-use Rattle.schema_fold.specs.in_components.in_values.OperationQueries.{default_root_name}
-use Rattle.schema_fold.specs.in_directives.declared.operation_type.OperationType.{OperationType}
-use Rattle.schema_fold.specs.in_directives.declared.operation_type.OperationType.TheVariants as operation
-use Rattle.schema_fold.specs.in_definitions.DefinitionTree.{DefinitionTree}
-use Rattle.schema_fold.specs.in_definitions.Queries.{is_executable}
-use Rattle.schema_fold.specs.in_components.Lists.{each_place, firsts}
-use Rattle.schema_fold.specs.in_components.Names.{Entries}
-use Rattle.schema_fold.specs.in_schema_types.SchemaTree.{same_kind}
-use Rattle.schema_fold.specs.in_schema_types.TypeParts.{TypeDefinition, type_here, type_extension_here}
-use Rattle.schema_fold.specs.in_schema_types.declared.type_kind.TypeKind.{TypeKind}
-use Rattle.schema_fold.specs.in_schema_types.declared.type_kind.TypeKind.TheVariants.{Scalar, Object}
-use Rattle.schema_fold.specs.Listed.{Definitions, type_name, types_in}
-use Rattle.schema_fold.specs.SchemaFold.{schema_here, schema_extension_here, schema_definition_in}
-use Rattle.schema_fold.specs.BuildErrors.{Breach, BuildFault, At, ExecutableDefinition, SchemaDefinitionCollision, TypeDefinitionCollision, BuiltInScalarTypeRedefinition, OrphanSchemaExtension, OrphanTypeExtension, TypeExtensionKindMismatch}
+use Rattle.schema_fold_index.specs.in_values.OperationQueries.{default_root_name}
+use Rattle.tree_operations.specs.in_directives.declared.operation_type.OperationType.{OperationType}
+use Rattle.tree_operations.specs.in_directives.declared.operation_type.OperationType.TheVariants as operation
+use Rattle.schema_fold_index.specs.in_definitions.DefinitionTree.{DefinitionTree}
+use Rattle.schema_fold_index.specs.in_definitions.Queries.{is_executable}
+use Rattle.schema_fold_index.specs.in_components.Lists.{each_place, firsts}
+use Rattle.schema_fold_index.specs.in_components.Names.{Entries}
+use Rattle.schema_fold_index.specs.in_schema_types.SchemaTree.{same_kind}
+use Rattle.schema_fold_index.specs.in_schema_types.TypeParts.{TypeDefinition, type_here, type_extension_here}
+use Rattle.schema_fold_index.specs.in_schema_types.declared.type_kind.TypeKind.{TypeKind}
+use Rattle.schema_fold_index.specs.in_schema_types.declared.type_kind.TypeKind.TheVariants.{Scalar, Object}
+use Rattle.schema_fold_index.specs.in_fold.Listed.{Definitions, type_name, types_in}
+use Rattle.schema_fold_index.specs.in_fold.SchemaFold.{schema_here, schema_extension_here, schema_definition_in}
+use Rattle.schema_fold_index.specs.in_fold.BuildErrors.{Breach, BuildFault, At, ExecutableDefinition, SchemaDefinitionCollision, TypeDefinitionCollision, BuiltInScalarTypeRedefinition, OrphanSchemaExtension, OrphanTypeExtension, TypeExtensionKindMismatch}
 
 -- ---- what is defined
 

@@ -1,7 +1,7 @@
 -- Private: leads to `Fails` of `schema_fold`. What contracts see of what a list defines.
-use Rattle.schema_fold.specs.in_components.Names.{entries_of}
-use Rattle.schema_fold.specs.in_schema_types.TypeView.{name_text}
-use Rattle.schema_fold.specs.PartsView.{itself}
+use Rattle.schema_fold_index.specs.in_components.Names.{entries_of}
+use Rattle.schema_fold_index.specs.in_schema_types.TypeView.{name_text}
+use Rattle.schema_fold_index.specs.in_fold.PartsView.{itself}
 use Rattle.schema_fold_types.specs.Seen.{Seen}
 use Rattle.schema_fold_types.specs.declared.seen.Seen.{Seen as Rust}
 

@@ -5,17 +5,17 @@ use Rattle.std.specs.declared.alloc.Global.{Global}
 use Rattle.indexmap.specs.IndexMap.{IndexMap}
 use Rattle.graphql_names.specs.NameValue.{NameValue}
 use Rattle.graphql_names.specs.Placed.{Place}
-use Rattle.schema_fold.specs.in_definitions.DefinitionTree.{DefinitionTree, definition_tree}
-use Rattle.schema_fold.specs.in_schema_types.SchemaView.{types_view}
-use Rattle.schema_fold.specs.in_schema_types.TypeParts.{TypeDefinition, type_here}
-use Rattle.schema_fold.specs.in_schema_types.declared.extended_type.ExtendedType.{ExtendedType}
-use Rattle.schema_fold.specs.BuildErrors.{BuildFault}
-use Rattle.schema_fold.specs.FaultView.{faults_of}
-use Rattle.schema_fold.specs.Listed.{Definitions, definitions_of}
-use Rattle.schema_fold.specs.ListedView.{listed_view}
-use Rattle.schema_fold.specs.declared.build_error.BuildError.{BuildError}
-use Rattle.schema_fold.specs.declared.listed.Listed.{Listed}
-use Rattle.schema_fold.specs.declared.parts.Parts.{Parts}
+use Rattle.schema_fold_index.specs.in_definitions.DefinitionTree.{DefinitionTree, definition_tree}
+use Rattle.schema_fold_index.specs.in_schema_types.SchemaView.{types_view}
+use Rattle.schema_fold_index.specs.in_schema_types.TypeParts.{TypeDefinition, type_here}
+use Rattle.schema_fold_index.specs.in_schema_types.declared.extended_type.ExtendedType.{ExtendedType}
+use Rattle.schema_fold_index.specs.in_fold.BuildErrors.{BuildFault}
+use Rattle.schema_fold_index.specs.in_fold.FaultView.{faults_of}
+use Rattle.schema_fold_index.specs.in_fold.Listed.{Definitions, definitions_of}
+use Rattle.schema_fold_index.specs.in_fold.ListedView.{listed_view}
+use Rattle.schema_fold_index.specs.in_fold.declared.build_error.BuildError.{BuildError}
+use Rattle.schema_fold_index.specs.in_fold.declared.listed.Listed.{Listed}
+use Rattle.schema_fold_index.specs.in_fold.declared.parts.Parts.{Parts}
 use Rattle.schema_fold_index.specs.Index.{extensions_under, defined_at}
 use Rattle.schema_fold_index.specs.declared.index.Filed.{Filed}
 use Rattle.schema_fold_types.specs.Filing.{FoldsOn}

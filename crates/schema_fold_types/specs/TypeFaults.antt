@@ -2,14 +2,14 @@
 use Rattle.std.specs.Prelude.{ℕ, List}
 use Rattle.std.specs.List.{flat_map}
 use Rattle.graphql_names.specs.Placed.{Place}
-use Rattle.schema_fold.specs.in_components.Lists.{firsts}
-use Rattle.schema_fold.specs.in_schema_types.TypeParts.{TypeDefinition}
-use Rattle.schema_fold.specs.Listed.{Definitions, Listed, numbered, type_name, types_in}
-use Rattle.schema_fold.specs.Components.{parts_of}
-use Rattle.schema_fold.specs.Collected.{collected_from}
-use Rattle.schema_fold.specs.Kept.{component_faults}
-use Rattle.schema_fold.specs.BuildErrors as breach
-use Rattle.schema_fold.specs.BuildErrors.{Breach, BuildFault, DuplicateImplementsInterfaceInObjectIn, DuplicateImplementsInterfaceInInterfaceIn, ObjectFieldNameCollisionIn, InterfaceFieldNameCollisionIn, EnumValueNameCollisionIn, UnionMemberNameCollisionIn, InputFieldNameCollisionIn}
+use Rattle.schema_fold_index.specs.in_components.Lists.{firsts}
+use Rattle.schema_fold_index.specs.in_schema_types.TypeParts.{TypeDefinition}
+use Rattle.schema_fold_index.specs.in_fold.Listed.{Definitions, Listed, numbered, type_name, types_in}
+use Rattle.schema_fold_index.specs.in_fold.Components.{parts_of}
+use Rattle.schema_fold_index.specs.in_fold.Collected.{collected_from}
+use Rattle.schema_fold_index.specs.in_fold.Kept.{component_faults}
+use Rattle.schema_fold_index.specs.in_fold.BuildErrors as breach
+use Rattle.schema_fold_index.specs.in_fold.BuildErrors.{Breach, BuildFault, DuplicateImplementsInterfaceInObjectIn, DuplicateImplementsInterfaceInInterfaceIn, ObjectFieldNameCollisionIn, InterfaceFieldNameCollisionIn, EnumValueNameCollisionIn, UnionMemberNameCollisionIn, InputFieldNameCollisionIn}
 
 -- what the fold of a type tells
 abbrev pub faults_of_type : List Listed → TypeDefinition Place → List BuildFault

@@ -1,11 +1,11 @@
 //! The rules that are judged by what stands before a definition.
 ghost use Rattle.std.specs.Prelude.{◌≡◌, ◌||◌, ◌++◌, [], ◌∷◌, map, is_some, IfOk, OnOk};
-ghost use Rattle.schema_fold.specs.in_definitions.DefinitionTree.{definition_tree};
-ghost use Rattle.schema_fold.specs.BuildErrors.{ExecutableDefinition, SchemaDefinitionCollision, TypeDefinitionCollision, BuiltInScalarTypeRedefinition};
-ghost use Rattle.schema_fold.specs.FaultView.{faults_of};
-ghost use Rattle.schema_fold.specs.Listed.{definitions_of};
-ghost use Rattle.schema_fold.specs.ListedView.{listed_view};
-ghost use Rattle.schema_fold.specs.SchemaFold.{schema_definition_in};
+ghost use Rattle.schema_fold_index.specs.in_definitions.DefinitionTree.{definition_tree};
+ghost use Rattle.schema_fold_index.specs.in_fold.BuildErrors.{ExecutableDefinition, SchemaDefinitionCollision, TypeDefinitionCollision, BuiltInScalarTypeRedefinition};
+ghost use Rattle.schema_fold_index.specs.in_fold.FaultView.{faults_of};
+ghost use Rattle.schema_fold_index.specs.in_fold.Listed.{definitions_of};
+ghost use Rattle.schema_fold_index.specs.in_fold.ListedView.{listed_view};
+ghost use Rattle.schema_fold_index.specs.in_fold.SchemaFold.{schema_definition_in};
 ghost use Rattle.schema_fold_index.specs.Index.{AreFiled, standing_in_list, parts_here};
 ghost use Rattle.schema_fold_types.specs.Seen.{kind_in, type_faults, collision_faults};
 ghost use Rattle.schema_fold_types.specs.SeenView.{seen_view};
@@ -15,8 +15,7 @@ ghost use Rattle.schema_fold_types.specs.Steps.{AddsFaults, definitions_listed, 
 use crate::seen::{Seen, is_schema_definition};
 use graphql_names::{Name, SourceSpan};
 use indexmap::IndexMap;
-use schema_fold::{BuildError, Definition, Listed, tell, type_definition};
-use schema_fold_index::Filed;
+use schema_fold_index::{BuildError, Definition, Filed, Listed, tell, type_definition};
 use std::alloc::AllocError;
 
 /// What stands before a position of the texts: the types that are filed there, and a schema definition or none.

@@ -1,13 +1,12 @@
 //! The extensions of a type, by the positions that are filed under its name.
 ghost use Rattle.std.specs.Prelude.{◌≡◌, ◌++◌, map, IfOk, OnOk};
 ghost use Rattle.std.specs.List.{flat_map};
-ghost use Rattle.schema_fold.specs.ListedView.{listed_view};
+ghost use Rattle.schema_fold_index.specs.in_fold.ListedView.{listed_view};
 ghost use Rattle.schema_fold_index.specs.Index.{positions_of, listed_at, extensions_under};
 
 use graphql_names::Name;
 use indexmap::IndexMap;
-use schema_fold::Listed;
-use schema_fold_index::Filed;
+use schema_fold_index::{Filed, Listed};
 use std::alloc::{AllocError, Global};
 
 /// The extensions that are filed under a name, shared, with their numbers, in the order of the list.

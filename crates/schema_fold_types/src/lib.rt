@@ -18,3 +18,6 @@ mod types;
 
 pub use misplaced::tell_misplaced;
 pub use types::fold_types;
+
+// Of the crates beneath, for those above.
+pub use schema_fold_index::Index;

@@ -1,8 +1,8 @@
 //! All rules on positions.
 ghost use Rattle.std.specs.Prelude.{◌≡◌, ◌++◌, map, OnOk};
-ghost use Rattle.schema_fold.specs.FaultView.{faults_of};
-ghost use Rattle.schema_fold.specs.Listed.{definitions_of};
-ghost use Rattle.schema_fold.specs.ListedView.{listed_view};
+ghost use Rattle.schema_fold_index.specs.in_fold.FaultView.{faults_of};
+ghost use Rattle.schema_fold_index.specs.in_fold.Listed.{definitions_of};
+ghost use Rattle.schema_fold_index.specs.in_fold.ListedView.{listed_view};
 ghost use Rattle.schema_fold_index.specs.Index.{IsIndexOf};
 ghost use Rattle.schema_fold_types.specs.Misplaced.{TellsMisplaced};
 ghost use Rattle.schema_fold_types.specs.Seen.{misplaced_faults};
@@ -11,8 +11,7 @@ use crate::collisions::tell_collisions;
 use crate::orphans::tell_extensions;
 use crate::seen::{Own, Seen};
 use graphql_names::SourceSpan;
-use schema_fold::{BuildError, Listed};
-use schema_fold_index::Index;
+use schema_fold_index::{BuildError, Index, Listed};
 use std::alloc::{AllocError, Global};
 
 /// Tells each definition and each extension of the texts that breaks a rule by where it stands: definitions in order,

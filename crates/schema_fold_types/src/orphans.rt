@@ -1,9 +1,9 @@
 //! The rules that are judged by what the whole list defines.
 ghost use Rattle.std.specs.Prelude.{◌≡◌, ◌++◌, [], ◌∷◌, is_some, OnOk};
-ghost use Rattle.schema_fold.specs.in_definitions.DefinitionTree.{definition_tree};
-ghost use Rattle.schema_fold.specs.BuildErrors.{OrphanSchemaExtension, OrphanTypeExtension, TypeExtensionKindMismatch};
-ghost use Rattle.schema_fold.specs.FaultView.{faults_of};
-ghost use Rattle.schema_fold.specs.SchemaFold.{schema_extension_here};
+ghost use Rattle.schema_fold_index.specs.in_definitions.DefinitionTree.{definition_tree};
+ghost use Rattle.schema_fold_index.specs.in_fold.BuildErrors.{OrphanSchemaExtension, OrphanTypeExtension, TypeExtensionKindMismatch};
+ghost use Rattle.schema_fold_index.specs.in_fold.FaultView.{faults_of};
+ghost use Rattle.schema_fold_index.specs.in_fold.SchemaFold.{schema_extension_here};
 ghost use Rattle.schema_fold_types.specs.Seen.{extension_faults};
 ghost use Rattle.schema_fold_types.specs.SeenView.{seen_view};
 ghost use Rattle.schema_fold_types.specs.OwnView.{own_view};
@@ -11,7 +11,7 @@ ghost use Rattle.schema_fold_types.specs.Steps.{AddsFaults, all_extension_faults
 
 use crate::seen::{Own, Seen, kind_of, schema_is_defined};
 use graphql_names::{Name, SourceSpan};
-use schema_fold::{BuildError, Definition, Listed, Parts, extension_parts, tell};
+use schema_fold_index::{BuildError, Definition, Listed, Parts, extension_parts, tell};
 use std::alloc::AllocError;
 
 /// Tells each extension of the texts whose schema or type is not defined, or is of another kind.

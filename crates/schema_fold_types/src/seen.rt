@@ -1,17 +1,16 @@
 //! What a list of definitions defines: what is built in by its kinds, and the texts by their index.
 ghost use Rattle.std.specs.Prelude.{◌≡◌, ◌||◌, [], map, Option, IfOk, OnOk, is_some};
-ghost use Rattle.schema_fold.specs.in_definitions.DefinitionTree.{definition_tree};
-ghost use Rattle.schema_fold.specs.Listed.{definitions_of};
-ghost use Rattle.schema_fold.specs.ListedView.{listed_view};
-ghost use Rattle.schema_fold.specs.SchemaFold.{schema_here};
+ghost use Rattle.schema_fold_index.specs.in_definitions.DefinitionTree.{definition_tree};
+ghost use Rattle.schema_fold_index.specs.in_fold.Listed.{definitions_of};
+ghost use Rattle.schema_fold_index.specs.in_fold.ListedView.{listed_view};
+ghost use Rattle.schema_fold_index.specs.in_fold.SchemaFold.{schema_here};
 ghost use Rattle.schema_fold_types.specs.Seen.{seen_of, Sees, SeesType, kind_in, is_scalar_in, kind_seen, root_seen, schema_seen};
 ghost use Rattle.schema_fold_types.specs.SeenView.{seen_view};
 ghost use Rattle.schema_fold_types.specs.OwnView.{own_view};
 
 use graphql_names::Name;
 use indexmap::IndexMap;
-use schema_fold::{Definition, Listed, TypeKind, insert_new, type_definition};
-use schema_fold_index::Filed;
+use schema_fold_index::{Definition, Filed, Listed, TypeKind, insert_new, type_definition};
 use std::alloc::{AllocError, Global};
 use tree_operations::OperationType;
 

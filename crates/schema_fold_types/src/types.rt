@@ -1,10 +1,10 @@
 //! What the definitions of types fold to.
 ghost use Rattle.std.specs.Prelude.{◌≡◌, ◌++◌, ◌∷◌, [], map, IfOk, OnOk};
-ghost use Rattle.schema_fold.specs.in_schema_types.SchemaView.{types_view};
-ghost use Rattle.schema_fold.specs.FaultView.{faults_of};
-ghost use Rattle.schema_fold.specs.Listed.{types_in, definitions_of};
-ghost use Rattle.schema_fold.specs.ListedView.{listed_view};
-ghost use Rattle.schema_fold.specs.Made.{defined_view, IsDefinition};
+ghost use Rattle.schema_fold_index.specs.in_schema_types.SchemaView.{types_view};
+ghost use Rattle.schema_fold_index.specs.in_fold.FaultView.{faults_of};
+ghost use Rattle.schema_fold_index.specs.in_fold.Listed.{types_in, definitions_of};
+ghost use Rattle.schema_fold_index.specs.in_fold.ListedView.{listed_view};
+ghost use Rattle.schema_fold_index.specs.in_fold.Made.{defined_view, IsDefinition};
 ghost use Rattle.schema_fold_index.specs.Index.{IsIndexOf, defined_at};
 ghost use Rattle.schema_fold_types.specs.ListTypes.{types_from, faults_from, FoldsTypes, TellsTypes};
 ghost use Rattle.schema_fold_types.specs.OwnNames.{TypesUnderOwnNames};
@@ -13,10 +13,9 @@ ghost use Rattle.schema_fold_types.specs.Steps.{definitions_listed, defined_file
 use crate::extensions::extensions_of;
 use graphql_names::{Name, SourceSpan};
 use indexmap::IndexMap;
-use schema_fold::{
-    BuildError, Defined, ExtendedType, Listed, fold_type, insert_new, type_definition,
+use schema_fold_index::{
+    BuildError, Defined, ExtendedType, Filed, Index, Listed, fold_type, insert_new, type_definition,
 };
-use schema_fold_index::{Filed, Index};
 use std::alloc::{AllocError, Global};
 
 /// The texts, and the positions in them at which types are extended, filed under their names.

@@ -5,11 +5,11 @@ use Rattle.std.specs.Option.{option_map, option_map_or}
 use Rattle.std.specs.Str.{bytes_eq}
 use Rattle.graphql_names.specs.Places.{is_built_in}
 use Rattle.graphql_names.specs.Placed.{Placed, Place, Text}
-use Rattle.tree_directives.specs.in_literals.TypeTree.{TypeTree, NamedTree, NonNullNamedTree, ListTree, NonNullListTree}
-use Rattle.tree_directives.specs.DirectiveTree.{DirectiveTree, Directives, ArgumentTree, InputValueTree, InputValues, DirectiveDefinitionTree}
+use Rattle.schema_components.specs.in_literals.TypeTree.{TypeTree, NamedTree, NonNullNamedTree, ListTree, NonNullListTree}
+use Rattle.schema_components.specs.in_directives.DirectiveTree.{DirectiveTree, Directives, ArgumentTree, InputValueTree, InputValues, DirectiveDefinitionTree}
 use Rattle.schema_components.specs.in_operations.in_directives.declared.operation_type.OperationType.{OperationType}
 use Rattle.schema_components.specs.in_operations.in_directives.declared.operation_type.OperationType.TheVariants as operation
-use Rattle.tree_type_members.specs.TypeSystemTree.{FieldDefinitionTree, EnumValueTree}
+use Rattle.tree_meaning.specs.in_type_members.TypeSystemTree.{FieldDefinitionTree, EnumValueTree}
 use Rattle.schema_components.specs.Names.{Entries}
 use Rattle.schema_components.specs.Given.{Given, given_name}
 use Rattle.schema_components.specs.Applied.{Applied}

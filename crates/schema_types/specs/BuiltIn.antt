@@ -5,11 +5,11 @@ use Rattle.std.specs.Prelude.{ℕ, false, List, [], ◌∷◌, ◌++◌, map, co
 use Rattle.std.specs.Option.{option_map}
 use Rattle.std.proofs.Common.{lit<}
 use Rattle.graphql_names.specs.Placed.{Placed, Place, Text}
-use Rattle.tree_directives.specs.in_literals.TypeTree.{TypeTree, NamedTree, NonNullNamedTree, ListTree, NonNullListTree}
-use Rattle.tree_directives.specs.in_literals.ValueTree.{ValueTree, StringTree, BooleanTree}
-use Rattle.tree_directives.specs.DirectiveTree.{InputValueTree}
-use Rattle.tree_directives.specs.declared.directive_location.DirectiveLocation.{DirectiveLocation}
-use Rattle.tree_directives.specs.declared.directive_location.DirectiveLocation.TheVariants as at
+use Rattle.schema_components.specs.in_literals.TypeTree.{TypeTree, NamedTree, NonNullNamedTree, ListTree, NonNullListTree}
+use Rattle.schema_components.specs.in_literals.ValueTree.{ValueTree, StringTree, BooleanTree}
+use Rattle.schema_components.specs.in_directives.DirectiveTree.{InputValueTree}
+use Rattle.schema_components.specs.in_directives.declared.directive_location.DirectiveLocation.{DirectiveLocation}
+use Rattle.schema_components.specs.in_directives.declared.directive_location.DirectiveLocation.TheVariants as at
 use Rattle.schema_types.specs.in_type_members.TypeSystemTree.{FieldDefinitionTree, EnumValueTree}
 use Rattle.tree_meaning.specs.DefinitionTree.{DefinitionTree, DirectiveDefinition, ScalarType, ObjectType, EnumType}
 

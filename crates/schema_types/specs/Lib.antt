@@ -11,5 +11,6 @@ pub mod Addresses
 pub mod Distinct
 pub mod BuiltIn
 pub use Rattle.schema_components.specs as in_components
-pub use Rattle.tree_type_members.specs as in_type_members
+pub use Rattle.tree_meaning.specs.in_type_members as in_type_members
 pub use Rattle.schema_components.specs.in_values as in_values
+pub use Rattle.schema_components.specs.in_operations as in_operations

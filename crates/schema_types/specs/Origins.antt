@@ -5,10 +5,10 @@ use Rattle.std.specs.List.{flat_map}
 use Rattle.std.specs.Option.{option_map}
 use Rattle.indexmap.specs.IndexMap.{values}
 use Rattle.graphql_names.specs.Node.{content}
-use Rattle.tree_directives.specs.declared.directive.Directive.{Directive}
-use Rattle.tree_directives.specs.declared.input_value.InputValueDefinition.{InputValueDefinition}
-use Rattle.tree_type_members.specs.declared.field_definition.FieldDefinition.{FieldDefinition}
-use Rattle.tree_type_members.specs.declared.enum_value.EnumValueDefinition.{EnumValueDefinition}
+use Rattle.schema_components.specs.in_directives.declared.directive.Directive.{Directive}
+use Rattle.schema_components.specs.in_directives.declared.input_value.InputValueDefinition.{InputValueDefinition}
+use Rattle.tree_meaning.specs.in_type_members.declared.field_definition.FieldDefinition.{FieldDefinition}
+use Rattle.tree_meaning.specs.in_type_members.declared.enum_value.EnumValueDefinition.{EnumValueDefinition}
 use Rattle.schema_components.specs.Lists.{firsts}
 use Rattle.schema_components.specs.Given.{extension_id, number_of}
 use Rattle.schema_components.specs.declared.extension.ExtensionId.{ExtensionId}

@@ -6,10 +6,10 @@ use Rattle.std.specs.Str.{bytes_eq}
 use Rattle.graphql_names.specs.Places.{is_built_in}
 use Rattle.graphql_names.specs.Placed.{Placed, Place, Text}
 use Rattle.schema_components.specs.in_values.OperationQueries.{default_root_name}
-use Rattle.tree_directives.specs.DirectiveTree.{DirectiveDefinitionTree}
+use Rattle.schema_components.specs.in_directives.DirectiveTree.{DirectiveDefinitionTree}
 use Rattle.schema_components.specs.in_operations.in_directives.declared.operation_type.OperationType.{OperationType}
 use Rattle.schema_components.specs.in_operations.in_directives.declared.operation_type.OperationType.TheVariants as operation
-use Rattle.tree_type_members.specs.TypeSystemTree.{RootOperationTree, SchemaParts}
+use Rattle.tree_meaning.specs.in_type_members.TypeSystemTree.{RootOperationTree, SchemaParts}
 use Rattle.tree_meaning.specs.DefinitionTree.{DefinitionTree, DirectiveDefinition, Schema, ExtendSchema}
 use Rattle.schema_components.specs.Names.{Entries}
 use Rattle.schema_components.specs.Lists.{firsts}

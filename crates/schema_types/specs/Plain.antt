@@ -2,8 +2,8 @@
 use Rattle.std.specs.Prelude.{ℕ, List, Option}
 use Rattle.std.specs.Option.{option_map}
 use Rattle.graphql_names.specs.Placed.{Text, Placed, unplaced_text}
-use Rattle.tree_directives.specs.DirectiveTree.{DirectiveTree, InputValueTree, DirectiveDefinitionTree, unplaced_input_value, unplaced_directive_definition}
-use Rattle.tree_type_members.specs.TypeSystemTree.{FieldDefinitionTree, EnumValueTree, unplaced_field_definition, unplaced_enum_value}
+use Rattle.schema_components.specs.in_directives.DirectiveTree.{DirectiveTree, InputValueTree, DirectiveDefinitionTree, unplaced_input_value, unplaced_directive_definition}
+use Rattle.tree_meaning.specs.in_type_members.TypeSystemTree.{FieldDefinitionTree, EnumValueTree, unplaced_field_definition, unplaced_enum_value}
 use Rattle.schema_components.specs.Names.{NamedMap, Names, named, names}
 use Rattle.schema_components.specs.Given.{plain_given, given_name}
 use Rattle.schema_components.specs.Applied.{unplaced_applied}

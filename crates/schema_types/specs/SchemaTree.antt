@@ -1,8 +1,8 @@
 -- A schema as a plain tree with order, places and origins: what it has of each type, directive and root (GraphQL, October 2021, section 3).
 use Rattle.std.specs.Prelude.{ℕ, Bool, ◌==◌, ◌||◌, not, List, Option, codes}
 use Rattle.graphql_names.specs.Placed.{Placed, Text}
-use Rattle.tree_directives.specs.DirectiveTree.{InputValueTree, DirectiveDefinitionTree}
-use Rattle.tree_type_members.specs.TypeSystemTree.{FieldDefinitionTree, EnumValueTree}
+use Rattle.schema_components.specs.in_directives.DirectiveTree.{InputValueTree, DirectiveDefinitionTree}
+use Rattle.tree_meaning.specs.in_type_members.TypeSystemTree.{FieldDefinitionTree, EnumValueTree}
 use Rattle.schema_components.specs.Names.{Entries}
 use Rattle.schema_components.specs.Given.{Given}
 use Rattle.schema_components.specs.Applied.{Applied}

@@ -3,8 +3,8 @@ use Rattle.std.specs.Prelude.{List}
 use Rattle.graphql_names.specs.NameValue.{NameValue}
 use Rattle.graphql_names.specs.declared.node.Node.{Node}
 use Rattle.graphql_names.specs.Placed.{Placed, Place, node_tree}
-use Rattle.tree_directives.specs.DirectiveTree.{DirectiveDefinitionTree, directive_definition_tree}
-use Rattle.tree_directives.specs.declared.directive.DirectiveDefinition.{DirectiveDefinition}
+use Rattle.schema_components.specs.in_directives.DirectiveTree.{DirectiveDefinitionTree, directive_definition_tree}
+use Rattle.schema_components.specs.in_directives.declared.directive.DirectiveDefinition.{DirectiveDefinition}
 use Rattle.schema_components.specs.Names.{Entries, entries_of}
 use Rattle.schema_types.specs.SchemaTree.{SchemaType, SchemaTree}
 use Rattle.schema_types.specs.TypeView.{name_text, extended_type, schema_roots}

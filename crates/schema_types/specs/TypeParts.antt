@@ -1,8 +1,8 @@
 -- What the definition of a type, or an extension of one, gives: one record for all kinds (GraphQL, October 2021, section 3.4).
 use Rattle.std.specs.Prelude.{List, [], Option, None, Some}
 use Rattle.graphql_names.specs.Placed.{Placed, Text}
-use Rattle.tree_directives.specs.DirectiveTree.{Directives, InputValues}
-use Rattle.tree_type_members.specs.TypeSystemTree.{FieldDefinitionTree, EnumValueTree, ScalarParts, FieldsParts, UnionParts, EnumParts, InputObjectParts}
+use Rattle.schema_components.specs.in_directives.DirectiveTree.{Directives, InputValues}
+use Rattle.tree_meaning.specs.in_type_members.TypeSystemTree.{FieldDefinitionTree, EnumValueTree, ScalarParts, FieldsParts, UnionParts, EnumParts, InputObjectParts}
 use Rattle.tree_meaning.specs.DefinitionTree as tree
 use Rattle.tree_meaning.specs.DefinitionTree.{DefinitionTree}
 use Rattle.schema_types.specs.declared.type_kind.TypeKind.{TypeKind}

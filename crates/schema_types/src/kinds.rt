@@ -5,9 +5,8 @@
 
 use graphql_names::{Name, NodeStr};
 use indexmap::{IndexMap, IndexSet};
-use schema_components::{Component, ComponentName, DirectiveList};
-use tree_directives::InputValueDefinition;
-use tree_type_members::{EnumValueDefinition, FieldDefinition};
+use schema_components::{Component, ComponentName, DirectiveList, InputValueDefinition};
+use tree_meaning::{EnumValueDefinition, FieldDefinition};
 
 /// A scalar type (section 3.5).
 #[derive(PartialEq, Eq)]

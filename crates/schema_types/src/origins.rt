@@ -5,10 +5,11 @@ ghost use Rattle.schema_types.specs.Origins.{component_origins, extensions_in};
 ghost use Rattle.schema_types.specs.OriginsLeft.{left_origins, noted};
 
 use indexmap::IndexSet;
-use schema_components::{Component, ComponentName, ComponentOrigin, ExtensionId};
+use schema_components::{
+    Component, ComponentName, ComponentOrigin, Directive, ExtensionId, InputValueDefinition,
+};
 use std::alloc::{AllocError, Global};
-use tree_directives::{Directive, InputValueDefinition};
-use tree_type_members::{EnumValueDefinition, FieldDefinition};
+use tree_meaning::{EnumValueDefinition, FieldDefinition};
 
 /// Where the components that are left come from: applied directives, then roots, then interfaces or members,
 /// then fields, values or input fields.

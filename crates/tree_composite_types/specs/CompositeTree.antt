@@ -1,6 +1,6 @@
 -- The parts of definitions and extensions of composite types (GraphQL, October 2021, sections 3.6 to 3.8).
 use Rattle.std.specs.Prelude.{map}
-use Rattle.tree_printing.specs.in_names.Placed.{Place, name_tree, node_tree}
+use Rattle.tree_literals.specs.in_names.Placed.{Place, name_tree, node_tree}
 use Rattle.tree_type_members.specs.in_directives.DirectiveTree.{directives_tree}
 use Rattle.tree_type_members.specs.TypeSystemTree.{FieldsParts, UnionParts, field_definition_tree}
 use Rattle.tree_composite_types.specs.declared.object_type.ObjectTypeDefinition.{ObjectTypeDefinition}

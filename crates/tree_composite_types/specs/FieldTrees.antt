@@ -1,7 +1,7 @@
 -- Private: leads to `CompositeTree`. The fields of objects and interfaces.
 use Rattle.std.specs.Prelude.{List, map}
-use Rattle.tree_printing.specs.in_names.Placed.{Placed, Place, node_tree}
-use Rattle.tree_printing.specs.in_names.declared.node.Node.{Node}
+use Rattle.tree_literals.specs.in_names.Placed.{Placed, Place, node_tree}
+use Rattle.tree_literals.specs.in_names.declared.node.Node.{Node}
 use Rattle.tree_type_members.specs.TypeSystemTree.{FieldDefinitionTree, field_definition_tree}
 use Rattle.tree_type_members.specs.declared.field_definition.FieldDefinition.{FieldDefinition}
 

@@ -1,6 +1,6 @@
 //! Copies of the parts that objects and interfaces share.
 ghost use Rattle.std.specs.Prelude.{◌≡◌, map, IfOk};
-ghost use Rattle.tree_printing.specs.in_names.Placed.{name_tree};
+ghost use Rattle.tree_literals.specs.in_names.Placed.{name_tree};
 ghost use Rattle.tree_composite_types.specs.FieldTrees.{field_trees};
 
 use std::alloc::AllocError;

@@ -1,7 +1,7 @@
 //! Interface types.
 ghost use Rattle.std.specs.Prelude.{◌≡◌};
 ghost use Rattle.std.specs.Option.{option_map};
-ghost use Rattle.tree_printing.specs.in_names.Placed.{text_tree};
+ghost use Rattle.tree_literals.specs.in_names.Placed.{text_tree};
 ghost use Rattle.tree_composite_types.specs.CompositeTree.{interface_parts, interface_extension_parts};
 
 use crate::copies::clone_members;

@@ -21,5 +21,7 @@ pub use print_composite::{
     put_interface_definition, put_interface_extension, put_object_definition, put_object_extension,
     put_union_definition, put_union_extension,
 };
-pub use tree_type_members::{EnumValueDefinition, FieldDefinition};
+pub use tree_type_members::{EnumValueDefinition, FieldDefinition, put_directive_definition};
 pub use union_type::{UnionTypeDefinition, UnionTypeExtension};
+
+// Of the crates beneath, for those above.

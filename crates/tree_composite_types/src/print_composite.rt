@@ -1,16 +1,16 @@
 //! Definitions and extensions of composite types.
 ghost use Rattle.std.specs.Prelude.{codes};
 ghost use Rattle.std.specs.Option.{option_copied, option_map};
-ghost use Rattle.tree_printing.specs.in_names.Placed.{text_tree};
-ghost use Rattle.tree_printing.specs.Levels.{level_depth};
-ghost use Rattle.tree_printing.specs.StringLayout.{description_text};
+ghost use Rattle.tree_literals.specs.in_names.Placed.{text_tree};
+ghost use Rattle.tree_literals.specs.Levels.{level_depth};
+ghost use Rattle.tree_literals.specs.StringLayout.{description_text};
 ghost use Rattle.tree_type_members.specs.TypeSystemLayout.{extend, fields_text, union_text};
 ghost use Rattle.tree_composite_types.specs.CompositeTree.{object_parts, object_extension_parts, interface_parts, interface_extension_parts, union_parts, union_extension_parts};
 
 use crate::interface_type::{InterfaceTypeDefinition, InterfaceTypeExtension};
 use crate::object_type::{ObjectTypeDefinition, ObjectTypeExtension};
 use crate::union_type::{UnionTypeDefinition, UnionTypeExtension};
-use tree_printing::{Level, Sink, put_description};
+use tree_literals::{Level, Sink, put_description};
 use tree_type_members::{put_field_set, put_head, put_names};
 
 /// The definition of an object type. For the crate of definitions above.

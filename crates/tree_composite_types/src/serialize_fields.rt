@@ -1,9 +1,9 @@
 //! The texts of objects and interfaces by themselves.
 ghost use Rattle.std.specs.Prelude.{codes, Some};
 ghost use Rattle.std.specs.Option.{option_map};
-ghost use Rattle.tree_printing.specs.in_names.Placed.{text_tree};
-ghost use Rattle.tree_printing.specs.LineLayout.{default_prefix, standing};
-ghost use Rattle.tree_printing.specs.StringLayout.{description_text};
+ghost use Rattle.tree_literals.specs.in_names.Placed.{text_tree};
+ghost use Rattle.tree_literals.specs.LineLayout.{default_prefix, standing};
+ghost use Rattle.tree_literals.specs.StringLayout.{description_text};
 ghost use Rattle.tree_type_members.specs.TypeSystemLayout.{extend, fields_text};
 ghost use Rattle.tree_composite_types.specs.CompositeTree.{object_parts, object_extension_parts, interface_parts, interface_extension_parts};
 
@@ -13,7 +13,7 @@ use crate::print_composite::{
     put_interface_definition, put_interface_extension, put_object_definition, put_object_extension,
 };
 use std::fmt;
-use tree_printing::{Level, Sink, Tree, put_start};
+use tree_literals::{Level, Sink, Tree, put_start};
 
 impl Tree for ObjectTypeDefinition {
     ghost text = { λ t prefix level. standing prefix level (fields_text (description_text prefix level (option_map text_tree t.description)) (codes "type ") prefix (object_parts t) level) };

@@ -1,7 +1,7 @@
 //! Whether the grammar can write definitions and extensions of composite types.
 ghost use Rattle.std.specs.Prelude.{◌≡◌, true};
 ghost use Rattle.tree_type_members.specs.in_directives.DirectiveTree.{directives_tree};
-ghost use Rattle.tree_directives.specs.DirectiveWritable.{directives_writable};
+ghost use Rattle.tree_type_members.specs.in_directives.DirectiveWritable.{directives_writable};
 ghost use Rattle.tree_type_members.specs.PartsWritable.{fields_writable, fields_extension_writable, union_extension_writable};
 ghost use Rattle.tree_composite_types.specs.CompositeTree.{object_parts, object_extension_parts, interface_parts, interface_extension_parts, union_extension_parts};
 

@@ -1,13 +1,13 @@
 -- The layout of small documents, computed. The texts are written by hand.
 use Rattle.std.proofs.Common.{◌≡◌, ℕ, List, [], ◌∷◌, codes, Option, None, Some, refl}
-use Rattle.graphql_values.specs.Joined.{joined}
-use Rattle.graphql_values.specs.Placed.{Placed, Text}
-use Rattle.graphql_values.specs.TypeTree.{TypeTree, NamedTree}
-use Rattle.graphql_values.specs.ValueTree.{ValueTree, IntTree}
-use Rattle.graphql_values.specs.DirectiveTree.{DirectiveTree, InputValueTree}
-use Rattle.graphql_values.specs.SelectionTree.{FieldTree, no_selections, selection_then}
-use Rattle.graphql_values.specs.LineLayout.{Prefix}
-use Rattle.graphql_values.specs.in_directives.declared.operation_type.OperationType.TheVariants.{Query, Mutation}
+use Rattle.tree_meaning.specs.in_values.Joined.{joined}
+use Rattle.tree_meaning.specs.in_values.Placed.{Placed, Text}
+use Rattle.tree_meaning.specs.in_values.TypeTree.{TypeTree, NamedTree}
+use Rattle.tree_meaning.specs.in_values.ValueTree.{ValueTree, IntTree}
+use Rattle.tree_meaning.specs.in_values.DirectiveTree.{DirectiveTree, InputValueTree}
+use Rattle.tree_meaning.specs.in_values.SelectionTree.{FieldTree, no_selections, selection_then}
+use Rattle.tree_meaning.specs.in_values.LineLayout.{Prefix}
+use Rattle.tree_composite_types.specs.in_directives.declared.operation_type.OperationType.TheVariants.{Query, Mutation}
 use Rattle.tree_composite_types.specs.in_type_members.TypeSystemTree.{FieldDefinitionTree, EnumValueTree, FieldsParts}
 use Rattle.tree_definitions.specs.DefinitionTree.{DefinitionTree, Operation, Schema, ScalarType, ObjectType, InterfaceType, UnionType, EnumType, InputObjectType, ExtendSchema, ExtendScalar, ExtendObject, ExtendUnion}
 use Rattle.tree_definitions.specs.DocumentLayout.{document_text}

@@ -3,4 +3,4 @@ pub mod DocumentExamples
 pub mod PrefixExamples
 pub mod TreeEquality
 pub mod DefinitionEquality
-pub use Rattle.graphql_values.proofs as in_values
+pub use Rattle.tree_meaning.proofs.in_values as in_values

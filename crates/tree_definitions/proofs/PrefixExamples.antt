@@ -1,14 +1,14 @@
 -- Each form of definitions under a prefix of two spaces, of four spaces and of one tab, computed. The texts are written by hand.
 use Rattle.std.proofs.Common.{◌≡◌, ℕ, List, [], ◌∷◌, codes, true, Option, None, Some, refl}
-use Rattle.graphql_values.specs.Joined.{joined}
-use Rattle.graphql_values.specs.Placed.{Placed, Text}
-use Rattle.graphql_values.specs.TypeTree.{TypeTree, NamedTree, NonNullNamedTree, NonNullListTree}
-use Rattle.graphql_values.specs.ValueTree.{ValueTree, IntTree, StringTree, VariableTree, ListTree, ObjectTree, no_items, item_then, no_entries, entry_then}
-use Rattle.graphql_values.specs.DirectiveTree.{DirectiveTree, ArgumentTree, InputValueTree}
-use Rattle.graphql_values.specs.SelectionTree.{SelectionTrees, FieldHead, FieldTree, SpreadTree, InlineTree, no_selections, selection_then}
-use Rattle.graphql_values.specs.OperationTree.{VariableDefinitionTree}
-use Rattle.graphql_values.specs.in_directives.declared.operation_type.OperationType.TheVariants.{Query, Mutation}
-use Rattle.graphql_values.specs.in_directives.declared.directive_location.DirectiveLocation.TheVariants as at
+use Rattle.tree_meaning.specs.in_values.Joined.{joined}
+use Rattle.tree_meaning.specs.in_values.Placed.{Placed, Text}
+use Rattle.tree_meaning.specs.in_values.TypeTree.{TypeTree, NamedTree, NonNullNamedTree, NonNullListTree}
+use Rattle.tree_meaning.specs.in_values.ValueTree.{ValueTree, IntTree, StringTree, VariableTree, ListTree, ObjectTree, no_items, item_then, no_entries, entry_then}
+use Rattle.tree_meaning.specs.in_values.DirectiveTree.{DirectiveTree, ArgumentTree, InputValueTree}
+use Rattle.tree_meaning.specs.in_values.SelectionTree.{SelectionTrees, FieldHead, FieldTree, SpreadTree, InlineTree, no_selections, selection_then}
+use Rattle.tree_meaning.specs.in_values.OperationTree.{VariableDefinitionTree}
+use Rattle.tree_composite_types.specs.in_directives.declared.operation_type.OperationType.TheVariants.{Query, Mutation}
+use Rattle.tree_composite_types.specs.in_directives.declared.directive_location.DirectiveLocation.TheVariants as at
 use Rattle.tree_composite_types.specs.in_type_members.TypeSystemTree.{FieldDefinitionTree, EnumValueTree, FieldsParts}
 use Rattle.tree_definitions.specs.DefinitionTree.{DefinitionTree, Operation, Fragment, DirectiveDefinition, Schema, ScalarType, ObjectType, InterfaceType, UnionType, EnumType, InputObjectType, ExtendObject}
 use Rattle.tree_definitions.specs.DocumentLayout.{document_text}

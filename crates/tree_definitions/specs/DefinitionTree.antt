@@ -2,9 +2,9 @@
 use Rattle.std.specs.Prelude.{List, map}
 use Rattle.std.specs.Option.{option_map}
 use Rattle.graphql_names.specs.Node.{content, place}
-use Rattle.graphql_values.specs.Placed.{Place, text_tree}
-use Rattle.graphql_values.specs.DirectiveTree.{directive_definition_tree}
-use Rattle.graphql_values.specs.OperationTree.{operation_tree, fragment_tree}
+use Rattle.tree_meaning.specs.in_values.Placed.{Place, text_tree}
+use Rattle.tree_meaning.specs.in_values.DirectiveTree.{directive_definition_tree}
+use Rattle.tree_meaning.specs.in_values.OperationTree.{operation_tree, fragment_tree}
 pub use Rattle.tree_composite_types.specs.CompositeTree.{object_parts, object_extension_parts, interface_parts, interface_extension_parts, union_parts, union_extension_parts}
 pub use Rattle.tree_input_types.specs.InputTypeTree.{root_tree, schema_parts, schema_extension_parts, scalar_parts, scalar_extension_parts, enum_parts, enum_extension_parts, input_object_parts, input_object_extension_parts}
 pub use Rattle.tree_meaning.specs.DefinitionTree.{DefinitionTree, Operation, Fragment, DirectiveDefinition, Schema, ScalarType, ObjectType, InterfaceType, UnionType, EnumType, InputObjectType, ExtendSchema, ExtendScalar, ExtendObject, ExtendInterface, ExtendUnion, ExtendEnum, ExtendInputObject, unplaced_definition, unplaced_document}

@@ -2,7 +2,7 @@
 use Rattle.std.specs.Prelude.{◌≡◌, Option}
 use Rattle.std.specs.Option.{option_map}
 use Rattle.graphql_names.specs.NodeStrValue.{NodeStrValue}
-use Rattle.graphql_values.specs.Placed.{text_tree, unplaced_text}
+use Rattle.tree_meaning.specs.in_values.Placed.{text_tree, unplaced_text}
 
 -- both are missing, or both are there with the same text
 abbrev pub AreSameDescriptions : Option NodeStrValue → Option NodeStrValue → Type 0

@@ -1,10 +1,10 @@
 -- Definitions and documents (GraphQL, October 2021, section 2.2).
 use Rattle.std.specs.Prelude.{ℕ, Bool, false, List, [], ◌∷◌, map, codes, None, Some}
-use Rattle.graphql_values.specs.Joined.{joined}
-use Rattle.graphql_values.specs.LineLayout.{Prefix, Leveled, start_text}
-use Rattle.graphql_values.specs.StringLayout.{description_text}
-use Rattle.graphql_values.specs.InputLayout.{directive_definition_text}
-use Rattle.graphql_values.specs.OperationLayout.{operation_text, fragment_text, begins_output}
+use Rattle.tree_meaning.specs.in_values.Joined.{joined}
+use Rattle.tree_meaning.specs.in_values.LineLayout.{Prefix, Leveled, start_text}
+use Rattle.tree_meaning.specs.in_values.StringLayout.{description_text}
+use Rattle.tree_meaning.specs.in_values.InputLayout.{directive_definition_text}
+use Rattle.tree_meaning.specs.in_values.OperationLayout.{operation_text, fragment_text, begins_output}
 use Rattle.tree_composite_types.specs.in_type_members.TypeSystemLayout.{schema_text, scalar_text, fields_text, union_text, enum_text, input_object_text}
 pub use Rattle.tree_composite_types.specs.in_type_members.TypeSystemLayout.{extend}
 use Rattle.tree_definitions.specs.DefinitionTree.{DefinitionTree, Operation, Fragment, DirectiveDefinition, Schema, ScalarType, ObjectType, InterfaceType, UnionType, EnumType, InputObjectType, ExtendSchema, ExtendScalar, ExtendObject, ExtendInterface, ExtendUnion, ExtendEnum, ExtendInputObject}

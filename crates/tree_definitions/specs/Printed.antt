@@ -2,8 +2,8 @@
 use Rattle.std.specs.Prelude.{◌≡◌, ℕ, List, map}
 use Rattle.graphql_names.specs.Node.{content, place}
 use Rattle.graphql_names.specs.declared.node.Node.{Node}
-use Rattle.graphql_values.specs.Joined.{joined}
-use Rattle.graphql_values.specs.LineLayout.{Prefix}
+use Rattle.tree_meaning.specs.in_values.Joined.{joined}
+use Rattle.tree_meaning.specs.in_values.LineLayout.{Prefix}
 use Rattle.tree_definitions.specs.DefinitionTree.{DefinitionTree}
 use Rattle.tree_definitions.specs.DocumentLayout.{next_definition_text}
 

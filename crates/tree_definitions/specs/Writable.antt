@@ -2,7 +2,7 @@
 -- beside their form.
 use Rattle.std.specs.Prelude.{Bool, true, ◌&&◌, List}
 use Rattle.std.specs.List.{list_all}
-use Rattle.graphql_values.specs.Writable.{directives_writable, directive_definition_writable, operation_writable, fragment_writable}
+use Rattle.tree_meaning.specs.in_values.Writable.{directives_writable, directive_definition_writable, operation_writable, fragment_writable}
 pub use Rattle.tree_composite_types.specs.in_type_members.PartsWritable.{has_some, field_definition_writable, field_definitions_writable, enum_value_writable, enum_values_writable, schema_writable, fields_writable, enum_writable, input_object_writable, schema_extension_writable, scalar_extension_writable, fields_extension_writable, union_extension_writable, enum_extension_writable, input_object_extension_writable}
 use Rattle.tree_definitions.specs.DefinitionTree.{DefinitionTree, Operation, Fragment, DirectiveDefinition, Schema, ScalarType, ObjectType, InterfaceType, UnionType, EnumType, InputObjectType, ExtendSchema, ExtendScalar, ExtendObject, ExtendInterface, ExtendUnion, ExtendEnum, ExtendInputObject}
 

@@ -4,7 +4,6 @@ ghost use Rattle.graphql_names.specs.declared.node.Node.{Node};
 ghost use Rattle.tree_definitions.specs.DefinitionTree.{definition_tree};
 ghost use Rattle.tree_definitions.specs.Printed.{IsFromCopy};
 
-use graphql_values::{DirectiveDefinition, FragmentDefinition, Node, OperationDefinition};
 use std::alloc::AllocError;
 use tree_composite_types::{
     InterfaceTypeDefinition, InterfaceTypeExtension, ObjectTypeDefinition, ObjectTypeExtension,
@@ -14,6 +13,7 @@ use tree_input_types::{
     EnumTypeDefinition, EnumTypeExtension, InputObjectTypeDefinition, InputObjectTypeExtension,
     ScalarTypeDefinition, ScalarTypeExtension, SchemaDefinition, SchemaExtension,
 };
+use tree_meaning::{DirectiveDefinition, FragmentDefinition, Node, OperationDefinition};
 
 /// What a document holds, with a variant for each form (section 2.2).
 #[derive(PartialEq, Eq, Hash)]

@@ -1,13 +1,13 @@
 //! What can be asked of every definition.
 ghost use Rattle.std.specs.Prelude.{◌≡◌};
 ghost use Rattle.std.specs.Option.{option_map};
-ghost use Rattle.graphql_values.specs.Placed.{name_tree};
-ghost use Rattle.graphql_values.specs.DirectiveTree.{directives_tree};
+ghost use Rattle.tree_meaning.specs.in_values.Placed.{name_tree};
+ghost use Rattle.tree_meaning.specs.in_values.DirectiveTree.{directives_tree};
 ghost use Rattle.tree_definitions.specs.DefinitionTree.{definition_tree};
 ghost use Rattle.tree_definitions.specs.Queries.{is_executable, is_extension, definition_place, definition_name, definition_directives};
 
 use crate::definition::Definition;
-use graphql_values::{DirectiveList, Name, SourceSpan};
+use tree_meaning::{DirectiveList, Name, SourceSpan};
 
 impl Definition {
     /// Whether it is an operation or a fragment.

@@ -2,7 +2,6 @@
 ghost use Rattle.tree_definitions.specs.Queries.{IsContentOf};
 
 use crate::definition::Definition;
-use graphql_values::{DirectiveDefinition, FragmentDefinition, Node, OperationDefinition};
 use tree_composite_types::{
     InterfaceTypeDefinition, InterfaceTypeExtension, ObjectTypeDefinition, ObjectTypeExtension,
     UnionTypeDefinition, UnionTypeExtension,
@@ -11,6 +10,7 @@ use tree_input_types::{
     EnumTypeDefinition, EnumTypeExtension, InputObjectTypeDefinition, InputObjectTypeExtension,
     ScalarTypeDefinition, ScalarTypeExtension, SchemaDefinition, SchemaExtension,
 };
+use tree_meaning::{DirectiveDefinition, FragmentDefinition, Node, OperationDefinition};
 
 /// The content, where the definition is of that variant, and `None` for every other.
 impl Definition {

@@ -4,10 +4,10 @@ ghost use Rattle.tree_definitions.specs.DefinitionTree.{document_tree};
 ghost use Rattle.tree_definitions.specs.Sources.{source_of, sources_of};
 
 use crate::definition::Definition;
-use graphql_values::FileId;
 use indexmap::IndexMap;
 use std::alloc::{AllocError, Global};
 use std::rc::RcStr;
+use tree_meaning::FileId;
 
 /// A text that was read, and the path of its file. What is read from the text shares it.
 #[derive(PartialEq, Eq, Hash)]

@@ -27,3 +27,6 @@ pub use tree_input_types::{
     EnumTypeDefinition, EnumTypeExtension, InputObjectTypeDefinition, InputObjectTypeExtension,
     ScalarTypeDefinition, ScalarTypeExtension, SchemaDefinition, SchemaExtension,
 };
+
+// Of the crates beneath, for those above.
+pub use tree_meaning::OperationType;

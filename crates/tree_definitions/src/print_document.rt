@@ -1,24 +1,23 @@
 //! Definitions in general, and whole documents.
 ghost use Rattle.std.specs.Prelude.{map};
 ghost use Rattle.std.specs.Option.{option_copied};
-ghost use Rattle.graphql_values.specs.Levels.{level_depth};
+ghost use Rattle.tree_meaning.specs.in_values.Levels.{level_depth};
 ghost use Rattle.tree_definitions.specs.DefinitionTree.{definition_tree};
 ghost use Rattle.tree_definitions.specs.DocumentLayout.{definition_text, between_text, next_definition_text, end_text, document_text};
 ghost use Rattle.tree_definitions.specs.Printed.{further_definitions_text};
 
 use crate::definition::Definition;
 use tree_composite_types::{
-    put_interface_definition, put_interface_extension, put_object_definition, put_object_extension,
-    put_union_definition, put_union_extension,
+    put_directive_definition, put_interface_definition, put_interface_extension,
+    put_object_definition, put_object_extension, put_union_definition, put_union_extension,
 };
-use tree_directives::put_directive_definition;
 use tree_input_types::{
     put_enum_definition, put_enum_extension, put_input_object_definition,
     put_input_object_extension, put_scalar_definition, put_scalar_extension, put_schema_definition,
     put_schema_extension,
 };
-use tree_operations::{begins_output, put_fragment, put_operation};
-use tree_printing::{Level, Sink, put_start};
+use tree_literals::{Level, Sink, put_start};
+use tree_meaning::{begins_output, put_fragment, put_operation};
 
 /// A definition. `at_start` says whether nothing stands before it.
 pub(crate) fn put_definition<S: Sink>(

@@ -1,7 +1,7 @@
 //! The texts of documents and of definitions in general by themselves.
 ghost use Rattle.std.specs.Prelude.{Some};
-ghost use Rattle.graphql_values.specs.LineLayout.{default_prefix, standing};
-ghost use Rattle.graphql_values.specs.OperationLayout.{begins_output};
+ghost use Rattle.tree_meaning.specs.in_values.LineLayout.{default_prefix, standing};
+ghost use Rattle.tree_meaning.specs.in_values.OperationLayout.{begins_output};
 ghost use Rattle.tree_definitions.specs.DefinitionTree.{definition_tree, document_tree};
 ghost use Rattle.tree_definitions.specs.DocumentLayout.{definition_text, document_text};
 
@@ -9,8 +9,8 @@ use crate::definition::Definition;
 use crate::document::Document;
 use crate::print_document::{put_definition, put_document};
 use std::fmt;
-use tree_operations::begins_output;
-use tree_printing::{Level, Sink, Tree, put_start};
+use tree_literals::{Level, Sink, Tree, put_start};
+use tree_meaning::begins_output;
 
 impl Tree for Definition {
     ghost text = { λ t prefix level. standing prefix level (definition_text (begins_output prefix level) prefix (definition_tree t) level) };

@@ -1,8 +1,8 @@
 -- The layout of small directives and their definitions, computed. The texts are written by hand.
 use Rattle.std.proofs.Common.{◌≡◌, ℕ, List, [], ◌∷◌, codes, true, false, Option, None, Some, refl}
-use Rattle.tree_printing.specs.Joined.{joined}
-use Rattle.tree_printing.specs.LineLayout.{Prefix}
-use Rattle.graphql_names.specs.Placed.{Placed, Text}
+use Rattle.tree_literals.specs.Joined.{joined}
+use Rattle.tree_literals.specs.LineLayout.{Prefix}
+use Rattle.tree_literals.specs.in_names.Placed.{Placed, Text}
 use Rattle.tree_literals.specs.TypeTree.{NamedTree}
 use Rattle.tree_literals.specs.ValueTree.{IntTree}
 use Rattle.tree_directives.specs.DirectiveTree.{Directives, InputValueTree, DirectiveDefinitionTree}

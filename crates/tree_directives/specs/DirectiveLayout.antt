@@ -1,7 +1,7 @@
 -- Arguments and directives (GraphQL, October 2021, sections 2.6 and 2.12).
 use Rattle.std.specs.Prelude.{ℕ, List, [], ◌∷◌, codes}
-use Rattle.tree_printing.specs.Joined.{joined, further_text, separated}
-use Rattle.tree_printing.specs.LineLayout.{Prefix, standing, parenthesized_text, texts_of}
+use Rattle.tree_literals.specs.Joined.{joined, further_text, separated}
+use Rattle.tree_literals.specs.LineLayout.{Prefix, standing, parenthesized_text, texts_of}
 use Rattle.tree_literals.specs.ValueLayout.{value_text, named_value_text}
 use Rattle.tree_directives.specs.DirectiveTree.{ArgumentTree, Arguments, DirectiveTree, Directives}
 

@@ -1,7 +1,7 @@
 -- The directives of one name among the nodes of a list (GraphQL, October 2021, section 2.12).
 use Rattle.std.specs.Prelude.{ℕ, List, Bool, filter, bytes_eq}
-use Rattle.graphql_names.specs.Node.{content}
-use Rattle.graphql_names.specs.declared.node.Node.{Node}
+use Rattle.tree_literals.specs.in_names.Node.{content}
+use Rattle.tree_literals.specs.in_names.declared.node.Node.{Node}
 use Rattle.tree_directives.specs.declared.directive.Directive.{Directive}
 use Rattle.tree_directives.specs.declared.directive_list.NamedDirectives.{NamedDirectives}
 

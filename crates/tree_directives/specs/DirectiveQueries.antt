@@ -2,8 +2,8 @@
 use Rattle.std.specs.Prelude.{ℕ, List, Bool, true, false, ◌&&◌, is_none, Option, None, Some, Result, Ok, Err, find, bytes_eq}
 use Rattle.std.specs.Borrow.{Bor}
 use Rattle.std.specs.Option.{option_map, option_copied}
-use Rattle.graphql_names.specs.declared.node.Node.{Node}
-use Rattle.graphql_names.specs.Placed.{Placed, Place, node_tree}
+use Rattle.tree_literals.specs.in_names.declared.node.Node.{Node}
+use Rattle.tree_literals.specs.in_names.Placed.{Placed, Place, node_tree}
 use Rattle.tree_literals.specs.ValueTree.{ValueTree, value_tree}
 use Rattle.tree_directives.specs.DirectiveTree.{ArgumentTree, Arguments, DirectiveTree, InputValueTree, InputValues, directive_definition_tree}
 use Rattle.tree_literals.specs.TypeQueries.{has_mark}

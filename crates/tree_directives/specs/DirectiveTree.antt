@@ -1,8 +1,8 @@
 -- Arguments, directives and definitions of input values and directives (GraphQL, October 2021, sections 2.6, 2.12, 3.6.1, 3.10, 3.13).
 use Rattle.std.specs.Prelude.{Bool, List, map, Option}
 use Rattle.std.specs.Option.{option_map}
-use Rattle.graphql_names.specs.declared.node.Node.{Node}
-use Rattle.graphql_names.specs.Placed.{Placed, Place, Text, name_tree, text_tree, node_tree, unplaced_text, unplaced_node}
+use Rattle.tree_literals.specs.in_names.declared.node.Node.{Node}
+use Rattle.tree_literals.specs.in_names.Placed.{Placed, Place, Text, name_tree, text_tree, node_tree, unplaced_text, unplaced_node}
 use Rattle.tree_literals.specs.TypeTree.{TypeTree, type_tree, unplaced_type}
 use Rattle.tree_literals.specs.ValueTree.{ValueTree, value_tree, unplaced_value}
 use Rattle.tree_directives.specs.declared.directive.Argument.{Argument}

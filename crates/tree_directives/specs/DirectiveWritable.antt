@@ -2,7 +2,7 @@
 -- appendix B). `const` says that no variable may stand there.
 use Rattle.std.specs.Prelude.{Bool, true, false, not, ◌&&◌, List, [], ◌∷◌}
 use Rattle.std.specs.List.{list_all}
-use Rattle.graphql_names.specs.Placed.{Placed}
+use Rattle.tree_literals.specs.in_names.Placed.{Placed}
 use Rattle.tree_literals.specs.ValueWritable.{value_writable, default_writable}
 use Rattle.tree_directives.specs.DirectiveTree.{ArgumentTree, Arguments, DirectiveTree, Directives, InputValueTree, InputValues, DirectiveDefinitionTree}
 

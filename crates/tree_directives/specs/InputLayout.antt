@@ -1,14 +1,14 @@
 -- Definitions of arguments, of input fields and of directives (GraphQL, October 2021, sections 3.6.1, 3.10, 3.13).
 use Rattle.std.specs.Prelude.{ℕ, ◌+◌, Bool, true, false, if◌then◌else◌, List, [], ◌∷◌, map, codes, None, Some, is_some}
 use Rattle.std.specs.List.{list_any}
-use Rattle.tree_printing.specs.Joined.{joined, further_text}
-use Rattle.graphql_names.specs.Placed.{Placed}
+use Rattle.tree_literals.specs.Joined.{joined, further_text}
+use Rattle.tree_literals.specs.in_names.Placed.{Placed}
 use Rattle.tree_directives.specs.DirectiveTree.{InputValueTree, InputValues, DirectiveDefinitionTree}
-use Rattle.tree_printing.specs.LineLayout.{Prefix, Leveled, break_text, members_text}
-use Rattle.tree_printing.specs.StringLayout.{description_text}
+use Rattle.tree_literals.specs.LineLayout.{Prefix, Leveled, break_text, members_text}
+use Rattle.tree_literals.specs.StringLayout.{description_text}
 use Rattle.tree_literals.specs.ValueLayout.{type_text, default_text}
 use Rattle.tree_directives.specs.DirectiveLayout.{directives_text}
-use Rattle.tree_printing.specs.LineLayout.{parenthesized_text, texts_of}
+use Rattle.tree_literals.specs.LineLayout.{parenthesized_text, texts_of}
 use Rattle.tree_directives.specs.declared.directive_location.DirectiveLocation.{DirectiveLocation}
 use Rattle.tree_directives.specs.DirectivePlaces.{location_keyword}
 

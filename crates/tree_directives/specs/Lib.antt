@@ -9,11 +9,11 @@ pub mod DirectiveLayout
 pub mod InputLayout
 pub mod DirectiveWritable
 pub mod Printed
-pub use Rattle.graphql_names.specs.Placed
-pub use Rattle.tree_printing.specs.Joined
-pub use Rattle.tree_printing.specs.Levels
-pub use Rattle.tree_printing.specs.LineLayout
-pub use Rattle.tree_printing.specs.StringLayout
+pub use Rattle.tree_literals.specs.in_names.Placed
+pub use Rattle.tree_literals.specs.Joined
+pub use Rattle.tree_literals.specs.Levels
+pub use Rattle.tree_literals.specs.LineLayout
+pub use Rattle.tree_literals.specs.StringLayout
 pub use Rattle.tree_literals.specs.TypeTree
 pub use Rattle.tree_literals.specs.ValueTree
 pub use Rattle.tree_literals.specs.TypeQueries

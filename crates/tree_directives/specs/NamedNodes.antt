@@ -6,9 +6,9 @@ use Rattle.std.specs.declared.alloc.Global.{Global}
 use Rattle.std.specs.contracts.alloc.Global as global
 use Rattle.std.specs.contracts.impls.GlobalAllocator.TheImpl.{ghosts}
 use Rattle.std.specs.contracts.vec.Vec as vec
-use Rattle.graphql_names.specs.Node.{content}
-use Rattle.graphql_names.specs.declared.node.Node.{Node}
-use Rattle.graphql_names.specs.contracts.node.Node as node
+use Rattle.tree_literals.specs.in_names.Node.{content}
+use Rattle.tree_literals.specs.in_names.declared.node.Node.{Node}
+use Rattle.tree_literals.specs.in_names.contracts.node.Node as node
 
 -- the name of what the node holds is this text
 abbrev pub is_named : {A : Type 0} → (A → List ℕ) → List ℕ → Node A → Bool

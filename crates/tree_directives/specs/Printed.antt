@@ -1,8 +1,8 @@
 -- Private: leads to `directive_definition_text`. What its printers write on the way.
 use Rattle.std.specs.Prelude.{ℕ, List, codes}
-use Rattle.graphql_names.specs.declared.node.Node.{Node}
-use Rattle.tree_printing.specs.Joined.{further_text}
-use Rattle.tree_printing.specs.LineLayout.{Prefix, Leveled, member_text, texts_of}
+use Rattle.tree_literals.specs.in_names.declared.node.Node.{Node}
+use Rattle.tree_literals.specs.Joined.{further_text}
+use Rattle.tree_literals.specs.LineLayout.{Prefix, Leveled, member_text, texts_of}
 use Rattle.tree_directives.specs.DirectiveTree.{input_value_tree, input_value_trees, directive_definition_tree}
 use Rattle.tree_directives.specs.InputLayout.{input_value_text, undescribed_directive_text}
 use Rattle.tree_directives.specs.declared.directive.DirectiveDefinition.{DirectiveDefinition}

@@ -1,7 +1,7 @@
 //! Directives: their uses and their definitions.
 ghost use Rattle.std.specs.Prelude.{◌≡◌, [], find};
 ghost use Rattle.std.specs.Option.{option_map, option_copied};
-ghost use Rattle.graphql_names.specs.Placed.{name_tree, node_tree};
+ghost use Rattle.tree_literals.specs.in_names.Placed.{name_tree, node_tree};
 ghost use Rattle.tree_literals.specs.ValueTree.{value_tree};
 ghost use Rattle.tree_directives.specs.DirectiveTree.{argument_tree, directive_tree, directives_tree, input_value_tree, directive_definition_tree};
 ghost use Rattle.tree_directives.specs.DirectiveQueries.{input_value_has_name, given_value, named_argument_value, defined_arguments, lent_value};
@@ -9,10 +9,8 @@ ghost use Rattle.tree_directives.specs.DirectiveQueries.{input_value_has_name, g
 use crate::argument_error::ArgumentByNameError;
 use crate::directive_location::DirectiveLocation;
 use crate::input_value::InputValueDefinition;
-use graphql_names::{Name, Node, NodeStr};
 use std::alloc::{AllocError, Global};
-use tree_copies::copies_of_five;
-use tree_literals::Value;
+use tree_literals::{Name, Node, NodeStr, Value, copies_of_five};
 
 /// `name: value` (section 2.6).
 #[derive(PartialEq, Eq, Hash)]

@@ -4,17 +4,17 @@ ghost use Rattle.std.specs.List.{list_any};
 ghost use Rattle.std.specs.Iterator.{YieldsFirstRef, item_count, DrainsIf};
 ghost use Rattle.std.specs.Option.{option_map, option_copied};
 ghost use Rattle.std.specs.Slice.Iter.{iter_rest};
-ghost use Rattle.graphql_names.specs.Placed.{node_tree};
+ghost use Rattle.tree_literals.specs.in_names.Placed.{node_tree};
 ghost use Rattle.tree_directives.specs.DirectiveTree.{directive_tree, directives_tree};
 ghost use Rattle.tree_directives.specs.DirectiveQueries.{directive_has_name};
 ghost use Rattle.tree_directives.specs.DirectiveNodes.{node_has_name, left_named};
 ghost use Rattle.tree_directives.specs.Iterators.{CanBeDrained};
 
 use crate::directive::{Directive, DirectiveList};
-use graphql_names::Node;
 use std::alloc::{AllocError, AllocFailed, Global};
 use std::ops::Deref;
 use std::slice;
+use tree_literals::Node;
 
 impl DirectiveList {
     /// No directives.

@@ -6,10 +6,8 @@ ghost use Rattle.tree_directives.specs.DirectiveQueries.{is_required_input, defa
 
 use crate::argument_error::ArgumentByNameError;
 use crate::directive::DirectiveList;
-use graphql_names::{Name, Node, NodeStr};
 use std::alloc::AllocError;
-use tree_copies::copies_of_five;
-use tree_literals::{Type, Value};
+use tree_literals::{Name, Node, NodeStr, Type, Value, copies_of_five};
 
 /// An argument of a field or directive, or a field of an input object (section 3.6.1 and 3.10).
 #[derive(PartialEq, Eq, Hash)]

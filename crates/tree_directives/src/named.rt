@@ -6,7 +6,7 @@ ghost use Rattle.tree_directives.specs.NamedNodes.{is_named, nth_place, LendsNam
 
 use crate::directive::{Argument, Directive};
 use crate::input_value::InputValueDefinition;
-use graphql_names::Node;
+use tree_literals::Node;
 
 /// Something that has a name.
 pub trait Named {

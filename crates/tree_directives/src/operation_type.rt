@@ -4,7 +4,7 @@ ghost use Rattle.tree_directives.specs.OperationQueries.{operation_keyword, defa
 
 use crate::directive_location::DirectiveLocation;
 use std::fmt;
-use tree_printing::Sink;
+use tree_literals::Sink;
 
 /// The kind of an operation (section 2.3).
 #[derive(Clone, Copy, PartialEq, Eq, Hash, Debug)]

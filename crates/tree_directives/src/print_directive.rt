@@ -1,17 +1,15 @@
 //! Arguments and directives.
 ghost use Rattle.std.specs.Prelude.{◌≡◌, ◌∷◌, ℕ, List, [], map, codes};
 ghost use Rattle.std.specs.Option.{option_copied};
-ghost use Rattle.graphql_names.specs.Placed.{node_tree, Place};
-ghost use Rattle.tree_printing.specs.Levels.{level_depth};
-ghost use Rattle.tree_printing.specs.Joined.{joined, after, further_text};
-ghost use Rattle.tree_printing.specs.LineLayout.{texts_of};
+ghost use Rattle.tree_literals.specs.in_names.Placed.{node_tree, Place};
+ghost use Rattle.tree_literals.specs.Levels.{level_depth};
+ghost use Rattle.tree_literals.specs.Joined.{joined, after, further_text};
+ghost use Rattle.tree_literals.specs.LineLayout.{texts_of};
 ghost use Rattle.tree_directives.specs.DirectiveTree.{argument_tree, directive_tree, directives_tree};
 ghost use Rattle.tree_directives.specs.DirectiveLayout.{argument_text, arguments_text, directive_text, directives_text, directive_list_text, directives_alone};
 
 use crate::directive::{Argument, Directive, DirectiveList};
-use graphql_names::Node;
-use tree_literals::put_named_value;
-use tree_printing::{Level, Sink, put_start};
+use tree_literals::{Level, Node, Sink, put_named_value, put_start};
 
 pub fn put_argument<S: Sink>(sink: &mut S, argument: &Argument)
     ensures { S.puts sink.old (argument_text (argument_tree argument.now)) sink.new }

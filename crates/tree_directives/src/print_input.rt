@@ -1,10 +1,10 @@
 //! Definitions of arguments, input fields and directives.
 ghost use Rattle.std.specs.Prelude.{◌≡◌, ◌∷◌, ◌+◌, ℕ, List, [], map, codes, Bool, Some, None, true, false};
 ghost use Rattle.std.specs.Option.{option_copied, option_map};
-ghost use Rattle.graphql_names.specs.Placed.{Place};
+ghost use Rattle.tree_literals.specs.in_names.Placed.{Place};
 ghost use Rattle.tree_directives.specs.DirectiveTree.{input_value_tree, input_value_trees, directive_definition_tree};
-ghost use Rattle.tree_printing.specs.Joined.{joined, after, further_text};
-ghost use Rattle.tree_printing.specs.Levels.{level_depth};
+ghost use Rattle.tree_literals.specs.Joined.{joined, after, further_text};
+ghost use Rattle.tree_literals.specs.Levels.{level_depth};
 ghost use Rattle.tree_directives.specs.InputLayout.{input_value_text, input_members_text, stand_on_lines, arguments_in_line, arguments_on_lines, argument_definitions_text, repeatable_text, locations_text, directive_definition_text};
 ghost use Rattle.tree_directives.specs.DirectivePlaces.{location_keyword};
 ghost use Rattle.tree_directives.specs.Printed.{further_inputs_text, input_member_text, undescribed_text};
@@ -13,9 +13,7 @@ use crate::directive::DirectiveDefinition;
 use crate::directive_location::DirectiveLocation;
 use crate::input_value::InputValueDefinition;
 use crate::print_directive::put_directives;
-use graphql_names::Node;
-use tree_literals::{put_default, put_type};
-use tree_printing::{Level, Sink, put_break, put_description};
+use tree_literals::{Level, Node, Sink, put_break, put_default, put_description, put_type};
 
 pub fn put_input_value<S: Sink>(
     sink: &mut S,

@@ -1,13 +1,13 @@
 //! The texts of arguments and directives by themselves.
 ghost use Rattle.std.specs.Prelude.{Some};
-ghost use Rattle.tree_printing.specs.LineLayout.{default_prefix, standing};
+ghost use Rattle.tree_literals.specs.LineLayout.{default_prefix, standing};
 ghost use Rattle.tree_directives.specs.DirectiveTree.{argument_tree, directive_tree, directives_tree};
 ghost use Rattle.tree_directives.specs.DirectiveLayout.{argument_text, directive_text, directives_alone};
 
 use crate::directive::{Argument, Directive, DirectiveList};
 use crate::print_directive::{put_argument, put_directive, put_directive_list};
 use std::fmt;
-use tree_printing::{Level, Sink, Tree, put_start};
+use tree_literals::{Level, Sink, Tree, put_start};
 
 impl Tree for Argument {
     ghost text = { λ t prefix level. standing prefix level (argument_text (argument_tree t)) };

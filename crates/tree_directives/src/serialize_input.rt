@@ -1,8 +1,8 @@
 //! The texts of definitions of input values and directives by themselves.
 ghost use Rattle.std.specs.Prelude.{Some};
 ghost use Rattle.std.specs.Option.{option_copied};
-ghost use Rattle.tree_printing.specs.Levels.{level_depth};
-ghost use Rattle.tree_printing.specs.LineLayout.{default_prefix, standing};
+ghost use Rattle.tree_literals.specs.Levels.{level_depth};
+ghost use Rattle.tree_literals.specs.LineLayout.{default_prefix, standing};
 ghost use Rattle.tree_directives.specs.DirectiveTree.{input_value_tree, directive_definition_tree};
 ghost use Rattle.tree_directives.specs.InputLayout.{input_value_text, directive_definition_text};
 
@@ -10,7 +10,7 @@ use crate::directive::DirectiveDefinition;
 use crate::input_value::InputValueDefinition;
 use crate::print_input::{put_directive_definition, put_input_value};
 use std::fmt;
-use tree_printing::{Level, Sink, Tree, put_start};
+use tree_literals::{Level, Sink, Tree, put_start};
 
 impl Tree for InputValueDefinition {
     ghost text = { λ t prefix level. standing prefix level (input_value_text prefix (input_value_tree t) level) };

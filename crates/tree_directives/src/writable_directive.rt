@@ -1,15 +1,14 @@
 //! Whether the grammar can write directives, or the definition of an input value or a directive.
 ghost use Rattle.std.specs.Prelude.{◌≡◌, ◌&&◌, Bool, true, false, not, map};
 ghost use Rattle.std.specs.List.{list_all};
-ghost use Rattle.graphql_names.specs.Placed.{node_tree, Place};
+ghost use Rattle.tree_literals.specs.in_names.Placed.{node_tree, Place};
 ghost use Rattle.tree_literals.specs.ValueWritable.{value_writable, default_writable};
 ghost use Rattle.tree_directives.specs.DirectiveTree.{argument_tree, directive_tree, directives_tree, input_value_tree, directive_definition_tree};
 ghost use Rattle.tree_directives.specs.DirectiveWritable.{arguments_writable, directive_writable, directives_writable, directive_list_writable, input_value_writable, input_values_writable, directive_definition_writable};
 
 use crate::directive::{Argument, Directive, DirectiveDefinition, DirectiveList};
 use crate::input_value::InputValueDefinition;
-use graphql_names::Node;
-use tree_literals::{default_is_writable, value_is_writable};
+use tree_literals::{Node, default_is_writable, value_is_writable};
 
 /// Whether the grammar can write arguments. `is_const` says that no variable may stand there. Public for the crates above.
 pub fn arguments_are_writable(is_const: bool, arguments: &[Node<Argument>]) -> bool

@@ -1,11 +1,11 @@
 -- The parts of definitions and extensions of the schema (GraphQL, October 2021, section 3.3) and of the types that
 -- input can have (sections 3.5, 3.9 and 3.10).
 use Rattle.std.specs.Prelude.{map}
-use Rattle.graphql_names.specs.Placed.{Place, name_tree, node_tree}
+use Rattle.tree_literals.specs.in_names.Placed.{Place, name_tree, node_tree}
 use Rattle.tree_type_members.specs.in_directives.DirectiveTree.{directives_tree, input_value_tree}
 use Rattle.tree_type_members.specs.TypeSystemTree.{SchemaParts, RootOperationTree, ScalarParts, EnumParts, InputObjectParts, enum_value_tree}
 use Rattle.tree_type_members.specs.in_directives.declared.operation_type.OperationType.{OperationType}
-use Rattle.graphql_names.specs.declared.name.Name.{Name}
+use Rattle.tree_literals.specs.in_names.declared.name.Name.{Name}
 use Rattle.tree_input_types.specs.declared.scalar_type.ScalarTypeDefinition.{ScalarTypeDefinition}
 use Rattle.tree_input_types.specs.declared.scalar_type.ScalarTypeExtension.{ScalarTypeExtension}
 use Rattle.tree_input_types.specs.declared.enum_type.EnumTypeDefinition.{EnumTypeDefinition}

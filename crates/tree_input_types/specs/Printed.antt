@@ -1,10 +1,10 @@
 -- Private: leads to `schema_text`. What its printers write on the way.
 use Rattle.std.specs.Prelude.{ℕ, List, map}
-use Rattle.graphql_names.specs.Placed.{node_tree}
-use Rattle.graphql_names.specs.declared.name.Name.{Name}
-use Rattle.graphql_names.specs.declared.node.Node.{Node}
+use Rattle.tree_literals.specs.in_names.Placed.{node_tree}
+use Rattle.tree_literals.specs.in_names.declared.name.Name.{Name}
+use Rattle.tree_literals.specs.in_names.declared.node.Node.{Node}
 use Rattle.tree_type_members.specs.in_directives.declared.operation_type.OperationType.{OperationType}
-use Rattle.tree_printing.specs.LineLayout.{Prefix, member_text, members_text, texts_of}
+use Rattle.tree_literals.specs.LineLayout.{Prefix, member_text, members_text, texts_of}
 use Rattle.tree_type_members.specs.TypeSystemLayout.{root_text}
 use Rattle.tree_input_types.specs.InputTypeTree.{root_tree}
 

@@ -1,11 +1,11 @@
 //! Enum types.
 ghost use Rattle.std.specs.Prelude.{◌≡◌};
 ghost use Rattle.std.specs.Option.{option_map};
-ghost use Rattle.graphql_names.specs.Placed.{text_tree};
+ghost use Rattle.tree_literals.specs.in_names.Placed.{text_tree};
 ghost use Rattle.tree_input_types.specs.InputTypeTree.{enum_parts, enum_extension_parts};
 
-use graphql_names::{Name, Node, NodeStr};
 use std::alloc::AllocError;
+use tree_literals::{Name, Node, NodeStr};
 use tree_type_members::{DirectiveList, EnumValueDefinition, clone_described, clone_head};
 
 /// `enum name @directives { values }` (section 3.9).

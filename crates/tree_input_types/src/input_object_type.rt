@@ -1,11 +1,11 @@
 //! Input object types.
 ghost use Rattle.std.specs.Prelude.{◌≡◌};
 ghost use Rattle.std.specs.Option.{option_map};
-ghost use Rattle.graphql_names.specs.Placed.{text_tree};
+ghost use Rattle.tree_literals.specs.in_names.Placed.{text_tree};
 ghost use Rattle.tree_input_types.specs.InputTypeTree.{input_object_parts, input_object_extension_parts};
 
-use graphql_names::{Name, Node, NodeStr};
 use std::alloc::AllocError;
+use tree_literals::{Name, Node, NodeStr};
 use tree_type_members::{DirectiveList, InputValueDefinition, clone_described, clone_head};
 
 /// `input name @directives { fields }` (section 3.10).

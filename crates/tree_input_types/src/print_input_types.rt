@@ -1,15 +1,15 @@
 //! Definitions and extensions of scalars, enums and input objects.
 ghost use Rattle.std.specs.Option.{option_copied, option_map};
-ghost use Rattle.graphql_names.specs.Placed.{text_tree};
-ghost use Rattle.tree_printing.specs.Levels.{level_depth};
-ghost use Rattle.tree_printing.specs.StringLayout.{description_text};
+ghost use Rattle.tree_literals.specs.in_names.Placed.{text_tree};
+ghost use Rattle.tree_literals.specs.Levels.{level_depth};
+ghost use Rattle.tree_literals.specs.StringLayout.{description_text};
 ghost use Rattle.tree_type_members.specs.TypeSystemLayout.{extend, scalar_text, enum_text, input_object_text};
 ghost use Rattle.tree_input_types.specs.InputTypeTree.{scalar_parts, scalar_extension_parts, enum_parts, enum_extension_parts, input_object_parts, input_object_extension_parts};
 
 use crate::enum_type::{EnumTypeDefinition, EnumTypeExtension};
 use crate::input_object_type::{InputObjectTypeDefinition, InputObjectTypeExtension};
 use crate::scalar_type::{ScalarTypeDefinition, ScalarTypeExtension};
-use tree_printing::{Level, Sink, put_description};
+use tree_literals::{Level, Sink, put_description};
 use tree_type_members::{put_head, put_input_set, put_value_set};
 
 /// The definition of a scalar type. For the crate of definitions above.

@@ -1,18 +1,17 @@
 //! Definitions and extensions of the schema.
 ghost use Rattle.std.specs.Prelude.{map};
 ghost use Rattle.std.specs.Option.{option_copied, option_map};
-ghost use Rattle.graphql_names.specs.Placed.{node_tree, name_tree, text_tree};
-ghost use Rattle.tree_printing.specs.Levels.{level_depth};
-ghost use Rattle.tree_printing.specs.LineLayout.{set_text};
-ghost use Rattle.tree_printing.specs.StringLayout.{description_text};
-ghost use Rattle.tree_printing.specs.LineLayout.{texts_of};
+ghost use Rattle.tree_literals.specs.in_names.Placed.{node_tree, name_tree, text_tree};
+ghost use Rattle.tree_literals.specs.Levels.{level_depth};
+ghost use Rattle.tree_literals.specs.LineLayout.{set_text};
+ghost use Rattle.tree_literals.specs.StringLayout.{description_text};
+ghost use Rattle.tree_literals.specs.LineLayout.{texts_of};
 ghost use Rattle.tree_type_members.specs.TypeSystemLayout.{extend, root_text, schema_text};
 ghost use Rattle.tree_input_types.specs.InputTypeTree.{root_tree, schema_parts, schema_extension_parts};
 ghost use Rattle.tree_input_types.specs.Printed.{root_member_text, root_members_text};
 
 use crate::schema::{SchemaDefinition, SchemaExtension};
-use graphql_names::Node;
-use tree_printing::{Level, Sink, put_break, put_description};
+use tree_literals::{Level, Node, Sink, put_break, put_description};
 use tree_type_members::{NamedType, OperationType, put_directives, put_keyword};
 
 fn put_root<S: Sink>(sink: &mut S, operation: OperationType, name: &NamedType)

@@ -1,11 +1,11 @@
 //! Scalar types.
 ghost use Rattle.std.specs.Prelude.{◌≡◌};
 ghost use Rattle.std.specs.Option.{option_map};
-ghost use Rattle.graphql_names.specs.Placed.{text_tree};
+ghost use Rattle.tree_literals.specs.in_names.Placed.{text_tree};
 ghost use Rattle.tree_input_types.specs.InputTypeTree.{scalar_parts, scalar_extension_parts};
 
-use graphql_names::{Name, NodeStr};
 use std::alloc::AllocError;
+use tree_literals::{Name, NodeStr};
 use tree_type_members::{DirectiveList, clone_described, clone_head};
 
 /// `scalar name @directives` (section 3.5).

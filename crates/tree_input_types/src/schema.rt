@@ -1,11 +1,11 @@
 //! Schema definitions: the root operation types.
 ghost use Rattle.std.specs.Prelude.{◌≡◌};
 ghost use Rattle.std.specs.Option.{option_map};
-ghost use Rattle.graphql_names.specs.Placed.{text_tree};
+ghost use Rattle.tree_literals.specs.in_names.Placed.{text_tree};
 ghost use Rattle.tree_input_types.specs.InputTypeTree.{schema_parts, schema_extension_parts};
 
-use graphql_names::{Node, NodeStr};
 use std::alloc::AllocError;
+use tree_literals::{Node, NodeStr};
 use tree_type_members::{DirectiveList, NamedType, OperationType, clone_description};
 
 /// `schema @directives { root operation types }` (section 3.3).

@@ -1,9 +1,9 @@
 //! The texts of scalars, enums and input objects by themselves.
 ghost use Rattle.std.specs.Prelude.{Some};
 ghost use Rattle.std.specs.Option.{option_map};
-ghost use Rattle.graphql_names.specs.Placed.{text_tree};
-ghost use Rattle.tree_printing.specs.LineLayout.{default_prefix, standing};
-ghost use Rattle.tree_printing.specs.StringLayout.{description_text};
+ghost use Rattle.tree_literals.specs.in_names.Placed.{text_tree};
+ghost use Rattle.tree_literals.specs.LineLayout.{default_prefix, standing};
+ghost use Rattle.tree_literals.specs.StringLayout.{description_text};
 ghost use Rattle.tree_type_members.specs.TypeSystemLayout.{extend, scalar_text, enum_text, input_object_text};
 ghost use Rattle.tree_input_types.specs.InputTypeTree.{scalar_parts, scalar_extension_parts, enum_parts, enum_extension_parts, input_object_parts, input_object_extension_parts};
 
@@ -15,7 +15,7 @@ use crate::print_input_types::{
 };
 use crate::scalar_type::{ScalarTypeDefinition, ScalarTypeExtension};
 use std::fmt;
-use tree_printing::{Level, Sink, Tree, put_start};
+use tree_literals::{Level, Sink, Tree, put_start};
 
 impl Tree for ScalarTypeDefinition {
     ghost text = { λ t prefix level. standing prefix level (scalar_text (description_text prefix level (option_map text_tree t.description)) (scalar_parts t)) };

@@ -1,16 +1,16 @@
 //! The texts of schema definitions and extensions by themselves.
 ghost use Rattle.std.specs.Prelude.{Some};
 ghost use Rattle.std.specs.Option.{option_map};
-ghost use Rattle.graphql_names.specs.Placed.{text_tree};
-ghost use Rattle.tree_printing.specs.LineLayout.{default_prefix, standing};
-ghost use Rattle.tree_printing.specs.StringLayout.{description_text};
+ghost use Rattle.tree_literals.specs.in_names.Placed.{text_tree};
+ghost use Rattle.tree_literals.specs.LineLayout.{default_prefix, standing};
+ghost use Rattle.tree_literals.specs.StringLayout.{description_text};
 ghost use Rattle.tree_type_members.specs.TypeSystemLayout.{extend, schema_text};
 ghost use Rattle.tree_input_types.specs.InputTypeTree.{schema_parts, schema_extension_parts};
 
 use crate::print_schema::{put_schema_definition, put_schema_extension};
 use crate::schema::{SchemaDefinition, SchemaExtension};
 use std::fmt;
-use tree_printing::{Level, Sink, Tree, put_start};
+use tree_literals::{Level, Sink, Tree, put_start};
 
 impl Tree for SchemaDefinition {
     ghost text = { λ t prefix level. standing prefix level (schema_text (description_text prefix level (option_map text_tree t.description)) prefix (schema_parts t) level) };

@@ -1,7 +1,7 @@
 //! Whether the grammar can write definitions and extensions of scalars, enums, input objects and the schema.
 ghost use Rattle.std.specs.Prelude.{◌≡◌, true};
 ghost use Rattle.tree_type_members.specs.in_directives.DirectiveTree.{directives_tree};
-ghost use Rattle.tree_directives.specs.DirectiveWritable.{directives_writable};
+ghost use Rattle.tree_type_members.specs.in_directives.DirectiveWritable.{directives_writable};
 ghost use Rattle.tree_type_members.specs.PartsWritable.{schema_writable, enum_writable, input_object_writable, schema_extension_writable, scalar_extension_writable, enum_extension_writable, input_object_extension_writable};
 ghost use Rattle.tree_input_types.specs.InputTypeTree.{schema_parts, schema_extension_parts, scalar_extension_parts, enum_parts, enum_extension_parts, input_object_parts, input_object_extension_parts};
 

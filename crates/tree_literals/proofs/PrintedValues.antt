@@ -1,7 +1,7 @@
 -- The texts of the members of lists and objects, one by one.
 use Rattle.std.proofs.Common.{◌≡◌, ◌≤◌, ◌<◌, ◌+◌, arith, codes, ℕ, List, [], ◌∷◌, length, take, map, true, refl, ap}
 use Rattle.std.proofs.lemmas.List.{take_all}
-use Rattle.tree_printing.specs.Joined.{joined, further_text, separated}
+use Rattle.tree_literals.specs.Joined.{joined, further_text, separated}
 use Rattle.graphql_names.specs.Node.{content}
 use Rattle.graphql_names.specs.declared.name.Name.{Name}
 use Rattle.graphql_names.specs.declared.node.Node.{Node}

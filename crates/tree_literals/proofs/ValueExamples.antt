@@ -1,6 +1,6 @@
 -- The layout of small types and values, computed. The texts are written by hand.
 use Rattle.std.proofs.Common.{◌≡◌, ℕ, List, codes, true, false, refl}
-use Rattle.tree_printing.specs.Joined.{joined}
+use Rattle.tree_literals.specs.Joined.{joined}
 use Rattle.graphql_names.specs.Placed.{Text}
 use Rattle.tree_literals.specs.TypeTree.{NamedTree, NonNullNamedTree, NonNullListTree}
 use Rattle.tree_literals.specs.TypeTree as type

@@ -6,8 +6,17 @@ pub mod TypeQueries
 pub mod ValueQueries
 pub mod ValueLayout
 pub mod ValueWritable
-pub use Rattle.tree_printing.specs.Joined
-pub use Rattle.tree_printing.specs.Levels
-pub use Rattle.tree_printing.specs.LineLayout
-pub use Rattle.tree_printing.specs.StringLayout
+pub use Rattle.tree_literals.specs.Joined
+pub use Rattle.tree_literals.specs.Levels
+pub use Rattle.tree_literals.specs.LineLayout
+pub use Rattle.tree_literals.specs.StringLayout
 pub use Rattle.graphql_names.specs.Placed
+pub mod Joined
+pub mod Puts
+pub mod Shown
+pub mod Levels
+pub mod LineLayout
+pub mod StringLayout
+pub mod EscapeRuns
+pub mod Serialized
+pub use Rattle.graphql_names.specs as in_names

@@ -1,7 +1,7 @@
 -- Operations and fragments (GraphQL, October 2021, sections 2.3, 2.8, 2.10).
 use Rattle.std.specs.Prelude.{List, map, Option}
 use Rattle.std.specs.Option.{option_map}
-use Rattle.graphql_names.specs.Placed.{Placed, Place, Text, name_tree, node_tree, unplaced_text, unplaced_node}
+use Rattle.tree_literals.specs.in_names.Placed.{Placed, Place, Text, name_tree, node_tree, unplaced_text, unplaced_node}
 use Rattle.tree_literals.specs.TypeTree.{TypeTree, type_tree, unplaced_type}
 use Rattle.tree_literals.specs.ValueTree.{ValueTree, value_tree, unplaced_value}
 use Rattle.tree_directives.specs.DirectiveTree.{Directives, directives_tree, unplaced_directives}

@@ -19,4 +19,4 @@ pub use tree_directives::{
     Argument, ArgumentByNameError, Directive, DirectiveDefinition, DirectiveList,
     DirectiveLocation, InputValueDefinition, Named, NamedDirectives, OperationType, get_named_mut,
 };
-pub use tree_printing::{Cause, Serialize, Tree, WriteFault};
+pub use tree_literals::{Cause, Serialize, Tree, WriteFault};

@@ -3,12 +3,10 @@ ghost use Rattle.std.specs.Prelude.{◌≡◌};
 ghost use Rattle.tree_operations.specs.OperationTree.{variable_definition_tree, operation_tree, fragment_tree};
 
 use crate::selection::Selection;
-use graphql_names::{Name, Node};
 use std::alloc::AllocError;
 use std::fmt;
-use tree_copies::copies_of_four;
 use tree_directives::{DirectiveList, OperationType};
-use tree_literals::{NamedType, Type, Value};
+use tree_literals::{Name, NamedType, Node, Type, Value, copies_of_four};
 
 /// `$name: ty = default_value @directives` (section 2.10).
 #[derive(PartialEq, Eq, Hash)]

@@ -1,7 +1,7 @@
 -- The parts of type system definitions and of their extensions (GraphQL, October 2021, section 3).
 use Rattle.std.specs.Prelude.{List, map, Option}
 use Rattle.std.specs.Option.{option_map}
-use Rattle.graphql_names.specs.Placed.{Placed, Place, Text, name_tree, text_tree, node_tree, unplaced_text, unplaced_node}
+use Rattle.tree_literals.specs.in_names.Placed.{Placed, Place, Text, name_tree, text_tree, node_tree, unplaced_text, unplaced_node}
 use Rattle.tree_literals.specs.TypeTree.{TypeTree, type_tree, unplaced_type}
 use Rattle.tree_directives.specs.DirectiveTree.{Directives, InputValues, directives_tree, input_value_tree, unplaced_directives, unplaced_input_value}
 use Rattle.tree_directives.specs.declared.operation_type.OperationType.{OperationType}

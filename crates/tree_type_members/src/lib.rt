@@ -18,12 +18,13 @@ mod writable;
 pub use copies::{clone_described, clone_description, clone_head};
 pub use enum_value::EnumValueDefinition;
 pub use field_definition::FieldDefinition;
-pub use graphql_names::{Name, Node, NodeStr};
 pub use print_members::{put_field_set, put_input_set, put_value_set};
 pub use print_names::{put_head, put_names};
 pub use tree_directives::{
     DirectiveList, InputValueDefinition, OperationType, directives_are_writable,
-    input_values_are_writable, put_directives, put_keyword,
+    input_values_are_writable, put_directive_definition, put_directives, put_keyword,
 };
-pub use tree_literals::NamedType;
+pub use tree_literals::{Name, NamedType, Node, NodeStr};
 pub use writable::{fields_are_writable, values_are_writable};
+
+// Of the crates beneath, for those above.

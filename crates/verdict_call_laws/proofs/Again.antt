@@ -24,7 +24,7 @@ use Rattle.verdict_laws.proofs.PairBack.{pair_road_back, put_out_leads_back, one
 use Rattle.checker_answers.specs.declared.run_fault.Outcome.{Outcome}
 use Rattle.checker_answers.specs.declared.run_fault.Outcome.TheVariants as outcome
 use Rattle.checker_answers.specs.declared.run_fault.RunFault.{RunFault}
-use Rattle.checker_schemas.specs.CheckedSchemaValue.{CheckedSchemaValue, IsCheckedSchemaOf}
+use Rattle.graphql_checked.specs.in_checker_schemas.CheckedSchemaValue.{CheckedSchemaValue, IsCheckedSchemaOf}
 use Rattle.graphql_checked.specs.CheckerValue.{CheckedDocumentValue, IsCheckedDocumentOf}
 use Rattle.graphql_checked.specs.Run.{BytesOf, IsAnswerToCertain}
 use Rattle.graphql_checked.specs.Verdicts.{first_terms}

@@ -10,9 +10,9 @@ use Rattle.verdict_definitions.specs.Out.{Out, layout_text}
 use Rattle.verdict_laws.specs.Rearranged.{AreRearranged, AreCut, TextsHaveNumbers, AreAcceptedAlike}
 use Rattle.verdict_laws.proofs.AnyNumber.{equal_accept}
 use Rattle.verdict_laws.proofs.Rearranged.{all_one, rearranging, cutting}
-use Rattle.checker_schemas.specs.CheckedSchemaValue.{CheckedSchemaValue, IsCheckedSchemaOf}
+use Rattle.graphql_checked.specs.in_checker_schemas.CheckedSchemaValue.{CheckedSchemaValue, IsCheckedSchemaOf}
 use Rattle.graphql_checked.specs.CheckerValue.{CheckerValue}
-use Rattle.book_validity.proofs.AcceptedFacts.{accepted_by_the_book}
+use Rattle.graphql_checked.proofs.in_book_validity.AcceptedFacts.{accepted_by_the_book}
 use Rattle.graphql_checked.specs.Verdicts.{IsVerdict}
 use Rattle.graphql_faults.specs.declared.diagnostic_list.DiagnosticList.{DiagnosticList}
 use Rattle.checker_texts.specs.declared.refusal.Refusal.{Refusal}

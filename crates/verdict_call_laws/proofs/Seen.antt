@@ -12,7 +12,7 @@ use Rattle.verdict_definitions.specs.Texts.{SourceText, Terms}
 use Rattle.verdict_definitions.specs.Judge.{AreSchemasCertain, IsDocumentCertain}
 use Rattle.verdict_definitions.specs.Out.{Layout}
 use Rattle.verdict_definitions.specs.Answer.{Answer}
-use Rattle.checker_schemas.specs.CheckedSchemaValue.{CheckedSchemaValue, IsCheckedSchemaOf}
+use Rattle.graphql_checked.specs.in_checker_schemas.CheckedSchemaValue.{CheckedSchemaValue, IsCheckedSchemaOf}
 use Rattle.graphql_checked.specs.CheckerValue.{CheckerValue, IsCheckedDocumentOf}
 use Rattle.graphql_checked.specs.CheckedView.{CheckedSchemaParts, CheckedDocumentParts, schema_value, document_value}
 use Rattle.graphql_checked.specs.CheckerAnswers.{IsFinishRefusal}

@@ -14,7 +14,7 @@ use Rattle.verdict_laws.specs.RoadBack.{IsPlainLayout}
 use Rattle.checker_answers.specs.declared.run_fault.Outcome.{Outcome}
 use Rattle.checker_answers.specs.declared.run_fault.Outcome.TheVariants as outcome
 use Rattle.checker_answers.specs.declared.run_fault.RunFault.{RunFault}
-use Rattle.checker_schemas.specs.CheckedSchemaValue.{CheckedSchemaValue, IsCheckedSchemaOf}
+use Rattle.graphql_checked.specs.in_checker_schemas.CheckedSchemaValue.{CheckedSchemaValue, IsCheckedSchemaOf}
 use Rattle.graphql_checked.specs.CheckerValue.{CheckerValue, CheckedDocumentValue, IsCheckedDocumentOf}
 use Rattle.graphql_checked.specs.Run.{IsAnswerToCertain}
 use Rattle.graphql_checked.specs.Verdicts.{first_terms}

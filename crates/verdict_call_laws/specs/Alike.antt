@@ -8,7 +8,7 @@ use Rattle.verdict_definitions.specs.Judge.{IsAccepted, IsCertain, AreSchemasCer
 use Rattle.verdict_definitions.specs.Out.{Layout, layout_text}
 use Rattle.verdict_laws.specs.AnyNumber.{IsNumber}
 use Rattle.verdict_laws.specs.Rearranged.{AreRearranged, AreCut, TextsHaveNumbers, LeaveNumber}
-use Rattle.checker_schemas.specs.CheckedSchemaValue.{CheckedSchemaValue}
+use Rattle.graphql_checked.specs.in_checker_schemas.CheckedSchemaValue.{CheckedSchemaValue}
 use Rattle.graphql_checked.specs.CheckerValue.{CheckerValue, CheckedDocumentValue}
 use Rattle.checker_texts.specs.declared.refusal.Refusal.{Refusal}
 use Rattle.checker_texts.specs.declared.refusal.Refusal.TheVariants as refusal

@@ -9,7 +9,7 @@ use Rattle.verdict_definitions.specs.Texts.{SourceText, Terms}
 use Rattle.verdict_definitions.specs.Out.{Layout, layout_text}
 use Rattle.verdict_definitions.specs.Answer.{WritesDocument}
 use Rattle.verdict_laws.specs.RoadBack.{IsPlainLayout}
-use Rattle.checker_schemas.specs.CheckedSchemaValue.{CheckedSchemaValue, IsCheckedSchemaOf}
+use Rattle.graphql_checked.specs.in_checker_schemas.CheckedSchemaValue.{CheckedSchemaValue, IsCheckedSchemaOf}
 use Rattle.graphql_checked.specs.CheckerValue.{IsCheckedDocumentOf}
 
 -- The schema is that of some texts, on some terms; no text has the number of what is built in.

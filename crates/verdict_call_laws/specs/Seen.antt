@@ -4,7 +4,7 @@ use Rattle.std.specs.List.{AllZip}
 use Rattle.graphql_names.specs.Device.{device_inner}
 use Rattle.graphql_names.specs.declared.device.Device.{Device}
 use Rattle.checker_answers.specs.Devices.{TellsText}
-use Rattle.checker_schemas.specs.CheckedSchemaValue.{CheckedSchemaValue}
+use Rattle.graphql_checked.specs.in_checker_schemas.CheckedSchemaValue.{CheckedSchemaValue}
 use Rattle.graphql_checked.specs.CheckerValue.{CheckedDocumentValue}
 use Rattle.graphql_checked.specs.CheckedView.{CheckedSchemaParts, CheckedDocumentParts, schema_value, document_value}
 use Rattle.checker_texts.specs.declared.refusal.Refusal.{Refusal}

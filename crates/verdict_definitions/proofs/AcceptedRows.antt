@@ -19,21 +19,21 @@ use Rattle.rule_definitions.proofs.Lists.{not_in_nil, only}
 use Rattle.document_typing.specs.KeptDocument.{kept_document}
 use Rattle.document_typing.specs.TypingFaults.{TypingRules}
 use Rattle.document_typing.proofs.DocumentFailures.{document-fails}
-use Rattle.rule_document_definitions.specs.DocumentFaults.{Broken, OfData, OfDocument, OfLimit}
-use Rattle.rule_document_definitions.specs.Selected.{Standing, StandingField, as_field, InOperation, SelectionAt}
-use Rattle.rule_document_definitions.specs.Reached.{Closed, first, next, LeadsInto}
-use Rattle.rule_document_definitions.specs.Variables.{VariablesBreak}
-use Rattle.rule_document_definitions.specs.Fragments.{FragmentsBreak}
-use Rattle.rule_document_definitions.specs.Selections.{SelectionsBreak, MissingSubselectionAt, FieldArgumentsBreak, DirectivesBreak}
-use Rattle.rule_document_definitions.specs.Subscriptions.{SubscriptionBreaks}
-use Rattle.rule_document_definitions.specs.Defer.{DeferBreaks}
-use Rattle.rule_document_definitions.specs.Merging.{FieldsMerge, Below, Starts, SameKey, SameShape, MayShare, SameNameAndArguments}
-use Rattle.rule_document_definitions.specs.SameValues.{neither}
-use Rattle.rule_document_definitions.specs.Verdict.{no_places, DocumentRules, Merging, WithinBounds}
-use Rattle.rule_document_definitions.specs.Told.{IsValidDocument}
-use Rattle.rule_document_definitions.proofs.Levels.{reached_in}
-use Rattle.rule_document_definitions.proofs.MergingFacts.{IsReachedField, closed_within, merge_if_all_agree}
-use Rattle.rule_document_definitions.proofs.RowWords.{of_present, not_present, not_at_index, none_repeats, none_reached, no_fragment, of_each}
+use Rattle.graphql_faults.specs.in_document_rule_definitions.DocumentFaults.{Broken, OfData, OfDocument, OfLimit}
+use Rattle.graphql_faults.specs.in_document_rule_definitions.Selected.{Standing, StandingField, as_field, InOperation, SelectionAt}
+use Rattle.graphql_faults.specs.in_document_rule_definitions.Reached.{Closed, first, next, LeadsInto}
+use Rattle.graphql_faults.specs.in_document_rule_definitions.Variables.{VariablesBreak}
+use Rattle.graphql_faults.specs.in_document_rule_definitions.Fragments.{FragmentsBreak}
+use Rattle.graphql_faults.specs.in_document_rule_definitions.Selections.{SelectionsBreak, MissingSubselectionAt, FieldArgumentsBreak, DirectivesBreak}
+use Rattle.graphql_faults.specs.in_document_rule_definitions.Subscriptions.{SubscriptionBreaks}
+use Rattle.graphql_faults.specs.in_document_rule_definitions.Defer.{DeferBreaks}
+use Rattle.graphql_faults.specs.in_document_rule_definitions.Merging.{FieldsMerge, Below, Starts, SameKey, SameShape, MayShare, SameNameAndArguments}
+use Rattle.graphql_faults.specs.in_document_rule_definitions.SameValues.{neither}
+use Rattle.graphql_faults.specs.in_document_rule_definitions.Verdict.{no_places, DocumentRules, Merging, WithinBounds}
+use Rattle.graphql_faults.specs.in_document_rule_definitions.Told.{IsValidDocument}
+use Rattle.graphql_faults.proofs.in_document_rule_definitions.Levels.{reached_in}
+use Rattle.graphql_faults.proofs.in_document_rule_definitions.MergingFacts.{IsReachedField, closed_within, merge_if_all_agree}
+use Rattle.graphql_faults.proofs.in_document_rule_definitions.RowWords.{of_present, not_present, not_at_index, none_repeats, none_reached, no_fragment, of_each}
 use Rattle.verdict_definitions.specs.Texts.{IsWithin}
 use Rattle.verdict_definitions.specs.Meaning.{schema_at_hand, document_over}
 use Rattle.verdict_definitions.specs.Judge.{JudgeDocument, IsDocumentAccepted, PassesNoDocumentBound}

@@ -6,7 +6,7 @@ use Rattle.graphql_read.specs.declared.fault.SyntaxFaultKind.TheVariants.{NoToke
 use Rattle.graphql_read.specs.in_grammar.Places.{place_in}
 use Rattle.schema_built_in.specs.in_fold.BuiltIn.{built_in}
 use Rattle.schema_fold.specs.BuildErrors as folding
-use Rattle.rule_document_definitions.specs.DocumentFaults.{OfData, OfDocument, OfLimit, broken}
+use Rattle.graphql_faults.specs.in_document_rule_definitions.DocumentFaults.{OfData, OfDocument, OfLimit, broken}
 use Rattle.document_typing.specs.TypingFaults as typing
 use Rattle.rule_definitions.specs.Diagnostics.{RecursiveInputObjectDefinition, UnusedVariable, UniqueInputValue, QueryRootOperationType}
 use Rattle.rule_definitions.specs.Faults.{wrong}

@@ -8,7 +8,7 @@ use Rattle.graphql_read.specs.in_grammar.Faults as read
 use Rattle.graphql_read.specs.in_grammar.Places.{place_in}
 use Rattle.graphql_read.specs.declared.fault.SyntaxFaultKind.TheVariants.{Unexpected, End}
 use Rattle.graphql_read.specs.Reads.{IsDue, NestingBound}
-use Rattle.schema_building.specs.Numbers.{HaveNumbers}
+use Rattle.document_typing.specs.in_schema_building.Numbers.{HaveNumbers}
 use Rattle.graphql_read.proofs.Bounds.{memory_alone}
 use Rattle.rule_definitions.proofs.Lists.{Contains-cons, only}
 use Rattle.graphql_faults.specs.DetailsTree.{Syntax}

@@ -14,13 +14,13 @@ use Rattle.document_meaning.specs.MeantTree.{Definition, MeantDocument, MeantOpe
 use Rattle.rule_definitions.specs.Diagnostics.{UnusedVariable}
 use Rattle.rule_definitions.specs.Faults.{wrong}
 use Rattle.rule_definitions.proofs.Lists.{not_in_nil}
-use Rattle.rule_document_definitions.specs.DocumentFaults.{OfData, OfDocument, broken}
-use Rattle.rule_document_definitions.specs.Selected.{Standing, StandingField, InOperation, SelectionAt}
-use Rattle.rule_document_definitions.specs.Reached.{first}
-use Rattle.rule_document_definitions.specs.UsedVariables.{IsUsedIn, StandsInSelection}
-use Rattle.rule_document_definitions.specs.Merging.{SameName, telling}
-use Rattle.rule_document_definitions.specs.Told.{PlacedDocumentFault, DocumentFails, DocumentMergingFails}
-use Rattle.rule_document_definitions.proofs.RowWords.{of_present, not_at_index, none_reached, no_fragment}
+use Rattle.graphql_faults.specs.in_document_rule_definitions.DocumentFaults.{OfData, OfDocument, broken}
+use Rattle.graphql_faults.specs.in_document_rule_definitions.Selected.{Standing, StandingField, InOperation, SelectionAt}
+use Rattle.graphql_faults.specs.in_document_rule_definitions.Reached.{first}
+use Rattle.graphql_faults.specs.in_document_rule_definitions.UsedVariables.{IsUsedIn, StandsInSelection}
+use Rattle.graphql_faults.specs.in_document_rule_definitions.Merging.{SameName, telling}
+use Rattle.graphql_faults.specs.in_document_rule_definitions.Told.{PlacedDocumentFault, DocumentFails, DocumentMergingFails}
+use Rattle.graphql_faults.proofs.in_document_rule_definitions.RowWords.{of_present, not_at_index, none_reached, no_fragment}
 use Rattle.graphql_faults.specs.in_document_data.DocumentBreaches.{ConflictingFieldName}
 use Rattle.graphql_faults.specs.DetailsTree.{of_document}
 use Rattle.verdict_definitions.specs.Texts.{SourceText, Tree, ReadsText}

@@ -13,7 +13,7 @@ use Rattle.schema_fold.specs.SchemaFold.{root_key, roots_given}
 use Rattle.schema_fold.specs.in_components.Given.{Given, given_name}
 use Rattle.schema_fold.specs.in_components.Lists.{AtSomePlace, IsRepeated, firsts, has_name, repeats}
 use Rattle.schema_fold.proofs.in_components.Places.{not_in_nil, given_at, is_only}
-use Rattle.schema_building.specs.Numbers.{HaveNumbers}
+use Rattle.document_typing.specs.in_schema_building.Numbers.{HaveNumbers}
 use Rattle.schema_types.specs.TypeParts.{TypeParts, TypeDefinition, with_fields, type_here}
 use Rattle.schema_types.specs.declared.type_kind.TypeKind.{TypeKind}
 use Rattle.schema_types.specs.declared.type_kind.TypeKind.TheVariants as kind

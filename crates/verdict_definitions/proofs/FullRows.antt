@@ -20,13 +20,13 @@ use Rattle.rule_definitions.specs.Judged.{Judged, judged}
 use Rattle.rule_definitions.specs.Names.{argument_name, directive_name, defined_name}
 use Rattle.rule_definitions.specs.Told.{PlacedFault}
 use Rattle.rule_definitions.proofs.Lists.{not_in_nil, only}
-use Rattle.rule_document_definitions.specs.DocumentFaults.{Broken, OfData, OfDocument, OfLimit}
-use Rattle.rule_document_definitions.specs.Defer.{DeferBreaks}
-use Rattle.rule_document_definitions.specs.Fragments.{UndefinedFragmentAt, InvalidFragmentTargetAt, InvalidFragmentSpreadAt}
-use Rattle.rule_document_definitions.specs.Selections.{SelectionsBreak}
-use Rattle.rule_document_definitions.specs.Variables.{VariablesBreak}
-use Rattle.rule_document_definitions.specs.Told.{PlacedDocumentFault, places_in}
-use Rattle.rule_document_definitions.proofs.RowWords.{of_present, not_present, not_at_index, at_only, none_repeats, one_repeats, none_reached, no_fragment}
+use Rattle.graphql_faults.specs.in_document_rule_definitions.DocumentFaults.{Broken, OfData, OfDocument, OfLimit}
+use Rattle.graphql_faults.specs.in_document_rule_definitions.Defer.{DeferBreaks}
+use Rattle.graphql_faults.specs.in_document_rule_definitions.Fragments.{UndefinedFragmentAt, InvalidFragmentTargetAt, InvalidFragmentSpreadAt}
+use Rattle.graphql_faults.specs.in_document_rule_definitions.Selections.{SelectionsBreak}
+use Rattle.graphql_faults.specs.in_document_rule_definitions.Variables.{VariablesBreak}
+use Rattle.graphql_faults.specs.in_document_rule_definitions.Told.{PlacedDocumentFault, places_in}
+use Rattle.graphql_faults.proofs.in_document_rule_definitions.RowWords.{of_present, not_present, not_at_index, at_only, none_repeats, one_repeats, none_reached, no_fragment}
 use Rattle.verdict_definitions.specs.Says.{RuleFailsBeside, DocumentRuleFailsBeside}
 use Rattle.verdict_definitions.proofs.RowMeanings.{meanings_found, same_meanings, type_found, judged_found, same_judged}
 use Rattle.verdict_definitions.proofs.DocumentRows.{field_schema, unused_tree, unused_document, unused_operation, v_variable, field_there, unused_fault, a_and_b_schema, conflict_tree, conflict_operation, first_x, second_x}

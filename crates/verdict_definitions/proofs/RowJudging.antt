@@ -5,15 +5,15 @@ use Rattle.graphql_read.specs.in_grammar.Faults as read
 use Rattle.graphql_read.specs.Reads.{IsDue}
 use Rattle.graphql_read.proofs.Bounds.{memory_alone}
 use Rattle.schema_fold.specs.BuildErrors as folding
-use Rattle.schema_building.specs.Numbers.{HaveNumbers}
+use Rattle.document_typing.specs.in_schema_building.Numbers.{HaveNumbers}
 use Rattle.rule_definitions.specs.Faults.{SchemaFault}
 use Rattle.rule_definitions.specs.Judged.{judged}
 use Rattle.rule_definitions.specs.Rules.{Breaks, SchemaRules}
 use Rattle.document_typing.specs.TypingFaults as typing
 use Rattle.document_typing.specs.TypingFaults.{TypingRules}
-use Rattle.rule_document_definitions.specs.Told.{PlacedDocumentFault, DocumentFails, DocumentMergingFails, IsValidDocument}
-use Rattle.rule_document_definitions.specs.Named.{FragmentsFoundByName}
-use Rattle.rule_document_definitions.proofs.Verdicts.{valid_where_nothing_is_told}
+use Rattle.graphql_faults.specs.in_document_rule_definitions.Told.{PlacedDocumentFault, DocumentFails, DocumentMergingFails, IsValidDocument}
+use Rattle.graphql_faults.specs.in_document_rule_definitions.Named.{FragmentsFoundByName}
+use Rattle.graphql_faults.proofs.in_document_rule_definitions.Verdicts.{valid_where_nothing_is_told}
 use Rattle.verdict_definitions.specs.Texts.{SourceText, Tree, Terms, DerivesIn, ReadsText, ReadsAll, PassesNumbers, document_number}
 use Rattle.verdict_definitions.specs.Meaning.{all_definitions, schema_of, schema_at_hand, meanings_over, document_over}
 use Rattle.verdict_definitions.specs.Judge.{Folds, IsAccepted}

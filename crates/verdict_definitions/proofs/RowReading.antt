@@ -20,7 +20,7 @@ use Rattle.graphql_read.specs.in_grammar.DocumentReading as d
 use Rattle.graphql_read.proofs.in_grammar.Documents.{document_parses}
 use Rattle.graphql_read.proofs.in_grammar.ViableDocuments.{document_viable}
 use Rattle.graphql_read.proofs.in_grammar.Laws.{one_document}
-use Rattle.graphql_read.specs.in_read_values.Meanings.{in_file}
+use Rattle.graphql_read.specs.in_read_operations.Meanings.{in_file}
 use Rattle.graphql_read.specs.Calls.{all_of}
 use Rattle.graphql_read.specs.Reads.{ReadsWithin, IsDue}
 use Rattle.graphql_read.proofs.Texts.{found, due}

@@ -25,7 +25,7 @@ use Rattle.rule_definitions.specs.Uses.{UsesBreak}
 use Rattle.rule_definitions.specs.Words.{AtSomeIndex}
 use Rattle.rule_definitions.proofs.Lists.{not_in_nil, Contains-cons}
 use Rattle.rule_definitions.proofs.Lookups.{under_given}
-use Rattle.rule_document_definitions.proofs.RowWords.{not_at_index, none_repeats}
+use Rattle.graphql_faults.proofs.in_document_rule_definitions.RowWords.{not_at_index, none_repeats}
 use Rattle.verdict_definitions.proofs.RowMeanings.{type_found, judged_found}
 
 -- ---- lists and entries

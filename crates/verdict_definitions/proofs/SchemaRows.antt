@@ -30,7 +30,7 @@ use Rattle.rule_definitions.specs.Things.{Thing, ADirective, AType}
 use Rattle.rule_definitions.specs.Cycles.{reference_bound, is_a_directive, is_a_type, Referring, Refers, RefersByUse, RefersByInput, PassesReferenceBound}
 use Rattle.rule_definitions.specs.Words.{Present, AtSomeIndex, Repeats}
 use Rattle.rule_definitions.proofs.Lookups.{no_entries}
-use Rattle.rule_document_definitions.proofs.RowWords.{of_present, not_present, not_at_index, none_repeats, one_repeats}
+use Rattle.graphql_faults.proofs.in_document_rule_definitions.RowWords.{of_present, not_present, not_at_index, none_repeats, one_repeats}
 use Rattle.verdict_definitions.specs.Meaning.{schema_of}
 use Rattle.verdict_definitions.specs.Judge.{PassesNoReferenceBound}
 use Rattle.verdict_definitions.proofs.RowTrees.{terms, named, field_definition}

@@ -5,9 +5,9 @@ use Rattle.graphql_names.specs.Places.{is_built_in}
 use Rattle.graphql_names.specs.Placed.{Place}
 use Rattle.schema_fold.specs.BuildErrors as folding
 use Rattle.schema_types.specs.SchemaTree.{SchemaTree}
-use Rattle.schema_building.specs.Numbers.{HaveNumbers}
+use Rattle.document_typing.specs.in_schema_building.Numbers.{HaveNumbers}
 use Rattle.rule_definitions.specs.Told.{PlacedFault}
-use Rattle.rule_document_definitions.specs.Told.{PlacedDocumentFault}
+use Rattle.graphql_faults.specs.in_document_rule_definitions.Told.{PlacedDocumentFault}
 use Rattle.document_typing.specs.TypingFaults as typing
 use Rattle.graphql_faults.specs.DetailsMessages.{details_message}
 use Rattle.graphql_faults.specs.DetailsTree.{of_rule, of_folding, of_typing, of_document}

@@ -4,15 +4,15 @@ use Rattle.graphql_names.specs.Placed.{Place}
 use Rattle.schema_types.specs.SchemaTree.{SchemaTree}
 use Rattle.schema_built_in.specs.Table.{built_in_definitions}
 use Rattle.schema_fold.specs.BuildErrors.{FoldingRules}
-use Rattle.schema_building.specs.Numbers.{HaveNumbers}
+use Rattle.document_typing.specs.in_schema_building.Numbers.{HaveNumbers}
 use Rattle.rule_definitions.specs.Judged.{judged}
 use Rattle.rule_definitions.specs.Faults.{SchemaFault}
 use Rattle.rule_definitions.specs.Cycles.{PassesReferenceBound}
 use Rattle.rule_definitions.specs.Rules.{SchemaRules}
 use Rattle.document_meaning.specs.Unplaced.{unplaced_document}
 use Rattle.document_typing.specs.TypingFaults.{TypingRules}
-use Rattle.rule_document_definitions.specs.Told.{IsValidDocument}
-use Rattle.rule_document_definitions.specs.Verdict.{WithinBounds}
+use Rattle.graphql_faults.specs.in_document_rule_definitions.Told.{IsValidDocument}
+use Rattle.graphql_faults.specs.in_document_rule_definitions.Verdict.{WithinBounds}
 use Rattle.verdict_definitions.specs.Texts.{SourceText, Tree, Terms, ReadsText, ReadsAll, document_number, IsWithin, AreWithin}
 use Rattle.verdict_definitions.specs.Meaning.{all_definitions, schema_of, schema_at_hand, meanings_over, document_over}
 

@@ -9,21 +9,21 @@ use Rattle.schema_types.specs.SchemaTree.{SchemaTree}
 use Rattle.schema_built_in.specs.Table.{built_in_definitions}
 use Rattle.schema_fold.specs.BuildErrors as folding
 use Rattle.schema_fold.specs.BuildErrors.{Fails}
-use Rattle.schema_building.specs.Numbers.{HaveNumbers}
+use Rattle.document_typing.specs.in_schema_building.Numbers.{HaveNumbers}
 use Rattle.rule_definitions.specs.Rules as rules
 use Rattle.rule_definitions.specs.Told.{PlacedFault, Told}
 use Rattle.document_typing.specs.TypingFaults as typing
 use Rattle.document_typing.specs.TypingFaults.{TypingFails}
 use Rattle.document_meaning.specs.MeantTree.{MeantDocument}
 use Rattle.rule_definitions.specs.Judged.{Judged, judged}
-use Rattle.rule_document_definitions.specs.Places.{Places}
-use Rattle.rule_document_definitions.specs.DocumentFaults.{OfData, OfDocument, OfLimit}
-use Rattle.rule_document_definitions.specs.DocumentRules.{DeferredBreaks}
-use Rattle.rule_document_definitions.specs.Fragments.{UndefinedFragmentAt, UnusedFragmentAt, InvalidFragmentTargetAt, InvalidFragmentSpreadAt}
-use Rattle.rule_document_definitions.specs.Reached.{AtOperation}
-use Rattle.rule_document_definitions.specs.Selections.{SelectionsBreak}
-use Rattle.rule_document_definitions.specs.Variables.{VariablesBreak}
-use Rattle.rule_document_definitions.specs.Told.{PlacedDocumentFault, places_in, DocumentFails, DocumentMergingFails, DocumentBoundFails}
+use Rattle.graphql_faults.specs.in_document_rule_definitions.Places.{Places}
+use Rattle.graphql_faults.specs.in_document_rule_definitions.DocumentFaults.{OfData, OfDocument, OfLimit}
+use Rattle.graphql_faults.specs.in_document_rule_definitions.DocumentRules.{DeferredBreaks}
+use Rattle.graphql_faults.specs.in_document_rule_definitions.Fragments.{UndefinedFragmentAt, UnusedFragmentAt, InvalidFragmentTargetAt, InvalidFragmentSpreadAt}
+use Rattle.graphql_faults.specs.in_document_rule_definitions.Reached.{AtOperation}
+use Rattle.graphql_faults.specs.in_document_rule_definitions.Selections.{SelectionsBreak}
+use Rattle.graphql_faults.specs.in_document_rule_definitions.Variables.{VariablesBreak}
+use Rattle.graphql_faults.specs.in_document_rule_definitions.Told.{PlacedDocumentFault, places_in, DocumentFails, DocumentMergingFails, DocumentBoundFails}
 use Rattle.graphql_faults.specs.DetailsTree.{DetailsAt, Syntax, Nesting, Spent, of_rule, of_folding, of_typing, of_document}
 use Rattle.verdict_definitions.specs.Texts.{SourceText, Tree, Terms, DerivesIn, ReadsText, ReadsAll, PassesNumbers}
 use Rattle.verdict_definitions.specs.Meaning.{all_definitions, schema_of, meanings_over, document_over}

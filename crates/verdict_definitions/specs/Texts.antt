@@ -4,7 +4,7 @@ use Rattle.graphql_names.specs.Placed.{Place}
 use Rattle.tree_definitions.specs.DefinitionTree.{DefinitionTree}
 use Rattle.graphql_read.specs.in_tokens.Input.{Token}
 use Rattle.graphql_read.specs.in_grammar.Grammar.{Derives}
-use Rattle.graphql_read.specs.in_read_values.Meanings.{in_file}
+use Rattle.graphql_read.specs.in_read_operations.Meanings.{in_file}
 use Rattle.graphql_read.specs.Reads.{HasTree, NestingBound}
 
 -- a text, in bytes, and the definitions that one has

@@ -7,3 +7,7 @@
 //!
 //! Begin with `specs/Judge.antt`.
 #![tactic(auto)]
+
+// Of the crates beneath, for those above.
+pub use document_typing::{Schema, SchemaBuilder};
+pub use graphql_faults::{Details, DiagnosticList};

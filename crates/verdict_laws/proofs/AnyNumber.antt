@@ -7,7 +7,7 @@ use Rattle.read_tokens.specs.Input.{Token}
 use Rattle.read_tokens.proofs.Lexed.{lex_unique}
 use Rattle.read_grammar.specs.Places.{place_in}
 use Rattle.read_grammar.proofs.Laws.{one_document}
-use Rattle.graphql_read.specs.in_read_values.Meanings.{in_file, string_of}
+use Rattle.graphql_read.specs.in_read_operations.Meanings.{in_file, string_of}
 use Rattle.tree_operations.specs.OperationLayout.{is_none}
 use Rattle.tree_definitions.specs.DefinitionTree as tree
 use Rattle.tree_definitions.specs.DefinitionTree.{DefinitionTree, unplaced_definition}

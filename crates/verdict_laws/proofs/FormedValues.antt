@@ -15,7 +15,7 @@ use Rattle.read_tokens.specs.declared.terminal.Terminal.TheVariants as k
 use Rattle.read_tokens.specs.Forms.{is_word, Taken}
 use Rattle.read_tokens.specs.Input.{Token}
 use Rattle.read_tokens.proofs.NumberTokens.{int_text, float_text}
-use Rattle.read_values.proofs.Numbers.{int_value, float_value}
+use Rattle.read_operations.proofs.Numbers.{int_value, float_value}
 use Rattle.read_grammar.specs.Meaning.{Meaning, name_of}
 use Rattle.read_grammar.specs.Kinds.{is, next_is, is_name, is_enum_value, is_string, is_int, is_float, is_true, is_false, is_null, is_dollar, is_colon, is_at, is_equals, is_bang, is_open_bracket, is_close_bracket, is_open_brace, is_close_brace, is_open_paren, is_close_paren}
 use Rattle.read_grammar.specs.Rules as rule

@@ -9,7 +9,7 @@ use Rattle.tree_definitions.specs.DocumentLayout.{document_text}
 use Rattle.tree_definitions.specs.Writable.{has_some, definition_writable, document_writable}
 use Rattle.read_grammar.specs.Depth.{depth}
 use Rattle.read_grammar.specs.Grammar.{Derives}
-use Rattle.read_values.specs.Meanings.{in_file}
+use Rattle.read_operations.specs.Meanings.{in_file}
 use Rattle.graphql_read.specs.Reads.{HasTree, NestingBound}
 use Rattle.graphql_read.proofs.Bounds.{not_passed}
 use Rattle.graphql_read.proofs.Soundness.{document_sound}

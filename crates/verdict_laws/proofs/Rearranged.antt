@@ -20,7 +20,7 @@ use Rattle.rule_definitions.specs.Rules.{SchemaRules}
 use Rattle.rule_definitions.specs.Laws.{AreEqual}
 use Rattle.rule_definitions.proofs.Same.{read_the_same}
 use Rattle.read_grammar.specs.Depth.{depth}
-use Rattle.graphql_read.specs.in_read_values.Meanings.{in_file}
+use Rattle.graphql_read.specs.in_read_operations.Meanings.{in_file}
 use Rattle.graphql_read.specs.Reads.{NestingBound}
 use Rattle.graphql_read.proofs.Soundness.{document_sound}
 use Rattle.graphql_read.proofs.Bounds.{within_all}

@@ -1,6 +1,6 @@
 use Rattle.std.proofs.Common.{◌++◌, codes, string_bytes, ap, ◌∙◌}
-use Rattle.graphql_faults.specs.DetailsMessages.{details_message}
-use Rattle.graphql_faults.specs.DetailsView.{details_of}
+use Rattle.checker_texts.specs.in_faults.DetailsMessages.{details_message}
+use Rattle.checker_texts.specs.in_faults.DetailsView.{details_of}
 use Rattle.checker_answers.proofs.AnswerBytes.{four_texts, made_as}
 use Rattle.checker_answers.proofs.answer.line.Goals as goal
 

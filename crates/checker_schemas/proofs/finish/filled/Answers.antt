@@ -1,7 +1,7 @@
 use Rattle.std.proofs.Common.{map, subst}
 use Rattle.std.proofs.lemmas.List.{take_all}
 use Rattle.tree_definitions.specs.DefinitionTree.{document_tree}
-use Rattle.graphql_schema.specs.BuilderOf.{builder_value}
+use Rattle.checker_texts.specs.in_schema.BuilderOf.{builder_value}
 use Rattle.checker_texts.specs.TextsView.{all_sources}
 use Rattle.checker_schemas.specs.Finishing.{IsFilled}
 use Rattle.checker_schemas.proofs.Filling.{filled_first, filled_more, unfilled_refusal, has_not_failed}

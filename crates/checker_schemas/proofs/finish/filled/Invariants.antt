@@ -1,6 +1,6 @@
 use Rattle.std.proofs.Common.{map, take}
 use Rattle.tree_definitions.specs.DefinitionTree.{document_tree}
-use Rattle.graphql_schema.specs.BuilderOf.{builder_value}
+use Rattle.checker_texts.specs.in_schema.BuilderOf.{builder_value}
 use Rattle.checker_texts.specs.TextsView.{all_sources}
 use Rattle.checker_schemas.specs.Finishing.{IsFilled}
 use Rattle.checker_schemas.proofs.finish.filled.Given as goal

@@ -1,8 +1,8 @@
 use Rattle.std.proofs.Common.{◌≡◌, [], map, refl, subst, ◌∙◌}
 use Rattle.std.proofs.lemmas.Result.{err_from_is_err_and}
 use Rattle.tree_definitions.specs.DefinitionTree.{document_tree}
-use Rattle.graphql_schema.specs.BuilderOf.{builder_value}
-use Rattle.graphql_schema.specs.SchemaOf.{schema_tree}
+use Rattle.checker_texts.specs.in_schema.BuilderOf.{builder_value}
+use Rattle.checker_texts.specs.in_schema.SchemaOf.{schema_tree}
 use Rattle.schema_building.specs.SourcesView.{sources_view}
 use Rattle.graphql_faults.specs.DetailsView.{diagnostics_of}
 use Rattle.checker_schemas.specs.Finishing.{IsFilled, RefusalOfNumbers}

@@ -6,7 +6,7 @@ use Rattle.graphql_names.specs.Placed.{name_tree, node_tree}
 use Rattle.tree_directives.specs.DirectiveTree.{directives_tree}
 use Rattle.tree_operations.specs.SelectionTree.{selection_tree, selection_trees}
 use Rattle.tree_operations.specs.OperationTree.{operation_tree, variable_definition_tree}
-use Rattle.tree_definitions.specs.DefinitionTree.{Operation as Written}
+use Rattle.document_typed_selections.specs.in_definitions.DefinitionTree.{Operation as Written}
 use Rattle.document_typed_selections.specs.TypedTree.{typed_set_tree}
 use Rattle.document_typed_operations.specs.ToAst.{ast_set}
 use Rattle.document_typed_operations.specs.declared.operation.Operation.{Operation}

@@ -3,7 +3,7 @@ use Rattle.std.specs.Option.{option_map}
 use Rattle.graphql_names.specs.Placed.{node_tree}
 use Rattle.schema_types.specs.in_components.Names.{entries_of}
 use Rattle.schema_types.specs.TypeView.{name_text}
-use Rattle.tree_definitions.specs.DefinitionTree.{definition_tree}
+use Rattle.document_typed_selections.specs.in_definitions.DefinitionTree.{definition_tree}
 use Rattle.document_typed_operations.specs.TypedDocument.{typed_operation_tree, typed_fragment_tree}
 use Rattle.document_typed_operations.specs.ToAst.{ast_operation, ast_fragment}
 use Rattle.document_typed_operations.proofs.Written.{values-written, optional-written}

@@ -1,6 +1,6 @@
 use Rattle.std.proofs.Common.{◌≡◌, ◌++◌, map, take}
 use Rattle.graphql_names.specs.Placed.{node_tree}
-use Rattle.tree_definitions.specs.DefinitionTree.{definition_tree}
+use Rattle.document_typed_selections.specs.in_definitions.DefinitionTree.{definition_tree}
 use Rattle.document_typed_operations.specs.TypedDocument.{typed_operation_tree}
 use Rattle.document_typed_operations.specs.ToAst.{ast_operation}
 use Rattle.document_typed_operations.proofs.to_ast.write_operations.Given as goal

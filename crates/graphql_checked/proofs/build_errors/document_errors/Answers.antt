@@ -1,5 +1,5 @@
 use Rattle.std.proofs.Common.{◌++◌, map, ap, ◌∙◌}
-use Rattle.document_typing.specs.FaultView.{faults_of}
+use Rattle.book_validity.specs.in_typing.FaultView.{faults_of}
 use Rattle.graphql_faults.specs.DetailsTree.{of_typing}
 use Rattle.graphql_checked.proofs.build_errors.document_errors.Goals as goal
 

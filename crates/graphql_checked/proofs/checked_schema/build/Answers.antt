@@ -1,12 +1,12 @@
 use Rattle.std.proofs.Common.{◌++◌, ap, subst, Some, ◌∙◌}
 use Rattle.tree_definitions.specs.DefinitionTree.{document_tree}
 use Rattle.graphql_schema.specs.SchemaOf.{schema_tree}
-use Rattle.document_typing.specs.BuilderView.{DocumentBuilder, document_builder}
+use Rattle.book_validity.specs.in_typing.BuilderView.{DocumentBuilder, document_builder}
 use Rattle.tree_definitions.specs.Sources.{sources_of}
 use Rattle.schema_building.specs.SourcesView.{with_sources}
-use Rattle.document_typing.specs.DocumentView.{meant_document}
-use Rattle.document_typing.specs.DefinedByPlace.{IsDefinedDocument}
-use Rattle.document_typing.specs.FaultView.{faults_of}
+use Rattle.book_validity.specs.in_typing.DocumentView.{meant_document}
+use Rattle.book_validity.specs.in_typing.DefinedByPlace.{IsDefinedDocument}
+use Rattle.book_validity.specs.in_typing.FaultView.{faults_of}
 use Rattle.document_typed_operations.specs.TypedDocument.{typed_document_tree}
 use Rattle.graphql_faults.specs.DetailsView.{diagnostics_of}
 use Rattle.graphql_checked.specs.CheckedView.{CheckedSchemaParts}

@@ -1,7 +1,7 @@
 use Rattle.std.proofs.Common.{subst}
 use Rattle.tree_definitions.specs.DefinitionTree.{document_tree}
 use Rattle.graphql_schema.specs.SchemaOf.{schema_tree}
-use Rattle.document_typing.specs.DocumentView.{meant_document}
+use Rattle.book_validity.specs.in_typing.DocumentView.{meant_document}
 use Rattle.document_typed_operations.specs.TypedDocument.{typed_document_tree}
 use Rattle.graphql_faults.specs.DetailsView.{diagnostics_of}
 use Rattle.graphql_checked.specs.CheckedView.{CheckedSchemaParts}

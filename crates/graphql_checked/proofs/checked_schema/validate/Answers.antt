@@ -1,6 +1,6 @@
 use Rattle.std.proofs.Common.{sym, subst, refl, ◌∙◌}
 use Rattle.graphql_schema.specs.SchemaOf.{schema_tree}
-use Rattle.document_typing.specs.DocumentView.{meant_document}
+use Rattle.book_validity.specs.in_typing.DocumentView.{meant_document}
 use Rattle.document_typed_operations.specs.TypedDocument.{typed_document_tree}
 use Rattle.rule_document_definitions.specs.Told.{IsValidDocument}
 use Rattle.graphql_faults.specs.DetailsView.{diagnostics_of}

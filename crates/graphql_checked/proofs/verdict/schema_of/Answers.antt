@@ -1,7 +1,7 @@
 use Rattle.std.proofs.Common.{ap, sym, subst}
 use Rattle.std.specs.Prelude.{IfOk, IfErr}
 use Rattle.std.proofs.lemmas.Result.{err_from_is_err_and, IfErr-weaker}
-use Rattle.verdict_definitions.specs.Judge.{AreSchemasCertain}
+use Rattle.book_validity.specs.in_verdict_definitions.Judge.{AreSchemasCertain}
 use Rattle.checker_schemas.specs.CheckedSchemaValue.{IsCheckedSchemaOf}
 use Rattle.graphql_checked.specs.CheckerValue.{CheckerValue}
 use Rattle.graphql_checked.specs.CheckedView.{schema_value}

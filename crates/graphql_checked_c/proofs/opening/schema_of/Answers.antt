@@ -2,11 +2,11 @@ use Rattle.std.proofs.Common.{ap, sym, subst}
 use Rattle.std.specs.Prelude.{IfOk, IfErr}
 use Rattle.std.proofs.lemmas.Result.{err_from_is_err_and, IfErr-weaker}
 use Rattle.verdict_definitions.specs.Judge.{AreSchemasCertain}
-use Rattle.checker_schemas.specs.CheckedSchemaValue.{IsCheckedSchemaOf}
+use Rattle.graphql_checked.specs.in_checker_schemas.CheckedSchemaValue.{IsCheckedSchemaOf}
 use Rattle.graphql_checked.specs.CheckerValue.{CheckerValue}
 use Rattle.graphql_checked.specs.CheckedView.{schema_value}
 use Rattle.graphql_checked.specs.CheckerAnswers.{IsFinishRefusal}
-use Rattle.checker_schemas.specs.Refusals.{RefusalOfSchemas}
+use Rattle.graphql_checked.specs.in_checker_schemas.Refusals.{RefusalOfSchemas}
 use Rattle.graphql_checked.specs.Verdicts.{first_terms}
 use Rattle.graphql_checked.proofs.Verdicts.{texts_more, texts_all, add_refusal, finish_refusal, memory_refusal}
 use Rattle.graphql_checked_c.proofs.opening.schema_of.Goals as goal

@@ -1,9 +1,9 @@
 use Rattle.std.proofs.Common.{refl, sym, subst, ◌∙◌}
 use Rattle.std.specs.Rc.{rc_str_bytes}
-use Rattle.read_grammar.specs.Grammar.{Derives}
-use Rattle.read_grammar.proofs.Documents.{document_parses}
-use Rattle.read_grammar.proofs.ViableDocuments.{document_viable}
-use Rattle.read_operations.specs.in_read_values.Meanings.{in_file}
+use Rattle.read_types.specs.in_grammar.Grammar.{Derives}
+use Rattle.read_types.proofs.in_grammar.Documents.{document_parses}
+use Rattle.read_types.proofs.in_grammar.ViableDocuments.{document_viable}
+use Rattle.read_types.specs.in_read_operations.Meanings.{in_file}
 use Rattle.graphql_read.specs.ReadFaults.{fault_view, definitions_tree}
 use Rattle.graphql_read.specs.Reads.{IsDue}
 use Rattle.graphql_read.proofs.Texts.{begins, found, only, memory, due}

@@ -1,7 +1,7 @@
 use Rattle.std.proofs.Common.{ℕ, List, sym, subst}
 use Rattle.std.proofs.lemmas.Result.{err_from_is_err_and}
-use Rattle.read_grammar.specs.Grammar.{Derives}
-use Rattle.read_operations.specs.in_read_values.Meanings.{in_file}
+use Rattle.read_types.specs.in_grammar.Grammar.{Derives}
+use Rattle.read_types.specs.in_read_operations.Meanings.{in_file}
 use Rattle.graphql_read.specs.ReadFaults.{definitions_tree}
 use Rattle.graphql_read.specs.Reads.{HasTree, ReadsWithin}
 use Rattle.graphql_read.proofs.Texts.{memory_due}

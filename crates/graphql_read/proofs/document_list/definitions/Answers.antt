@@ -2,15 +2,15 @@ use Rattle.std.proofs.Common.{◌≡◌, ℕ, true, false, arith}
 use Rattle.std.proofs.lemmas.Result.{err_from_is_err_and}
 use Rattle.std.specs.Prelude.{map}
 use Rattle.graphql_names.specs.declared.span.FileId.{FileId}
-use Rattle.tree_definitions.specs.DefinitionTree.{definition_tree}
+use Rattle.read_types.specs.in_definitions.DefinitionTree.{definition_tree}
 use Rattle.read_tokens.specs.Input.{next}
-use Rattle.read_grammar.specs.Begins as begins
-use Rattle.read_grammar.specs.Kinds.{next_is}
-use Rattle.read_grammar.specs.DocumentReading as reading
-use Rattle.read_grammar.proofs.Documents.{definition_parses}
-use Rattle.read_grammar.proofs.Steady.{Steady}
-use Rattle.read_grammar.proofs.Steps.{viewed_turn, turn_stops_with, turns_end, turn_takes, some_starts, some_not}
-use Rattle.read_operations.specs.in_read_values.Meanings.{in_file}
+use Rattle.read_types.specs.in_grammar.Begins as begins
+use Rattle.read_types.specs.in_grammar.Kinds.{next_is}
+use Rattle.read_types.specs.in_grammar.DocumentReading as reading
+use Rattle.read_types.proofs.in_grammar.Documents.{definition_parses}
+use Rattle.read_types.proofs.in_grammar.Steady.{Steady}
+use Rattle.read_types.proofs.in_grammar.Steps.{viewed_turn, turn_stops_with, turns_end, turn_takes, some_starts, some_not}
+use Rattle.read_types.specs.in_read_operations.Meanings.{in_file}
 use Rattle.graphql_read.proofs.document_list.definitions.Goals as goal
 
 item : (file : FileId) (depth : ℕ) → Steady 1 (reading.definition (in_file file) depth) (reading.definition (in_file file) depth)

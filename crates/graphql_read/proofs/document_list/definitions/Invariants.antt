@@ -1,11 +1,11 @@
 use Rattle.std.proofs.Common.{◌≡◌, length}
 use Rattle.std.specs.Prelude.{map}
-use Rattle.tree_definitions.specs.DefinitionTree.{definition_tree}
-use Rattle.read_grammar.specs.Begins as begins
-use Rattle.read_grammar.specs.Reading as read
-use Rattle.read_grammar.specs.DocumentReading as reading
-use Rattle.read_grammar.proofs.Steps.{with_front}
-use Rattle.read_operations.specs.in_read_values.Meanings.{in_file}
+use Rattle.read_types.specs.in_definitions.DefinitionTree.{definition_tree}
+use Rattle.read_types.specs.in_grammar.Begins as begins
+use Rattle.read_types.specs.in_grammar.Reading as read
+use Rattle.read_types.specs.in_grammar.DocumentReading as reading
+use Rattle.read_types.proofs.in_grammar.Steps.{with_front}
+use Rattle.read_types.specs.in_read_operations.Meanings.{in_file}
 use Rattle.graphql_read.proofs.document_list.definitions.Given as goal
 
 abbrev pub invariant-turns : goal.invariant-turns

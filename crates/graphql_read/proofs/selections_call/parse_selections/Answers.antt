@@ -1,9 +1,9 @@
 use Rattle.std.proofs.lemmas.Result.{err_from_is_err_and}
 use Rattle.std.proofs.Common.{refl, sym, subst, ◌∙◌}
-use Rattle.read_grammar.specs.Grammar.{DerivesSelections}
-use Rattle.read_grammar.proofs.Operations.{selections_parses}
-use Rattle.read_grammar.proofs.ViableOperations.{selections_viable}
-use Rattle.read_operations.specs.in_read_values.Meanings.{in_file}
+use Rattle.read_types.specs.in_grammar.Grammar.{DerivesSelections}
+use Rattle.read_types.proofs.in_grammar.Operations.{selections_parses}
+use Rattle.read_types.proofs.in_grammar.ViableOperations.{selections_viable}
+use Rattle.read_types.specs.in_read_operations.Meanings.{in_file}
 use Rattle.graphql_read.specs.ReadFaults.{fault_view, selections_tree}
 use Rattle.graphql_read.specs.Reads.{IsDue}
 use Rattle.graphql_read.proofs.Texts.{begins, lexed_as, found, only, memory, due, memory_due}

@@ -1,10 +1,10 @@
 use Rattle.std.proofs.lemmas.Result.{err_from_is_err_and}
 use Rattle.std.proofs.Common.{refl, sym, subst, ◌∙◌}
 use Rattle.tree_literals.specs.TypeTree.{type_tree}
-use Rattle.read_grammar.specs.Grammar.{DerivesType}
+use Rattle.read_types.specs.in_grammar.Grammar.{DerivesType}
 use Rattle.graphql_read.proofs.Symbols.{any_type_parses}
-use Rattle.read_grammar.proofs.ViableValues.{type_viable}
-use Rattle.read_operations.specs.in_read_values.Meanings.{in_file}
+use Rattle.read_types.proofs.in_grammar.ViableValues.{type_viable}
+use Rattle.read_types.specs.in_read_operations.Meanings.{in_file}
 use Rattle.graphql_read.specs.Reads.{IsDue}
 use Rattle.graphql_read.specs.ReadFaults.{fault_view}
 use Rattle.graphql_read.proofs.Texts.{begins, lexed_as, found, only, memory, due, memory_due}

@@ -7,7 +7,7 @@ use Rattle.fault_data.specs.FaultView.{fault_of}
 use Rattle.fault_data.specs.declared.fault.Fault.{Fault}
 use Rattle.rule_uses.specs.Steps.{Lists, DisallowedUsage}
 use Rattle.graphql_faults.specs.DetailsView.{diagnostics_of}
-use Rattle.rule_values.specs.Wanting.{variables_of}
+use Rattle.rule_uses.specs.in_rule_values.Wanting.{variables_of}
 use Rattle.graphql_rules.proofs.GivenFacts.{usage_told}
 use Rattle.graphql_rules.proofs.given.validate_variable_usage.Goals as goal
 

@@ -1,6 +1,6 @@
 use Rattle.std.proofs.Common.{◌&&◌, is_none, option_map, ap, sym, ◌∙◌}
 use Rattle.schema_types.specs.TypeView.{extended_type}
-use Rattle.graphql_schema.specs.SchemaOf.{schema_tree}
+use Rattle.rule_cycles.specs.in_schema.SchemaOf.{schema_tree}
 use Rattle.rule_definitions.specs.Kept.{is_referenced}
 use Rattle.graphql_rules.proofs.kept.is_missing.Goals as goal
 

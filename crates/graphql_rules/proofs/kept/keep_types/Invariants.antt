@@ -4,7 +4,7 @@ use Rattle.graphql_names.specs.NameValue.{NameValue}
 use Rattle.schema_types.specs.declared.extended_type.ExtendedType.{ExtendedType}
 use Rattle.schema_types.specs.SchemaView.{types_view}
 use Rattle.schema_types.specs.TypeView.{name_text, extended_type}
-use Rattle.graphql_schema.specs.SchemaOf.{schema_tree}
+use Rattle.rule_cycles.specs.in_schema.SchemaOf.{schema_tree}
 use Rattle.graphql_rules.specs.Putting.{and_kept}
 use Rattle.graphql_rules.proofs.kept.keep_types.Given as goal
 

@@ -1,7 +1,7 @@
 use Rattle.std.proofs.Common.{map, ap, ◌∙◌}
 use Rattle.std.specs.Prelude.{fold}
 use Rattle.schema_types.specs.TypeView.{name_text, extended_type}
-use Rattle.graphql_schema.specs.SchemaOf.{schema_tree}
+use Rattle.rule_cycles.specs.in_schema.SchemaOf.{schema_tree}
 use Rattle.rule_definitions.specs.Names.{scalar_names}
 use Rattle.graphql_rules.specs.Putting.{and_kept, and_missing}
 use Rattle.graphql_rules.proofs.Putting.{kept_in}

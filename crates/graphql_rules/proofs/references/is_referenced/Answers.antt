@@ -1,6 +1,6 @@
 use Rattle.std.proofs.Common.{◌||◌, ap, sym, ◌∙◌}
 use Rattle.std.specs.List.{list_any}
-use Rattle.graphql_schema.specs.SchemaOf.{schema_tree}
+use Rattle.rule_cycles.specs.in_schema.SchemaOf.{schema_tree}
 use Rattle.rule_definitions.specs.Kept.{is_inside_arguments}
 use Rattle.graphql_rules.proofs.Putting.{types_inside, directives_inside}
 use Rattle.graphql_rules.proofs.references.is_referenced.Goals as goal

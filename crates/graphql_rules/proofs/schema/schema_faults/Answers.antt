@@ -1,5 +1,5 @@
 use Rattle.std.proofs.Common.{ap, map}
-use Rattle.graphql_schema.specs.SchemaOf.{schema_tree}
+use Rattle.rule_cycles.specs.in_schema.SchemaOf.{schema_tree}
 use Rattle.fault_data.specs.FaultView.{fault_of, faults_of}
 use Rattle.graphql_rules.proofs.Whole.{tells_schema}
 use Rattle.graphql_rules.proofs.schema.schema_faults.Goals as goal

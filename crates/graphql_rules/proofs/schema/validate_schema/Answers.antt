@@ -1,4 +1,4 @@
-use Rattle.graphql_schema.specs.SchemaOf.{schema_tree}
+use Rattle.rule_cycles.specs.in_schema.SchemaOf.{schema_tree}
 use Rattle.schema_types.specs.SchemaView.{types_view}
 use Rattle.rule_definitions.specs.Judged.{judged}
 use Rattle.fault_data.specs.FaultView.{faults_of}

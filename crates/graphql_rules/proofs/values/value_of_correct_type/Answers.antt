@@ -5,12 +5,12 @@ use Rattle.graphql_names.specs.Node.{content, place}
 use Rattle.graphql_names.specs.declared.node.Node.{Node}
 use Rattle.tree_literals.specs.ValueTree.{value_tree}
 use Rattle.tree_operations.specs.declared.operation.VariableDefinition.{VariableDefinition}
-use Rattle.graphql_schema.specs.SchemaOf.{schema_tree}
+use Rattle.rule_cycles.specs.in_schema.SchemaOf.{schema_tree}
 use Rattle.rule_definitions.specs.in_schema_types.Addresses.{place_at}
 use Rattle.rule_definitions.specs.Judged.{judged}
 use Rattle.rule_definitions.specs.Values.{ValueBreaks}
 use Rattle.rule_definitions.proofs.Accepting.{accepts_where_quiet}
-use Rattle.rule_values.specs.Wanting.{wanted_type, variables_of}
+use Rattle.rule_uses.specs.in_rule_values.Wanting.{wanted_type, variables_of}
 use Rattle.fault_data.specs.FaultView.{fault_of, faults_of}
 use Rattle.fault_data.specs.Adds.{Adds}
 use Rattle.graphql_faults.specs.DetailsView.{diagnostics_of}

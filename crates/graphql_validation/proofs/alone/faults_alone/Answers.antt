@@ -1,9 +1,9 @@
 use Rattle.std.proofs.Common.{◌↔◌, ◌∙◌, ◌++◌, map, sym, ap, subst, Contains}
 use Rattle.std.proofs.lemmas.Result.{IfOk-weaker}
-use Rattle.document_typing.specs.DocumentView.{document_meant}
+use Rattle.rule_fragments.specs.in_typing.DocumentView.{document_meant}
 use Rattle.fault_data.specs.FaultView.{fault_of, faults_of}
 use Rattle.rule_document_definitions.specs.Reached.{AtOperation}
-use Rattle.rule_document_ground.specs.NotedNames.{noted_names}
+use Rattle.rule_fragments.specs.in_ground.NotedNames.{noted_names}
 use Rattle.graphql_validation.specs.Operations.{OperationFailsAlone, ReachesNamed, NotesNames, AllAlone}
 use Rattle.graphql_validation.proofs.Data.{are_used, tells_data}
 use Rattle.graphql_validation.proofs.Ordered.{all_alone, recursive_alone}

@@ -2,9 +2,9 @@ use Rattle.std.proofs.Common.{◌≡◌, ◌++◌, map}
 use Rattle.rule_document_definitions.specs.Selected.{operations}
 use Rattle.graphql_faults.specs.DetailsView.{diagnostics_of}
 use Rattle.rule_definitions.specs.Judged.{judged}
-use Rattle.graphql_schema.specs.SchemaOf.{schema_tree}
+use Rattle.rule_fragments.specs.in_schema.SchemaOf.{schema_tree}
 use Rattle.document_typed_operations.specs.OperationsByName.{left_operations}
-use Rattle.document_typing.specs.DocumentView.{document_meant, operation_meant}
+use Rattle.rule_fragments.specs.in_typing.DocumentView.{document_meant, operation_meant}
 use Rattle.rule_merging.specs.Merged.{DocumentMergingTold}
 use Rattle.rule_merging.specs.Merger.{merger_of}
 use Rattle.graphql_validation.proofs.MergedOperations.{MergeSoFar}

@@ -1,11 +1,11 @@
 use Rattle.std.proofs.Common.{[], ◌∙◌, sym, subst, true≢false}
 use Rattle.std.proofs.lemmas.Result.{on_ok_weaker}
-use Rattle.document_typing.specs.DocumentView.{document_meant}
+use Rattle.rule_fragments.specs.in_typing.DocumentView.{document_meant}
 use Rattle.rule_document_definitions.proofs.UnplacedFragments.{named_if_own}
 use Rattle.fault_data.specs.FaultView.{faults_of}
 use Rattle.graphql_faults.specs.DetailsView.{diagnostics_of}
-use Rattle.rule_document_ground.specs.Broken.{brokens_of}
-use Rattle.graphql_schema.specs.SchemaOf.{schema_tree}
+use Rattle.rule_fragments.specs.in_ground.Broken.{brokens_of}
+use Rattle.rule_fragments.specs.in_schema.SchemaOf.{schema_tree}
 use Rattle.graphql_validation.specs.Operations.{all_told}
 use Rattle.graphql_validation.specs.TellsDocument.{IsTypedUnder, TellsDocument}
 use Rattle.rule_merging.proofs.Behind.{nothing_told, told_nothing, begins_same, refused_so}

@@ -1,10 +1,10 @@
 use Rattle.std.proofs.Common.{map, ap, subst}
 use Rattle.std.proofs.lemmas.Result.{on_ok_weaker}
-use Rattle.document_typing.specs.DocumentView.{document_meant}
+use Rattle.rule_fragments.specs.in_typing.DocumentView.{document_meant}
 use Rattle.fault_data.specs.FaultView.{faults_of}
 use Rattle.graphql_faults.specs.DetailsView.{diagnostics_of}
-use Rattle.rule_document_ground.specs.Broken.{broken_of, brokens_of}
-use Rattle.graphql_schema.specs.SchemaOf.{schema_tree}
+use Rattle.rule_fragments.specs.in_ground.Broken.{broken_of, brokens_of}
+use Rattle.rule_fragments.specs.in_schema.SchemaOf.{schema_tree}
 use Rattle.graphql_validation.specs.Operations.{all_told}
 use Rattle.graphql_validation.specs.Told.{set_meant, TellsFieldSet}
 use Rattle.graphql_validation.proofs.FieldSets.{told_of_set, silent_set, valid_set}

@@ -1,10 +1,10 @@
 use Rattle.std.proofs.Common.{subst}
 use Rattle.std.proofs.lemmas.Result.{on_ok_weaker}
-use Rattle.document_typing.specs.DocumentView.{document_meant}
+use Rattle.rule_fragments.specs.in_typing.DocumentView.{document_meant}
 use Rattle.fault_data.specs.FaultView.{faults_of}
 use Rattle.graphql_faults.specs.DetailsView.{diagnostics_of}
 use Rattle.rule_document_definitions.proofs.UnplacedFragments.{named_if_own}
-use Rattle.rule_document_ground.specs.Broken.{brokens_of}
+use Rattle.rule_fragments.specs.in_ground.Broken.{brokens_of}
 use Rattle.graphql_validation.specs.Operations.{all_told}
 use Rattle.graphql_validation.specs.Told.{TellsAlone}
 use Rattle.rule_merging.proofs.Behind.{nothing_told, told_nothing, begins_same, refused_so}

@@ -1,12 +1,12 @@
 use Rattle.std.proofs.Common.{refl}
 use Rattle.std.proofs.lemmas.Result.{on_ok_weaker}
 use Rattle.fault_data.specs.FaultView.{faults_of}
-use Rattle.graphql_schema.specs.SchemaOf.{schema_tree}
-use Rattle.document_typing.specs.DocumentView.{operation_meant}
+use Rattle.rule_fragments.specs.in_schema.SchemaOf.{schema_tree}
+use Rattle.rule_fragments.specs.in_typing.DocumentView.{operation_meant}
 use Rattle.rule_document_definitions.specs.Told.{place_or_built_in}
-use Rattle.rule_document_ground.specs.NotedNames.{noted_names}
+use Rattle.rule_fragments.specs.in_ground.NotedNames.{noted_names}
 use Rattle.rule_definitions.proofs.Listing.{gains_both, gains_same}
-use Rattle.rule_document_ground.specs.Reach.{meant_fragments, reached_members, reached_fragments_of}
+use Rattle.rule_fragments.specs.in_ground.Reach.{meant_fragments, reached_members, reached_fragments_of}
 use Rattle.graphql_validation.proofs.Noting.{fragments_noted, notes_same}
 use Rattle.graphql_validation.proofs.Settled.{instead_of, reached_instead, told_instead, named_instead, typed_instead}
 use Rattle.graphql_validation.specs.Operations.{ReachesNamed}

@@ -2,15 +2,15 @@ use Rattle.std.proofs.Common.{◌∙◌, ◌∷◌, [], ◌++◌, map, subst}
 use Rattle.fault_data.specs.FaultView.{faults_of}
 use Rattle.fault_data.specs.Adds.{Adds}
 use Rattle.graphql_names.specs.Placed.{Place}
-use Rattle.graphql_schema.specs.SchemaOf.{schema_tree}
+use Rattle.rule_fragments.specs.in_schema.SchemaOf.{schema_tree}
 use Rattle.document_typed_operations.specs.OperationsByName.{left_operations}
 use Rattle.document_meaning.specs.MeantTree.{MeantOperation}
-use Rattle.document_typing.specs.DocumentView.{document_meant, operation_meant}
+use Rattle.rule_fragments.specs.in_typing.DocumentView.{document_meant, operation_meant}
 use Rattle.rule_definitions.specs.Words.{AtSomeIndex}
 use Rattle.rule_document_definitions.specs.Selected.{operations}
-use Rattle.rule_document_ground.specs.NotedNames.{noted_names}
+use Rattle.rule_fragments.specs.in_ground.NotedNames.{noted_names}
 use Rattle.rule_definitions.proofs.Listing.{gains_none, gains_more, gains_same}
-use Rattle.rule_document_ground.proofs.AtReaches.{some_index}
+use Rattle.rule_fragments.proofs.in_ground.AtReaches.{some_index}
 use Rattle.graphql_validation.specs.Operations.{OperationFails, ReachesNamed, NotesNames}
 use Rattle.graphql_validation.proofs.Noting.{notes_none, notes_more, notes_same}
 use Rattle.rule_subscriptions.proofs.Operations.{lent_operation, lent_operations, all_operations, one_behind, lent_more, lent_all, lent_among}

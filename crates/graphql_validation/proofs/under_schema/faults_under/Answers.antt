@@ -1,11 +1,11 @@
 use Rattle.std.proofs.Common.{◌↔◌, ◌∙◌, ◌++◌, map, sym, ap, subst, Contains}
 use Rattle.std.proofs.lemmas.Result.{IfOk-weaker}
-use Rattle.document_typing.specs.DocumentView.{document_meant}
+use Rattle.rule_fragments.specs.in_typing.DocumentView.{document_meant}
 use Rattle.fault_data.specs.FaultView.{fault_of, faults_of}
-use Rattle.graphql_schema.specs.SchemaOf.{schema_tree}
+use Rattle.rule_fragments.specs.in_schema.SchemaOf.{schema_tree}
 use Rattle.rule_document_definitions.specs.Reached.{AtOperation}
-use Rattle.rule_document_ground.specs.NotedNames.{noted_names}
-use Rattle.rule_document_ground.specs.Reach.{meant_fragments}
+use Rattle.rule_fragments.specs.in_ground.NotedNames.{noted_names}
+use Rattle.rule_fragments.specs.in_ground.Reach.{meant_fragments}
 use Rattle.rule_selections.specs.Settled.{StandIn}
 use Rattle.graphql_validation.proofs.Settled.{lent_or}
 use Rattle.graphql_validation.specs.Operations.{OperationFails, ReachesNamed, NotesNames, AllUnder}

@@ -2,7 +2,7 @@ use Rattle.std.proofs.Common.{◌≤◌, sym, subst, ◌∙◌}
 use Rattle.std.specs.Option.{option_copied}
 use Rattle.tree_definitions.specs.DefinitionTree.{document_tree, unplaced_document}
 use Rattle.graphql_read.specs.in_grammar.Grammar.{Derives}
-use Rattle.graphql_read.specs.in_read_values.Meanings.{in_file}
+use Rattle.graphql_read.specs.in_read_operations.Meanings.{in_file}
 use Rattle.read_again.proofs.NestAlike.{document_read_depth}
 use Rattle.read_again.specs.ReadsAgain.{laid_out}
 use Rattle.read_again.proofs.SameTree.{same_of, within_of, document_reads}

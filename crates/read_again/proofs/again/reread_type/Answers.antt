@@ -2,7 +2,7 @@ use Rattle.std.proofs.Common.{◌≤◌, sym, subst, ◌∙◌}
 use Rattle.tree_literals.specs.ValueLayout.{type_text}
 use Rattle.tree_literals.specs.TypeTree.{type_tree, unplaced_type}
 use Rattle.graphql_read.specs.in_grammar.Grammar.{DerivesType}
-use Rattle.graphql_read.specs.in_read_values.Meanings.{in_file}
+use Rattle.graphql_read.specs.in_read_operations.Meanings.{in_file}
 use Rattle.read_again.proofs.NestAlike.{type_read_depth}
 use Rattle.read_again.proofs.SameTree.{same_of, within_of, type_reads, standing_on_one_line}
 use Rattle.read_again.proofs.again.reread_type.Goals as goal

@@ -1,4 +1,4 @@
-use Rattle.read_values.specs.Meanings.{in_file}
+use Rattle.read_operations.specs.Meanings.{in_file}
 use Rattle.read_again.proofs.Alone.{literals_read, selections_alone}
 use Rattle.read_again.proofs.printed.printed_selections_read.Goals as goal
 

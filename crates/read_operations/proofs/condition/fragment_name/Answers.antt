@@ -5,7 +5,7 @@ use Rattle.read_grammar.specs.Meaning.{name_of}
 use Rattle.read_grammar.specs.OperationReading as reading
 use Rattle.read_grammar.proofs.Moves.{taken_no}
 use Rattle.read_grammar.proofs.Words.{fragment_name_is}
-use Rattle.read_values.specs.Meanings.{in_file}
+use Rattle.read_operations.specs.Meanings.{in_file}
 use Rattle.read_operations.proofs.condition.fragment_name.Goals as goal
 
 pub returns-then-not-next_is_fragment_name : goal.returns-then-not-next_is_fragment_name

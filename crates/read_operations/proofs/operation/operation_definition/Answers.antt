@@ -1,7 +1,7 @@
 use Rattle.std.proofs.Common.{◌≡◌, true, false}
 use Rattle.read_tokens.specs.Input.{next}
 use Rattle.read_grammar.specs.Kinds.{next_is, is_open_brace}
-use Rattle.read_values.specs.Meanings.{in_file}
+use Rattle.read_operations.specs.Meanings.{in_file}
 use Rattle.read_operations.proofs.Operations.{operation_short, operation_full}
 use Rattle.read_operations.proofs.operation.operation_definition.Goals as goal
 

@@ -16,7 +16,7 @@ use Rattle.read_grammar.specs.Places.{place_in}
 use Rattle.read_operations.specs.SelectionSteps as steps
 use Rattle.read_operations.specs.PartViews.{Ends, selections_view, set_view, field_head_view, inline_head_view}
 use Rattle.read_operations.proofs.SelectionRules.{ends_reads, field_is, inline_is, dots_spread, dots_inline, selection_field, selection_dots}
-use Rattle.read_values.specs.Meanings.{in_file}
+use Rattle.read_operations.specs.Meanings.{in_file}
 use Rattle.read_operations.proofs.selection_list.+selection.Goals as goal
 
 item : (file : FileId) (depth : ℕ) → Steady 1 (reading.selection (in_file file) depth (reading.selection_set (in_file file) depth)) (reading.selection (in_file file) depth (reading.selection_set (in_file file) depth))

@@ -5,7 +5,7 @@ use Rattle.read_grammar.specs.Begins as begins
 use Rattle.read_grammar.specs.Reading as read
 use Rattle.read_grammar.specs.OperationReading as reading
 use Rattle.read_grammar.proofs.Steps.{with_front}
-use Rattle.read_values.specs.Meanings.{in_file}
+use Rattle.read_operations.specs.Meanings.{in_file}
 use Rattle.read_operations.proofs.selection_list.+selection.Given as goal
 
 abbrev pub decreases-selection_set : goal.decreases-selection_set

@@ -14,7 +14,7 @@ use Rattle.read_grammar.proofs.Steady.{Steady}
 use Rattle.read_grammar.proofs.Parses.{located}
 use Rattle.read_grammar.proofs.Operations.{variable_definition_parses}
 use Rattle.read_grammar.proofs.Steps.{turn, turn_stops_with, turns_end, turn_takes, some_starts, some_not}
-use Rattle.read_values.specs.Meanings.{in_file}
+use Rattle.read_operations.specs.Meanings.{in_file}
 use Rattle.read_operations.proofs.variable_list.some_variable_definitions.Goals as goal
 
 item : (file : FileId) (depth : ℕ) → Steady 1 (read.placed (in_file file) (reading.variable_definition (in_file file) depth)) (read.placed (in_file file) (reading.variable_definition (in_file file) depth))

@@ -6,7 +6,7 @@ use Rattle.read_grammar.specs.Kinds as kinds
 use Rattle.read_grammar.specs.Reading as read
 use Rattle.read_grammar.specs.OperationReading as reading
 use Rattle.read_grammar.proofs.Steps.{with_front}
-use Rattle.read_values.specs.Meanings.{in_file}
+use Rattle.read_operations.specs.Meanings.{in_file}
 use Rattle.read_operations.proofs.variable_list.some_variable_definitions.Given as goal
 
 abbrev pub invariant-turns : goal.invariant-turns

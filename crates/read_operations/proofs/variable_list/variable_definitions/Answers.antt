@@ -1,6 +1,6 @@
 use Rattle.std.proofs.Common.{rules}
 use Rattle.read_grammar.proofs.Opened.{variable_definitions_is}
-use Rattle.read_values.specs.Meanings.{in_file}
+use Rattle.read_operations.specs.Meanings.{in_file}
 use Rattle.read_operations.proofs.variable_list.variable_definitions.Goals as goal
 
 pub returns-in_err-open : goal.returns-in_err-open

@@ -1,8 +1,8 @@
 use Rattle.std.proofs.Common.{◌≡◌, true, false, rules}
 use Rattle.read_tokens.specs.Input.{next}
-use Rattle.read_grammar.specs.Kinds.{next_is, is_directive}
-use Rattle.read_members.specs.in_read_values.Meanings.{in_file}
-use Rattle.read_types.proofs.Described.{definition_is}
+use Rattle.read_operations.specs.in_grammar.Kinds.{next_is, is_directive}
+use Rattle.read_types.specs.in_read_operations.Meanings.{in_file}
+use Rattle.read_types.proofs.DescribedTypes.{definition_is}
 use Rattle.read_types.proofs.definition.type_system_definition.Goals as goal
 
 pub returns-in_err-description : goal.returns-in_err-description

@@ -1,7 +1,7 @@
 use Rattle.std.proofs.Common.{◌≡◌, true, false}
 use Rattle.read_tokens.specs.Input.{next}
-use Rattle.read_grammar.specs.Kinds.{next_is, is_schema}
-use Rattle.read_members.specs.in_read_values.Meanings.{in_file}
+use Rattle.read_operations.specs.in_grammar.Kinds.{next_is, is_schema}
+use Rattle.read_types.specs.in_read_operations.Meanings.{in_file}
 use Rattle.read_types.proofs.Dispatch.{extends_schema, extends_type}
 use Rattle.read_types.proofs.extension.extension_kind.Goals as goal
 

@@ -1,7 +1,7 @@
 use Rattle.std.proofs.Common.{◌≡◌, true, false}
 use Rattle.read_tokens.specs.Input.{next}
-use Rattle.read_grammar.specs.Kinds.{next_is, is_scalar, is_type, is_interface, is_union, is_enum, is_input}
-use Rattle.read_members.specs.in_read_values.Meanings.{in_file}
+use Rattle.read_operations.specs.in_grammar.Kinds.{next_is, is_scalar, is_type, is_interface, is_union, is_enum, is_input}
+use Rattle.read_types.specs.in_read_operations.Meanings.{in_file}
 use Rattle.read_types.proofs.Dispatch.{type_scalar, type_object, type_interface, type_union, type_enum, type_input_object, type_refused}
 use Rattle.read_types.proofs.types.type_definition.Goals as goal
 

@@ -2,7 +2,7 @@ use Rattle.std.proofs.Common.{◌<◌, ◌++◌, [], List, map, take, length, ap
 use Rattle.std.specs.List.{sum}
 use Rattle.std.proofs.lemmas.List.{take_all}
 use Rattle.std.proofs.lemmas.Simd.{map-map}
-use Rattle.graphql_schema.specs.SchemaOf.{schema_tree}
+use Rattle.rule_document_ground.specs.in_schema.SchemaOf.{schema_tree}
 use Rattle.rule_definitions.specs.Judged.{judged}
 use Rattle.rule_document_ground.specs.Fields.{fields_of}
 use Rattle.rule_document_ground.specs.declared.field_selection.FieldSelection.{FieldSelection}

@@ -1,6 +1,6 @@
 use Rattle.std.proofs.Common.{◌≤◌, ◌+◌, map, take, drop}
 use Rattle.std.specs.List.{sum}
-use Rattle.graphql_schema.specs.SchemaOf.{schema_tree}
+use Rattle.rule_document_ground.specs.in_schema.SchemaOf.{schema_tree}
 use Rattle.rule_definitions.specs.Judged.{judged}
 use Rattle.rule_document_ground.specs.Fields.{fields_of}
 use Rattle.rule_field_groups.specs.Compared.{compared}

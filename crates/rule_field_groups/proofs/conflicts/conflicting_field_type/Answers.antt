@@ -1,6 +1,6 @@
 use Rattle.std.proofs.Common.{None, Some, sym, append-nil, ◌∙◌, true≢false}
 use Rattle.std.proofs.lemmas.Result.{on_ok_weaker}
-use Rattle.graphql_schema.specs.SchemaOf.{schema_tree}
+use Rattle.rule_document_ground.specs.in_schema.SchemaOf.{schema_tree}
 use Rattle.rule_definitions.specs.Judged.{judged}
 use Rattle.rule_document_ground.specs.Broken.{brokens_of}
 use Rattle.rule_field_groups.proofs.ShapesTold.{shapes_told}

@@ -1,6 +1,6 @@
 use Rattle.std.proofs.Common.{◌∙◌, not, filter, map, length, ap, sym, subst, List}
 use Rattle.std.specs.List.{sum}
-use Rattle.graphql_schema.specs.SchemaOf.{schema_tree}
+use Rattle.rule_document_ground.specs.in_schema.SchemaOf.{schema_tree}
 use Rattle.rule_definitions.specs.Judged.{judged}
 use Rattle.rule_document_ground.specs.declared.field_selection.FieldSelection.{FieldSelection}
 use Rattle.rule_field_groups.specs.declared.groups.OwnFields.{OwnFields}

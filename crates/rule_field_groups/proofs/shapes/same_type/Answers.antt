@@ -1,6 +1,6 @@
 use Rattle.std.proofs.Common.{◌≡◌, ◌&&◌, ap, sym, ◌∙◌}
 use Rattle.tree_literals.specs.TypeTree.{type_tree, unplaced_type}
-use Rattle.graphql_schema.specs.SchemaOf.{schema_tree}
+use Rattle.rule_document_ground.specs.in_schema.SchemaOf.{schema_tree}
 use Rattle.rule_definitions.specs.Judged.{judged}
 use Rattle.rule_definitions.specs.Names.{named_in}
 use Rattle.rule_field_groups.specs.Shapes.{same_inner}

@@ -1,5 +1,5 @@
 use Rattle.std.proofs.Common.{◌<◌, ◌≤◌, length, arith}
-use Rattle.graphql_schema.specs.SchemaOf.{schema_tree}
+use Rattle.rule_cycles.specs.in_schema.SchemaOf.{schema_tree}
 use Rattle.fault_data.specs.FaultView.{faults_of}
 use Rattle.rule_document_ground.specs.Reach.{fragment_of}
 use Rattle.rule_fragments.specs.Listed.{fragment_target}

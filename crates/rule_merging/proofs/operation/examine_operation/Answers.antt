@@ -1,6 +1,6 @@
 use Rattle.std.proofs.Common.{◌∷◌, [], ◌||◌, sym, ap, ◌∙◌}
-use Rattle.document_typing.specs.in_schema.SchemaOf.{schema_tree}
-use Rattle.document_typing.specs.DocumentView.{document_meant, operation_meant}
+use Rattle.rule_field_groups.specs.in_schema.SchemaOf.{schema_tree}
+use Rattle.rule_field_groups.specs.in_typing.DocumentView.{document_meant, operation_meant}
 use Rattle.document_typed_selections.specs.TypedTree.{typed_set_tree}
 use Rattle.document_meaning.specs.MeantTree.{meant_of_set}
 use Rattle.rule_definitions.specs.Judged.{judged}

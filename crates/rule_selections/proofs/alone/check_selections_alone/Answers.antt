@@ -4,12 +4,12 @@ use Rattle.graphql_names.specs.Placed.{Place, node_tree}
 use Rattle.tree_directives.specs.DirectiveTree.{Directives, directives_tree}
 use Rattle.document_typed_operations.specs.TypedDocument.{typed_operation_tree}
 use Rattle.document_typed_operations.specs.declared.operation.Operation.{Operation}
-use Rattle.document_typing.specs.DocumentView.{meant_by_operation}
+use Rattle.rule_document_ground.specs.in_typing.DocumentView.{meant_by_operation}
 use Rattle.fault_data.specs.FaultView.{faults_of}
 use Rattle.fault_data.specs.Adds.{Adds}
 use Rattle.rule_definitions.specs.Words.{AtSomeIndex}
 use Rattle.rule_definitions.specs.GivenValues.{Variables}
-use Rattle.rule_values.specs.Wanting.{variables_of}
+use Rattle.rule_uses.specs.in_rule_values.Wanting.{variables_of}
 use Rattle.rule_uses.specs.Alone.{DirectivesAloneBreak}
 use Rattle.rule_uses.specs.Trees.{directives_of}
 use Rattle.rule_definitions.proofs.Listing.{gains_both, gains_same}

@@ -2,16 +2,16 @@ use Rattle.std.proofs.Common.{List, map, ◌∙◌, refl, ap, sym, subst, true�
 use Rattle.std.proofs.lemmas.Result.{on_ok_weaker}
 use Rattle.graphql_names.specs.Placed.{Place}
 use Rattle.tree_directives.specs.DirectiveTree.{input_value_trees}
-use Rattle.graphql_schema.specs.SchemaOf.{schema_tree}
+use Rattle.rule_document_ground.specs.in_schema.SchemaOf.{schema_tree}
 use Rattle.tree_type_members.specs.declared.field_definition.FieldDefinition.{FieldDefinition}
 use Rattle.document_typed_selections.specs.declared.selection.Field.{Field}
 use Rattle.schema_types.specs.Plain.{plain}
-use Rattle.document_typing.specs.Meanings.{meanings}
-use Rattle.document_typing.proofs.FieldsFound.{field-absent}
+use Rattle.rule_document_ground.specs.in_typing.Meanings.{meanings}
+use Rattle.rule_document_ground.proofs.in_typing.FieldsFound.{field-absent}
 use Rattle.fault_data.specs.Adds.{Adds}
 use Rattle.rule_definitions.specs.Judged.{judged}
 use Rattle.rule_definitions.specs.Uses.{Taker, TakerBreaks}
-use Rattle.rule_values.specs.Wanting.{variables_of}
+use Rattle.rule_uses.specs.in_rule_values.Wanting.{variables_of}
 use Rattle.rule_document_definitions.specs.Told.{place_or_built_in}
 use Rattle.rule_uses.specs.Trees.{arguments_of}
 use Rattle.tree_directives.specs.DirectiveTree.{argument_tree}

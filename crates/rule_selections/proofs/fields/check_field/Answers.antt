@@ -2,13 +2,13 @@ use Rattle.std.proofs.Common.{◌∙◌, ap, subst}
 use Rattle.std.proofs.lemmas.Result.{on_ok_weaker}
 use Rattle.graphql_names.specs.Placed.{Place}
 use Rattle.tree_directives.specs.DirectiveTree.{Arguments}
-use Rattle.graphql_schema.specs.SchemaOf.{schema_tree}
+use Rattle.rule_document_ground.specs.in_schema.SchemaOf.{schema_tree}
 use Rattle.document_typed_selections.specs.declared.selection.Field.{Field}
 use Rattle.fault_data.specs.FaultView.{faults_of}
 use Rattle.fault_data.specs.Adds.{Adds}
 use Rattle.rule_definitions.specs.Judged.{judged}
 use Rattle.rule_definitions.specs.Uses.{GivenBreaks}
-use Rattle.rule_values.specs.Wanting.{variables_of}
+use Rattle.rule_uses.specs.in_rule_values.Wanting.{variables_of}
 use Rattle.rule_document_definitions.specs.Told.{place_or_built_in}
 use Rattle.rule_uses.specs.Trees.{arguments_of}
 use Rattle.rule_definitions.proofs.Listing.{gains_both, gains_list}

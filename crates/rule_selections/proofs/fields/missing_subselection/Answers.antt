@@ -1,6 +1,6 @@
 use Rattle.std.proofs.Common.{◌∙◌, ◌++◌, ◌∷◌, [], ap, sym, append-nil}
 use Rattle.std.proofs.lemmas.Result.{IfOk-equal}
-use Rattle.graphql_schema.specs.SchemaOf.{schema_tree}
+use Rattle.rule_document_ground.specs.in_schema.SchemaOf.{schema_tree}
 use Rattle.schema_types.specs.Addresses.{type_at}
 use Rattle.std.specs.Option.{option_map}
 use Rattle.graphql_names.specs.Node.{content}

@@ -3,11 +3,11 @@ use Rattle.fault_data.specs.Adds.{Adds}
 use Rattle.graphql_names.specs.declared.node.Node.{Node}
 use Rattle.tree_operations.specs.declared.operation.VariableDefinition.{VariableDefinition}
 use Rattle.rule_definitions.specs.Words.{AtSomeIndex}
-use Rattle.rule_values.specs.Wanting.{variables_of}
+use Rattle.rule_uses.specs.in_rule_values.Wanting.{variables_of}
 use Rattle.rule_selections.specs.Steps.{SelectionBreaks}
 use Rattle.fault_data.specs.FaultView.{faults_of}
 use Rattle.graphql_names.specs.Placed.{Place}
-use Rattle.graphql_schema.specs.SchemaOf.{schema_tree}
+use Rattle.rule_document_ground.specs.in_schema.SchemaOf.{schema_tree}
 use Rattle.document_typed_selections.specs.TypedTree.{TypedSet, typed_selection_tree}
 use Rattle.document_meaning.specs.MeantTree.{meant, meant_of_set}
 use Rattle.rule_document_definitions.specs.Selected.{InOperation, standing_in}

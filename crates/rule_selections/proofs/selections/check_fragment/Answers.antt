@@ -4,12 +4,12 @@ use Rattle.graphql_names.specs.Placed.{Place}
 use Rattle.tree_directives.specs.DirectiveTree.{Directives, directives_tree}
 use Rattle.tree_directives.specs.declared.directive_location.DirectiveLocation.TheVariants as location
 use Rattle.schema_types.specs.Addresses.{place_at}
-use Rattle.graphql_schema.specs.SchemaOf.{schema_tree}
+use Rattle.rule_document_ground.specs.in_schema.SchemaOf.{schema_tree}
 use Rattle.document_typed_operations.specs.declared.operation.Fragment.{Fragment}
 use Rattle.fault_data.specs.Adds.{Adds}
 use Rattle.rule_definitions.specs.Judged.{judged}
 use Rattle.rule_definitions.specs.Uses.{UsesBreak}
-use Rattle.rule_values.specs.Wanting.{variables_of}
+use Rattle.rule_uses.specs.in_rule_values.Wanting.{variables_of}
 use Rattle.rule_uses.specs.Trees.{directives_of}
 use Rattle.rule_selections.proofs.selections.check_fragment.Goals as goal
 

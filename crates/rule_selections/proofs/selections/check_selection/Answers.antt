@@ -1,13 +1,13 @@
 use Rattle.std.proofs.Common.{◌∙◌, ap, subst}
 use Rattle.std.proofs.lemmas.Result.{on_ok_weaker}
 use Rattle.schema_types.specs.Addresses.{place_at}
-use Rattle.graphql_schema.specs.SchemaOf.{schema_tree}
+use Rattle.rule_document_ground.specs.in_schema.SchemaOf.{schema_tree}
 use Rattle.document_typed_selections.specs.TypedTree.{typed_selection_tree}
 use Rattle.fault_data.specs.FaultView.{faults_of}
 use Rattle.fault_data.specs.Adds.{Adds}
 use Rattle.rule_definitions.specs.Judged.{judged}
 use Rattle.rule_definitions.specs.Uses.{UsesBreak}
-use Rattle.rule_values.specs.Wanting.{variables_of}
+use Rattle.rule_uses.specs.in_rule_values.Wanting.{variables_of}
 use Rattle.rule_uses.specs.Trees.{directives_of}
 use Rattle.rule_definitions.proofs.Listing.{gains_both, gains_same, gains_nothing}
 use Rattle.rule_selections.specs.Steps.{FieldBreaks}

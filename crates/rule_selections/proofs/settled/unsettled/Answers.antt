@@ -1,7 +1,7 @@
 use Rattle.std.proofs.Common.{◌<◌, ◌+◌, map, take, length, subst, ap, ◌∙◌, arith}
 use Rattle.std.proofs.lemmas.List.{take_all}
 use Rattle.graphql_names.specs.Placed.{name_tree}
-use Rattle.graphql_schema.specs.SchemaOf.{schema_tree}
+use Rattle.rule_document_ground.specs.in_schema.SchemaOf.{schema_tree}
 use Rattle.document_typed_selections.specs.TypedTree.{typed_set, no_typed, typed_selection_tree, typed_set_tree}
 use Rattle.document_typed_selections.proofs.TypedTrees.{typed_set_tree_out}
 use Rattle.document_meaning.specs.MeantTree.{meant}

@@ -1,6 +1,6 @@
 use Rattle.std.proofs.Common.{map, take}
 use Rattle.graphql_names.specs.Placed.{name_tree}
-use Rattle.graphql_schema.specs.SchemaOf.{schema_tree}
+use Rattle.rule_document_ground.specs.in_schema.SchemaOf.{schema_tree}
 use Rattle.document_typed_selections.specs.TypedTree.{typed_selection_tree, typed_set_tree}
 use Rattle.document_meaning.specs.MeantTree.{meant}
 use Rattle.rule_selections.proofs.Thinning.{IsLeft}

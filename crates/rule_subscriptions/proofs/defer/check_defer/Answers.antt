@@ -3,12 +3,12 @@ use Rattle.std.specs.List.{flat_map}
 use Rattle.std.proofs.lemmas.Result.{on_ok_weaker}
 use Rattle.tree_directives.specs.declared.operation_type.OperationType.TheVariants as operation
 use Rattle.document_typed_operations.specs.declared.operation.Operation.{Operation}
-use Rattle.document_typing.specs.DocumentView.{document_meant, operation_meant}
+use Rattle.rule_document_ground.specs.in_typing.DocumentView.{document_meant, operation_meant}
 use Rattle.rule_subscriptions.specs.Broken.{brokens_of}
-use Rattle.rule_always.specs.Always.{AreAlways}
+use Rattle.rule_subscriptions.specs.Always.{AreAlways}
 use Rattle.rule_subscriptions.specs.Listed.{fragment_deferred, always_deferred}
 use Rattle.rule_subscriptions.specs.Rooted.{AreRoots}
-use Rattle.rule_always.specs.Lent.{lent_all}
+use Rattle.rule_subscriptions.specs.Lent.{lent_all}
 use Rattle.rule_subscriptions.proofs.Deferred.{of_mutation, of_subscription}
 use Rattle.rule_subscriptions.proofs.defer.check_defer.Goals as goal
 

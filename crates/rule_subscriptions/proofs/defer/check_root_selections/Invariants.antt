@@ -1,9 +1,9 @@
 use Rattle.std.proofs.Common.{◌≡◌, ◌++◌, take}
 use Rattle.std.specs.List.{flat_map}
-use Rattle.document_typing.specs.DocumentView.{operation_meant}
+use Rattle.rule_document_ground.specs.in_typing.DocumentView.{operation_meant}
 use Rattle.rule_subscriptions.specs.Broken.{brokens_of}
 use Rattle.rule_subscriptions.specs.Listed.{fragment_deferred}
-use Rattle.rule_always.specs.Lent.{lent_all}
+use Rattle.rule_subscriptions.specs.Lent.{lent_all}
 use Rattle.rule_subscriptions.proofs.defer.check_root_selections.Given as goal
 
 abbrev pub invariant-loop-selection : goal.invariant-loop-selection

@@ -1,4 +1,4 @@
-use Rattle.document_typing.specs.DocumentView.{document_meant}
+use Rattle.rule_document_ground.specs.in_typing.DocumentView.{document_meant}
 use Rattle.rule_document_ground.specs.Broken.{brokens_of}
 use Rattle.rule_subscriptions.proofs.InDocuments.{tells_breaches}
 use Rattle.rule_subscriptions.proofs.documents.document_breaches.Goals as goal

@@ -8,8 +8,8 @@ use Rattle.document_walks.specs.WalkView.{fragments_tree, lent_member}
 use Rattle.document_walks.specs.Lending.{selections_left, selections_are_over}
 use Rattle.document_walks.proofs.Gathering.{lent_ok}
 use Rattle.document_walks.proofs.WalkLaws.{fragments_tree-document}
-use Rattle.document_typing.specs.DocumentView.{operation_meant}
-use Rattle.rule_always.specs.Lent.{lent_all}
+use Rattle.rule_document_ground.specs.in_typing.DocumentView.{operation_meant}
+use Rattle.rule_subscriptions.specs.Lent.{lent_all}
 use Rattle.rule_subscriptions.proofs.Lent.{members_lent, taken, all_taken}
 use Rattle.rule_subscriptions.proofs.Rooted.{roots}
 use Rattle.rule_subscriptions.proofs.roots.root_selections.Goals as goal

@@ -5,7 +5,7 @@ use Rattle.document_typed_operations.specs.TypedDocument.{typed_document_tree}
 use Rattle.document_typed_selections.specs.TypedTree.{typed_set_tree}
 use Rattle.document_walks.specs.Reached.{Member, IsMemberWalk, document_fragments}
 use Rattle.document_walks.specs.Lending.{selections_left}
-use Rattle.rule_always.specs.Lent.{lent_all}
+use Rattle.rule_subscriptions.specs.Lent.{lent_all}
 use Rattle.rule_subscriptions.proofs.Lent.{members_lent}
 use Rattle.rule_subscriptions.proofs.roots.root_selections.Given as goal
 

@@ -4,10 +4,10 @@ use Rattle.std.proofs.lemmas.Result.{on_ok_weaker}
 use Rattle.tree_directives.specs.declared.operation_type.OperationType.TheVariants as operation
 use Rattle.graphql_names.specs.NameValue.{NameValue}
 use Rattle.document_typed_operations.specs.declared.operation.Operation.{Operation}
-use Rattle.document_typing.specs.DocumentView.{document_meant, operation_meant}
+use Rattle.rule_document_ground.specs.in_typing.DocumentView.{document_meant, operation_meant}
 use Rattle.rule_subscriptions.specs.Broken.{brokens_of}
 use Rattle.rule_subscriptions.specs.Listed.{root_names, multiple_fields, at_root}
-use Rattle.rule_always.specs.Lent.{lent_all}
+use Rattle.rule_subscriptions.specs.Lent.{lent_all}
 use Rattle.rule_subscriptions.proofs.Subscribed.{tells_roots, tells_nothing}
 use Rattle.rule_subscriptions.proofs.subscriptions.check_subscription.Goals as goal
 

@@ -1,7 +1,7 @@
 use Rattle.std.proofs.Common.{◌≡◌, take, map}
 use Rattle.std.specs.List.{flat_map}
 use Rattle.rule_subscriptions.specs.Listed.{root_names}
-use Rattle.rule_always.specs.Lent.{lent_all}
+use Rattle.rule_subscriptions.specs.Lent.{lent_all}
 use Rattle.rule_subscriptions.proofs.subscriptions.field_names.Given as goal
 
 abbrev pub invariant-loop-selection : goal.invariant-loop-selection

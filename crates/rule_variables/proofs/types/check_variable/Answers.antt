@@ -9,10 +9,10 @@ use Rattle.tree_operations.specs.declared.operation.VariableDefinition.{Variable
 use Rattle.schema_types.specs.Addresses.{place_at}
 use Rattle.rule_definitions.specs.Judged.{judged}
 use Rattle.rule_definitions.specs.Uses.{UsesBreak}
-use Rattle.rule_values.specs.in_schema.SchemaOf.{schema_tree}
-use Rattle.rule_values.specs.in_fault_data.FaultView.{faults_of}
-use Rattle.rule_values.specs.in_fault_data.Adds.{Adds}
-use Rattle.rule_values.specs.Wanting.{variables_of}
+use Rattle.rule_document_ground.specs.in_schema.SchemaOf.{schema_tree}
+use Rattle.rule_uses.specs.in_fault_data.FaultView.{faults_of}
+use Rattle.rule_uses.specs.in_fault_data.Adds.{Adds}
+use Rattle.rule_uses.specs.in_rule_values.Wanting.{variables_of}
 use Rattle.rule_uses.specs.Trees.{directives_of}
 use Rattle.rule_definitions.proofs.Listing.{gains_both, gains_list}
 use Rattle.rule_variables.specs.VariableFaults.{undefined_definition, variable_input_type}

@@ -1,9 +1,9 @@
 use Rattle.std.proofs.Common.{◌≡◌, ◌++◌, take}
 use Rattle.schema_components.specs.Lists.{each_place}
 use Rattle.rule_definitions.specs.Names.{defined_name}
-use Rattle.rule_values.specs.in_fault_data.FaultView.{faults_of}
-use Rattle.rule_values.specs.Firsts.{AreFirsts}
-use Rattle.rule_values.specs.Wanting.{variables_of}
+use Rattle.rule_uses.specs.in_fault_data.FaultView.{faults_of}
+use Rattle.rule_uses.specs.in_rule_values.Firsts.{AreFirsts}
+use Rattle.rule_uses.specs.in_rule_values.Wanting.{variables_of}
 use Rattle.rule_variables.specs.VariableFaults.{repeated_variable}
 use Rattle.rule_variables.proofs.unique.tell_variables_again.Given as goal
 

@@ -1,5 +1,5 @@
 use Rattle.std.proofs.Common.{◌≡◌, ◌++◌, map, length}
-use Rattle.schema_fold.specs.ListedView.{listed_view}
+use Rattle.schema_built_in.specs.in_fold.ListedView.{listed_view}
 use Rattle.schema_building.specs.Settling.{unnumbered, empty_of}
 use Rattle.schema_building.specs.Waiting.{orphan_kinds, left_kinds}
 use Rattle.schema_building.proofs.adopt.adopt_types.Given as goal

@@ -1,6 +1,6 @@
 use Rattle.std.proofs.Common.{◌<◌, ◌+◌, [], ◌∷◌, map, take, drop, get_or, length, sym, ap, subst, ◌∙◌, arith}
 use Rattle.std.proofs.lemmas.Result.{err_from_is_err_and}
-use Rattle.schema_fold.specs.in_definitions.DefinitionTree.{definition_tree}
+use Rattle.schema_built_in.specs.in_definitions.DefinitionTree.{definition_tree}
 use Rattle.schema_building.specs.TextsView.{texts_view}
 use Rattle.schema_building.specs.TextsList.{AddsDefinitions, IsListRefusal}
 use Rattle.schema_building.proofs.Adding.{adds_then, refusal_more}

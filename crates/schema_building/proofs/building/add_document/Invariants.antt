@@ -1,5 +1,5 @@
 use Rattle.std.proofs.Common.{map, take}
-use Rattle.schema_fold.specs.in_definitions.DefinitionTree.{definition_tree}
+use Rattle.schema_built_in.specs.in_definitions.DefinitionTree.{definition_tree}
 use Rattle.schema_building.specs.KeptView.{KeepsIndex}
 use Rattle.schema_building.specs.TextsView.{texts_view}
 use Rattle.schema_building.specs.TextsList.{AddsDefinitions}

@@ -1,7 +1,7 @@
 use Rattle.std.proofs.Common.{◌≡◌, drop, map, is_some}
-use Rattle.schema_fold.specs.Listed.{definitions_of}
-use Rattle.schema_fold.specs.SchemaFold.{schema_definition_in}
-use Rattle.schema_fold.specs.ListedView.{listed_view}
+use Rattle.schema_built_in.specs.in_fold.Listed.{definitions_of}
+use Rattle.schema_built_in.specs.in_fold.SchemaFold.{schema_definition_in}
+use Rattle.schema_built_in.specs.in_fold.ListedView.{listed_view}
 use Rattle.schema_building.proofs.defined.has_schema_definition.Given as goal
 
 abbrev pub invariant-loop-listed : goal.invariant-loop-listed

@@ -1,7 +1,7 @@
 use Rattle.std.proofs.Common.{◌≡◌, drop, map}
-use Rattle.schema_fold.specs.Listed.{definitions_of}
-use Rattle.schema_fold.specs.SchemaFold.{is_object_in}
-use Rattle.schema_fold.specs.ListedView.{listed_view}
+use Rattle.schema_built_in.specs.in_fold.Listed.{definitions_of}
+use Rattle.schema_built_in.specs.in_fold.SchemaFold.{is_object_in}
+use Rattle.schema_built_in.specs.in_fold.ListedView.{listed_view}
 use Rattle.schema_building.proofs.defined.is_object.Given as goal
 
 abbrev pub invariant-loop-listed : goal.invariant-loop-listed

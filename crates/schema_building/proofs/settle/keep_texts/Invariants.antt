@@ -1,6 +1,6 @@
 use Rattle.std.proofs.Common.{◌≡◌, ◌++◌, map, take}
 use Rattle.std.specs.List.{filter}
-use Rattle.schema_fold.specs.ListedView.{listed_view}
+use Rattle.schema_built_in.specs.in_fold.ListedView.{listed_view}
 use Rattle.schema_building.specs.Settling.{is_kept}
 use Rattle.schema_building.proofs.settle.keep_texts.Given as goal
 

@@ -1,6 +1,6 @@
 use Rattle.std.proofs.Common.{◌<◌, map, length, arith}
-use Rattle.schema_fold.specs.in_definitions.DefinitionTree.{definition_tree}
-use Rattle.schema_fold.specs.ListedView.{listed_view}
+use Rattle.schema_built_in.specs.in_definitions.DefinitionTree.{definition_tree}
+use Rattle.schema_built_in.specs.in_fold.ListedView.{listed_view}
 use Rattle.schema_building.specs.Settling.{unnumbered}
 use Rattle.schema_building.proofs.Growing.{mapped}
 use Rattle.schema_building.proofs.settle.list_all.Goals as goal

@@ -1,5 +1,5 @@
 use Rattle.std.proofs.Common.{map, nat_eq, sym, ap, ◌∙◌}
-use Rattle.schema_fold.specs.in_definitions.Sources.{numbered_source}
+use Rattle.schema_built_in.specs.in_definitions.Sources.{numbered_source}
 use Rattle.indexmap.specs.IndexMap.{insert_entry}
 use Rattle.schema_building.specs.SourcesView.{sources_view, with_sources}
 use Rattle.schema_building.proofs.Sourcing.{insert_viewed}

@@ -1,5 +1,5 @@
 use Rattle.std.proofs.Common.{◌≡◌, map, length}
-use Rattle.schema_fold.specs.in_definitions.Sources.{numbered_source}
+use Rattle.schema_built_in.specs.in_definitions.Sources.{numbered_source}
 use Rattle.schema_building.specs.SourcesView.{sources_view, with_sources}
 use Rattle.schema_building.proofs.sources.add_sources.Given as goal
 

@@ -2,8 +2,8 @@ use Rattle.std.proofs.Common.{[], ◌∷◌, ◌++◌, map, Some, sym, ap, ◌�
 use Rattle.std.specs.Option.{option_map}
 use Rattle.std.proofs.lemmas.List.{map-append, append-nil}
 use Rattle.std.proofs.lemmas.Option.{slice_get-map, slice_get-get_or, slice_get_past}
-use Rattle.schema_fold.specs.ListedView.{listed_view}
-use Rattle.schema_fold.specs.declared.listed.Listed.{Listed}
+use Rattle.schema_fold_index.specs.in_fold.ListedView.{listed_view}
+use Rattle.schema_fold_index.specs.in_fold.declared.listed.Listed.{Listed}
 use Rattle.schema_fold_types.proofs.extensions.push_at.Goals as goal
 
 pub returns-in_default : goal.returns-in_default

@@ -1,8 +1,8 @@
 use Rattle.std.proofs.Common.{◌≡◌, map}
 use Rattle.std.proofs.lemmas.Result.{IfOk-weaker}
-use Rattle.schema_fold.specs.FaultView.{faults_of}
-use Rattle.schema_fold.specs.Listed.{definitions_of}
-use Rattle.schema_fold.specs.ListedView.{listed_view}
+use Rattle.schema_fold_index.specs.in_fold.FaultView.{faults_of}
+use Rattle.schema_fold_index.specs.in_fold.Listed.{definitions_of}
+use Rattle.schema_fold_index.specs.in_fold.ListedView.{listed_view}
 use Rattle.schema_fold_index.specs.Index.{text_kind}
 use Rattle.schema_fold_types.specs.Seen.{Seen, seen_of}
 use Rattle.schema_fold_types.specs.SeenView.{seen_view}

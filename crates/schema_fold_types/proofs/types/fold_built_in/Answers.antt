@@ -1,11 +1,11 @@
 use Rattle.std.proofs.Common.{◌<◌, ◌∷◌, [], ◌++◌, map, take, length, sym, ap, ◌∙◌, option_to_list, arith}
 use Rattle.std.proofs.lemmas.List.{append-nil, take_all}
-use Rattle.schema_fold.specs.in_definitions.DefinitionTree.{definition_tree}
-use Rattle.schema_fold.specs.in_schema_types.SchemaView.{types_view}
-use Rattle.schema_fold.specs.in_schema_types.TypeParts.{type_here}
-use Rattle.schema_fold.specs.FaultView.{faults_of}
-use Rattle.schema_fold.specs.Listed.{types_in, definitions_of}
-use Rattle.schema_fold.specs.ListedView.{listed_view}
+use Rattle.schema_fold_index.specs.in_definitions.DefinitionTree.{definition_tree}
+use Rattle.schema_fold_index.specs.in_schema_types.SchemaView.{types_view}
+use Rattle.schema_fold_index.specs.in_schema_types.TypeParts.{type_here}
+use Rattle.schema_fold_index.specs.in_fold.FaultView.{faults_of}
+use Rattle.schema_fold_index.specs.in_fold.Listed.{types_in, definitions_of}
+use Rattle.schema_fold_index.specs.in_fold.ListedView.{listed_view}
 use Rattle.schema_fold_index.specs.Index.{extensions_under}
 use Rattle.schema_fold_types.proofs.Folding.{folds_none, folds_then, types_more}
 use Rattle.schema_fold_types.proofs.FoldingAll.{folds_same}

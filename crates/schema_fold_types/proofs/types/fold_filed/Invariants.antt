@@ -1,9 +1,9 @@
 use Rattle.std.proofs.Common.{map, take}
 use Rattle.std.specs.List.{flat_map}
-use Rattle.schema_fold.specs.in_schema_types.SchemaView.{types_view}
-use Rattle.schema_fold.specs.FaultView.{faults_of}
-use Rattle.schema_fold.specs.Listed.{definitions_of}
-use Rattle.schema_fold.specs.ListedView.{listed_view}
+use Rattle.schema_fold_index.specs.in_schema_types.SchemaView.{types_view}
+use Rattle.schema_fold_index.specs.in_fold.FaultView.{faults_of}
+use Rattle.schema_fold_index.specs.in_fold.Listed.{definitions_of}
+use Rattle.schema_fold_index.specs.in_fold.ListedView.{listed_view}
 use Rattle.schema_fold_types.specs.Filing.{FoldsOn}
 use Rattle.schema_fold_index.specs.Index.{defined_at, extensions_under}
 use Rattle.schema_fold_types.proofs.types.fold_filed.Given as goal

@@ -1,8 +1,8 @@
 use Rattle.std.proofs.Common.{map, sym, ap, option_to_list}
-use Rattle.schema_fold.specs.in_definitions.DefinitionTree.{definition_tree}
-use Rattle.schema_fold.specs.in_schema_types.SchemaView.{types_view}
-use Rattle.schema_fold.specs.FaultView.{faults_of}
-use Rattle.schema_fold.specs.ListedView.{listed_view}
+use Rattle.schema_fold_index.specs.in_definitions.DefinitionTree.{definition_tree}
+use Rattle.schema_fold_index.specs.in_schema_types.SchemaView.{types_view}
+use Rattle.schema_fold_index.specs.in_fold.FaultView.{faults_of}
+use Rattle.schema_fold_index.specs.in_fold.ListedView.{listed_view}
 use Rattle.schema_fold_index.specs.Index.{extensions_under}
 use Rattle.schema_fold_types.proofs.FoldingAll.{folds_nothing}
 use Rattle.schema_fold_types.proofs.types.fold_here.Goals as goal

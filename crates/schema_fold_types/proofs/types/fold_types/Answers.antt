@@ -1,8 +1,8 @@
 use Rattle.std.proofs.Common.{map, sym, ap, subst, ◌++◌, ◌∙◌}
-use Rattle.schema_fold.specs.in_schema_types.SchemaView.{types_view}
-use Rattle.schema_fold.specs.FaultView.{faults_of}
-use Rattle.schema_fold.specs.Listed.{types_in, definitions_of}
-use Rattle.schema_fold.specs.ListedView.{listed_view}
+use Rattle.schema_fold_index.specs.in_schema_types.SchemaView.{types_view}
+use Rattle.schema_fold_index.specs.in_fold.FaultView.{faults_of}
+use Rattle.schema_fold_index.specs.in_fold.Listed.{types_in, definitions_of}
+use Rattle.schema_fold_index.specs.in_fold.ListedView.{listed_view}
 use Rattle.schema_fold_types.specs.OwnNames.{TypesUnderOwnNames}
 use Rattle.schema_fold_types.proofs.FoldedTypes.{folds_types, tells_types}
 use Rattle.schema_fold_types.proofs.Folding.{entry_view}

@@ -1,5 +1,5 @@
 use Rattle.std.proofs.Common.{map}
-use Rattle.tree_printing.specs.in_names.Placed.{name_tree}
+use Rattle.tree_literals.specs.in_names.Placed.{name_tree}
 use Rattle.tree_type_members.specs.TypeSystemTree.{field_definition_tree}
 use Rattle.graphql_names.proofs.Copies.{nodes-copies, equal-copies}
 use Rattle.tree_composite_types.proofs.copies.clone_members.Goals as goal

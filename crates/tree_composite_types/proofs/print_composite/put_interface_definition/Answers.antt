@@ -1,5 +1,5 @@
 use Rattle.std.proofs.Common.{rules, codes, map, subst}
-use Rattle.tree_printing.specs.in_names.Placed.{name_tree}
+use Rattle.tree_literals.specs.in_names.Placed.{name_tree}
 use Rattle.tree_type_members.specs.in_directives.DirectiveTree.{directives_tree}
 use Rattle.tree_type_members.specs.TypeSystemLayout.{head_text}
 use Rattle.tree_composite_types.proofs.print_composite.put_interface_definition.Goals as goal

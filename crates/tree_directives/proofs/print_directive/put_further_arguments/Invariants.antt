@@ -1,9 +1,9 @@
 use Rattle.std.proofs.Common.{map, take, codes}
-use Rattle.graphql_names.specs.Placed.{node_tree}
+use Rattle.tree_literals.specs.in_names.Placed.{node_tree}
 use Rattle.tree_directives.specs.DirectiveTree.{argument_tree}
-use Rattle.tree_printing.specs.Joined.{further_text}
+use Rattle.tree_literals.specs.Joined.{further_text}
 use Rattle.tree_directives.specs.DirectiveLayout.{argument_text}
-use Rattle.tree_printing.specs.LineLayout.{texts_of}
+use Rattle.tree_literals.specs.LineLayout.{texts_of}
 use Rattle.tree_directives.proofs.print_directive.put_further_arguments.Given as goal
 
 abbrev pub invariant-loop-argument : goal.invariant-loop-argument

@@ -1,5 +1,5 @@
 use Rattle.std.proofs.Common.{map, take}
-use Rattle.graphql_names.specs.Placed.{node_tree}
+use Rattle.tree_literals.specs.in_names.Placed.{node_tree}
 use Rattle.tree_directives.specs.DirectiveTree.{directive_tree}
 use Rattle.tree_directives.specs.DirectiveLayout.{directives_text}
 use Rattle.tree_directives.proofs.print_directive.put_further_directives.Given as goal

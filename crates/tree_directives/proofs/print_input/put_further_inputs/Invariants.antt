@@ -1,10 +1,10 @@
 use Rattle.std.proofs.Common.{map, take, codes}
 use Rattle.std.specs.Option.{option_copied}
-use Rattle.graphql_names.specs.Placed.{node_tree}
+use Rattle.tree_literals.specs.in_names.Placed.{node_tree}
 use Rattle.tree_directives.specs.DirectiveTree.{input_value_tree}
-use Rattle.tree_printing.specs.Joined.{further_text}
-use Rattle.tree_printing.specs.Levels.{level_depth}
-use Rattle.tree_printing.specs.LineLayout.{texts_of}
+use Rattle.tree_literals.specs.Joined.{further_text}
+use Rattle.tree_literals.specs.Levels.{level_depth}
+use Rattle.tree_literals.specs.LineLayout.{texts_of}
 use Rattle.tree_directives.specs.InputLayout.{input_value_text}
 use Rattle.tree_directives.proofs.print_input.put_further_inputs.Given as goal
 

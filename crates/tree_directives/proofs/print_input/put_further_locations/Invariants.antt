@@ -1,5 +1,5 @@
 use Rattle.std.proofs.Common.{map, take, codes}
-use Rattle.tree_printing.specs.Joined.{further_text}
+use Rattle.tree_literals.specs.Joined.{further_text}
 use Rattle.tree_directives.specs.DirectivePlaces.{location_keyword}
 use Rattle.tree_directives.proofs.print_input.put_further_locations.Given as goal
 

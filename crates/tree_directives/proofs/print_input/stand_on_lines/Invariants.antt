@@ -1,5 +1,5 @@
 use Rattle.std.proofs.Common.{◌≡◌, map, drop}
-use Rattle.graphql_names.specs.Placed.{node_tree}
+use Rattle.tree_literals.specs.in_names.Placed.{node_tree}
 use Rattle.tree_directives.specs.DirectiveTree.{input_value_tree}
 use Rattle.tree_directives.specs.InputLayout.{stand_on_lines}
 use Rattle.tree_directives.proofs.print_input.stand_on_lines.Given as goal

@@ -1,5 +1,5 @@
 use Rattle.std.proofs.Common.{◌≡◌, map, drop}
-use Rattle.graphql_names.specs.Placed.{node_tree}
+use Rattle.tree_literals.specs.in_names.Placed.{node_tree}
 use Rattle.tree_directives.specs.DirectiveTree.{argument_tree}
 use Rattle.tree_directives.specs.DirectiveWritable.{arguments_writable}
 use Rattle.tree_directives.proofs.writable_directive.arguments_are_writable.Given as goal

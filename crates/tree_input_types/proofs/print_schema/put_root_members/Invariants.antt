@@ -1,9 +1,9 @@
 use Rattle.std.proofs.Common.{map, take}
 use Rattle.std.specs.Option.{option_copied}
-use Rattle.graphql_names.specs.Placed.{node_tree}
-use Rattle.tree_printing.specs.Levels.{level_depth}
-use Rattle.tree_printing.specs.LineLayout.{members_text}
-use Rattle.tree_printing.specs.LineLayout.{texts_of}
+use Rattle.tree_literals.specs.in_names.Placed.{node_tree}
+use Rattle.tree_literals.specs.Levels.{level_depth}
+use Rattle.tree_literals.specs.LineLayout.{members_text}
+use Rattle.tree_literals.specs.LineLayout.{texts_of}
 use Rattle.tree_input_types.specs.InputTypeTree.{root_tree}
 use Rattle.tree_type_members.specs.TypeSystemLayout.{root_text}
 use Rattle.tree_input_types.proofs.print_schema.put_root_members.Given as goal

@@ -1,6 +1,6 @@
 use Rattle.std.proofs.Common.{◌≡◌, ◌++◌, ◌∷◌, []}
 use Rattle.std.proofs.lemmas.Result.{on_ok_weaker}
-use Rattle.graphql_faults.specs.DetailsView.{diagnostics_of}
+use Rattle.verdict_definitions.specs.in_faults.DetailsView.{diagnostics_of}
 use Rattle.verdict_definitions.specs.Says.{spent}
 use Rattle.checker_texts.specs.TextsView.{texts_of, IsReadingOf}
 use Rattle.checker_texts.proofs.TextsReading.{reading_of, before_next, spent_kept}

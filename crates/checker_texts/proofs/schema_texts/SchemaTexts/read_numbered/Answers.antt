@@ -4,7 +4,7 @@ use Rattle.tree_definitions.specs.DefinitionTree.{document_tree}
 use Rattle.tree_definitions.specs.Sources.{sources_of}
 use Rattle.graphql_read.specs.Reads.{NestingBound}
 use Rattle.graphql_read.specs.ReadFaults.{unnamed_source}
-use Rattle.graphql_faults.specs.DetailsView.{diagnostics_of}
+use Rattle.verdict_definitions.specs.in_faults.DetailsView.{diagnostics_of}
 use Rattle.verdict_definitions.specs.Texts.{ReadsText}
 use Rattle.checker_texts.specs.Added.{IsToldBehind}
 use Rattle.checker_texts.specs.TextsView.{texts_of, IsReadingOf}

@@ -1,5 +1,5 @@
 use Rattle.std.proofs.Common.{subst}
-use Rattle.document_typing.specs.DocumentView.{document_meant}
+use Rattle.book_validity.specs.in_typing.DocumentView.{document_meant}
 use Rattle.graphql_validation.specs.TellsDocument.{IsTypedUnder}
 use Rattle.graphql_checked.specs.CheckedView.{schema_value}
 use Rattle.graphql_checked.proofs.checked_document.CheckedDocument.document.Goals as goal

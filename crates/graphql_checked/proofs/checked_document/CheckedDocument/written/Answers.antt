@@ -3,7 +3,7 @@ use Rattle.std.proofs.lemmas.Result.{IfOk-weaker}
 use Rattle.std.specs.Prelude.{string_bytes}
 use Rattle.checker_settings.specs.Layouts.{prefix_of}
 use Rattle.graphql_checked.specs.CheckedView.{document_value}
-use Rattle.verdict_definitions.specs.Answer.{WritesDocument}
+use Rattle.book_validity.specs.in_verdict_definitions.Answer.{WritesDocument}
 use Rattle.graphql_checked.proofs.Checking.{writes_document}
 use Rattle.graphql_checked.proofs.checked_document.CheckedDocument.written.Goals as goal
 

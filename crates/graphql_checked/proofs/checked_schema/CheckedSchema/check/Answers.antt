@@ -2,7 +2,7 @@ use Rattle.std.proofs.Common.{[], ap, ◌∙◌}
 use Rattle.std.proofs.lemmas.Result.{err_from_is_err_and}
 use Rattle.tree_definitions.specs.DefinitionTree.{document_tree}
 use Rattle.schema_building.specs.SourcesView.{with_sources}
-use Rattle.document_typing.specs.DocumentView.{meant_document}
+use Rattle.book_validity.specs.in_typing.DocumentView.{meant_document}
 use Rattle.document_typed_operations.specs.TypedDocument.{typed_document_tree}
 use Rattle.graphql_checked.specs.CheckedView.{schema_value}
 use Rattle.graphql_checked.proofs.Checking.{unread_refusal, unread_lasting, unread_certain, typing_refusal, typing_lasting, typing_certain, rules_refusal, rules_lasting, rules_certain, accepted_document}

@@ -8,8 +8,8 @@ use Rattle.graphql_names.specs.Placed.{Place}
 use Rattle.schema_types.specs.SchemaTree.{SchemaType}
 use Rattle.schema_types.specs.TypeView.{name_text, extended_type}
 use Rattle.schema_types.specs.declared.extended_type.ExtendedType.{ExtendedType}
-use Rattle.graphql_schema.specs.SchemaOf.{schema_tree}
-use Rattle.graphql_schema.proofs.DistinctFacts.{distinct_entries}
+use Rattle.rule_cycles.specs.in_schema.SchemaOf.{schema_tree}
+use Rattle.rule_cycles.proofs.in_schema.DistinctFacts.{distinct_entries}
 use Rattle.rule_fragments.specs.Possible.{AddsEntries}
 use Rattle.rule_fragments.specs.Noting.{type_notes}
 use Rattle.rule_fragments.proofs.Noted.{none_yet, more_notes}

@@ -1,5 +1,5 @@
 use Rattle.std.proofs.Common.{true, refl}
-use Rattle.schema_fold.specs.in_definitions.DefinitionTree.{document_tree}
+use Rattle.schema_built_in.specs.in_definitions.DefinitionTree.{document_tree}
 use Rattle.schema_building.specs.KeptView.{definitions, first_number}
 use Rattle.schema_building.specs.SettingsView.{settings_view}
 use Rattle.schema_building.specs.SourcesView.{sources_view}

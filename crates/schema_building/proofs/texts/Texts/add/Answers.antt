@@ -1,6 +1,6 @@
 use Rattle.std.proofs.Common.{map, sym, subst, ◌∙◌}
 use Rattle.std.proofs.lemmas.List.{length-map}
-use Rattle.schema_fold.specs.ListedView.{listed_view}
+use Rattle.schema_built_in.specs.in_fold.ListedView.{listed_view}
 use Rattle.schema_fold_index.specs.Index.{IsIndexOf}
 use Rattle.schema_building.specs.KeptView.{definitions}
 use Rattle.schema_building.proofs.texts.Texts.add.Goals as goal

@@ -1,8 +1,8 @@
 use Rattle.std.proofs.Common.{◌||◌, refl, sym, ap, ◌∙◌}
 use Rattle.std.specs.Option.{option_map}
 use Rattle.std.proofs.lemmas.Result.{IfOk-weaker}
-use Rattle.schema_fold.specs.in_definitions.DefinitionTree.{definition_tree}
-use Rattle.schema_fold.specs.Made.{defined_view}
+use Rattle.schema_fold_index.specs.in_definitions.DefinitionTree.{definition_tree}
+use Rattle.schema_fold_index.specs.in_fold.Made.{defined_view}
 use Rattle.schema_fold_types.specs.Seen.{Seen}
 use Rattle.schema_fold_types.specs.SeenView.{seen_view}
 use Rattle.schema_fold_types.proofs.Seeing.{sees_none, sees_some}

@@ -1,6 +1,6 @@
 use Rattle.std.proofs.Common.{◌≡◌, map, take}
-use Rattle.schema_fold.specs.Listed.{definitions_of}
-use Rattle.schema_fold.specs.ListedView.{listed_view}
+use Rattle.schema_fold_index.specs.in_fold.Listed.{definitions_of}
+use Rattle.schema_fold_index.specs.in_fold.ListedView.{listed_view}
 use Rattle.schema_fold_types.specs.Seen.{seen_of}
 use Rattle.schema_fold_types.specs.SeenView.{seen_view}
 use Rattle.schema_fold_types.proofs.seen.Seen.of.Given as goal

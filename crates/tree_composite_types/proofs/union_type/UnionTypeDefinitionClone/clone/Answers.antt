@@ -1,5 +1,5 @@
 use Rattle.std.proofs.Common.{map}
-use Rattle.tree_printing.specs.in_names.Placed.{name_tree}
+use Rattle.tree_literals.specs.in_names.Placed.{name_tree}
 use Rattle.graphql_names.proofs.Copies.{equal-copies}
 use Rattle.tree_composite_types.proofs.union_type.UnionTypeDefinitionClone.clone.Goals as goal
 

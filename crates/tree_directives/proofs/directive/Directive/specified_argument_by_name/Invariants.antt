@@ -1,6 +1,6 @@
 use Rattle.std.proofs.Common.{◌≡◌, drop, map}
 use Rattle.std.specs.Prelude.{find}
-use Rattle.graphql_names.specs.Placed.{node_tree}
+use Rattle.tree_literals.specs.in_names.Placed.{node_tree}
 use Rattle.tree_directives.specs.DirectiveTree.{argument_tree, directive_tree}
 use Rattle.tree_directives.specs.DirectiveQueries.{argument_has_name}
 use Rattle.tree_directives.proofs.directive.Directive.specified_argument_by_name.Given as goal

@@ -1,6 +1,6 @@
 use Rattle.std.proofs.Common.{◌≡◌, drop, map}
 use Rattle.std.specs.Prelude.{find}
-use Rattle.graphql_names.specs.Placed.{node_tree}
+use Rattle.tree_literals.specs.in_names.Placed.{node_tree}
 use Rattle.tree_directives.specs.DirectiveTree.{input_value_tree, directive_definition_tree}
 use Rattle.tree_directives.specs.DirectiveQueries.{input_value_has_name}
 use Rattle.tree_directives.proofs.directive.DirectiveDefinition.argument_by_name.Given as goal

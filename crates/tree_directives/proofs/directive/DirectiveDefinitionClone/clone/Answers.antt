@@ -1,6 +1,6 @@
 use Rattle.std.proofs.Common.{rules}
 use Rattle.tree_directives.specs.DirectiveTree.{input_value_tree}
-use Rattle.graphql_names.proofs.Copies.{nodes-copies, equal-copies}
+use Rattle.tree_literals.proofs.in_names.Copies.{nodes-copies, equal-copies}
 use Rattle.tree_directives.proofs.directive.DirectiveDefinitionClone.clone.Goals as goal
 
 pub returns : goal.returns

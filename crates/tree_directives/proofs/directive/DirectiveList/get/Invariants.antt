@@ -1,6 +1,6 @@
 use Rattle.std.proofs.Common.{◌≡◌, drop, map}
 use Rattle.std.specs.Prelude.{find}
-use Rattle.graphql_names.specs.Placed.{node_tree}
+use Rattle.tree_literals.specs.in_names.Placed.{node_tree}
 use Rattle.tree_directives.specs.DirectiveTree.{directive_tree, directives_tree}
 use Rattle.tree_directives.specs.DirectiveQueries.{directive_has_name}
 use Rattle.tree_directives.proofs.directive.DirectiveList.get.Given as goal

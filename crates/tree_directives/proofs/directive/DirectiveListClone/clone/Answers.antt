@@ -1,5 +1,5 @@
 use Rattle.tree_directives.specs.DirectiveTree.{directive_tree}
-use Rattle.graphql_names.proofs.Copies.{nodes-copies}
+use Rattle.tree_literals.proofs.in_names.Copies.{nodes-copies}
 use Rattle.tree_directives.proofs.directive.DirectiveListClone.clone.Goals as goal
 
 pub returns : goal.returns

@@ -1,5 +1,5 @@
 use Rattle.tree_type_members.specs.in_directives.DirectiveTree.{input_value_tree}
-use Rattle.graphql_names.proofs.Copies.{nodes-copies}
+use Rattle.tree_literals.proofs.in_names.Copies.{nodes-copies}
 use Rattle.tree_input_types.proofs.input_object_type.InputObjectTypeDefinitionClone.clone.Goals as goal
 
 pub returns : goal.returns

@@ -1,8 +1,8 @@
 use Rattle.std.proofs.Common.{ap}
 use Rattle.std.specs.Option.{option_map}
-use Rattle.graphql_names.specs.Placed.{text_tree}
+use Rattle.tree_literals.specs.in_names.Placed.{text_tree}
 use Rattle.tree_input_types.specs.InputTypeTree.{root_tree}
-use Rattle.graphql_names.proofs.Copies.{nodes-copies}
+use Rattle.tree_literals.proofs.in_names.Copies.{nodes-copies}
 use Rattle.tree_input_types.proofs.schema.SchemaDefinitionClone.clone.Goals as goal
 
 pub returns : goal.returns

@@ -1,6 +1,0 @@
-use Rattle.std.proofs.Common.{◌≡◌, drop}
-use Rattle.read_grammar.specs.Locations.{named_among}
-use Rattle.read_members.proofs.location_list.find_location.Given as goal
-
-abbrev pub invariant-loop-location : goal.invariant-loop-location
-invariant-loop-location l = named_among l.table l.text ≡ named_among (drop l.location-index l.table) l.text

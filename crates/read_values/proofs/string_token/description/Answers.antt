@@ -1,9 +1,0 @@
-use Rattle.std.proofs.Common.{◌≡◌, rules}
-use Rattle.read_values.proofs.Tokens.{description_is}
-use Rattle.read_values.proofs.string_token.description.Goals as goal
-
-pub returns-in_err-text : goal.returns-in_err-text
-returns-in_err-text c = rw (description_is c.args.file c.args.tokens.now) (search rules)
-
-pub returns : goal.returns
-returns c = rw (description_is c.args.file c.args.tokens.now) (search rules)

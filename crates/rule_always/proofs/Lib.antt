@@ -1,9 +1,0 @@
-pub mod Mapped
-pub mod Inside
-pub mod Closing
-pub mod Lookups
-pub mod Telling
-pub mod Staying
-pub mod Found
-pub mod Sets
-pub mod Entering

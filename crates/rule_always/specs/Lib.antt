@@ -1,4 +1,0 @@
-pub mod Always
-pub mod Inside
-pub mod Stays
-pub mod Lent

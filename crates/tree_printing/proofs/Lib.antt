@@ -1,4 +1,0 @@
-pub mod Times
-pub mod Runs
-pub mod Lines
-pub mod StringExamples
