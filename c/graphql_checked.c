@@ -32,6 +32,24 @@ static uint32_t untold(uint32_t status, size_t *needed) {
 
 uint32_t graphql_checked_version(void) { return graphql_proved_version(); }
 
+/* scripts/c_library says what it builds from; whoever builds by hand has proved nothing. */
+#ifndef GRAPHQL_CHECKED_PROVED
+#define GRAPHQL_CHECKED_PROVED 0
+#endif
+#ifndef GRAPHQL_CHECKED_COMMIT
+#define GRAPHQL_CHECKED_COMMIT "unknown"
+#endif
+#ifndef GRAPHQL_CHECKED_VERSION
+#define GRAPHQL_CHECKED_VERSION "unknown"
+#endif
+
+uint32_t graphql_checked_proved(void) { return GRAPHQL_CHECKED_PROVED; }
+
+const char *graphql_checked_build(void) {
+    return GRAPHQL_CHECKED_PROVED ? GRAPHQL_CHECKED_VERSION " (commit " GRAPHQL_CHECKED_COMMIT ", proved)"
+                                  : GRAPHQL_CHECKED_VERSION " (commit " GRAPHQL_CHECKED_COMMIT ", not proved)";
+}
+
 uint32_t graphql_check(const uint8_t *schema, size_t schema_length, const uint8_t *document, size_t document_length,
                        size_t nesting, size_t stack) {
     if (is_missing(schema, schema_length) || is_missing(document, document_length)) return GRAPHQL_NULL;

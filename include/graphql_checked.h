@@ -1,5 +1,5 @@
 /* The proved GraphQL checker, for C. scripts/c_library makes libgraphql_checked.a and libgraphql_checked.so, which need the C
- * library alone.
+ * library alone. With --quick it makes them without proofs, in minutes: `graphql_checked_proved` tells which it is.
  *
  * Texts go in as bytes with their length, and need no zero byte at the end. A status comes out. A report or a text is put into
  * room of the caller's: `*needed` gets its length in bytes, and where it fits it is at the front of the room, without a zero
@@ -23,7 +23,8 @@
  *
  * A text needs the more stack the deeper its brackets nest, and no proof bounds how much. `stack` is how many bytes of it the
  * caller has left; 0 stands for 512 KB. A nesting for which that is too little by measure, 64 KB and 1,152 bytes for each
- * bracket, is refused with GRAPHQL_STACK: 398 is the greatest for 512 KB, 500 needs 641,536 bytes.
+ * bracket, is refused with GRAPHQL_STACK: 398 is the greatest for 512 KB, 500 needs 641,536 bytes. A library without proofs has
+ * larger frames: there each bracket counts 2,304 bytes, 0 stands for 960 KB, and 500 needs 1,217,536 bytes.
  *
  * The functions that are proved are called `graphql_proved_..`. Those of this header look for null pointers and for handles
  * that are not open, or open already, and call them: c/graphql_checked.c, 100 lines of C that no proof covers. */
@@ -57,6 +58,15 @@ typedef struct {
 
 /* The version: 10,000 times the major number, 100 times the minor one, and the patch. Takes no memory and cannot fail. */
 uint32_t graphql_checked_version(void);
+
+/* 1 where the library was proved before it was built; 0 where it was built without proofs, and what is said here to be proved is
+ * not. Cannot fail. */
+uint32_t graphql_checked_proved(void);
+
+/* How the library was made: its version, the commit of its sources, which ends in `+` where they were changed since, and `proved`
+ * or `not proved`, as in `0.1.0 (commit 0123456789ab, proved)`. The text ends with a zero byte and lasts as long as the library
+ * is loaded. Cannot fail. */
+const char *graphql_checked_build(void);
 
 /* Judges one schema text and a document over it, with at most `nesting` brackets open at once. Tells the verdict alone.
  * Answers ACCEPTED, REFUSED, NOT_UTF8, MEMORY, STACK or NULL. Keeps nothing, whatever the answer, and may be called by several

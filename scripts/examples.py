@@ -8,8 +8,8 @@ begins with ```console.
 
 --check runs them all and prints each line that differs; its status is then 1. It also compares the places that these pages
 name, as in `examples/refused/unknown_field.graphql:4:5`: each must be that of a fault which one of the runs prints. Runs need
-the programs that `./graphql-checked` and `./graphql-report` keep; where one is not built from these sources, it says so and leaves
-out its runs. Lines of `--format json` and `--batch` are read back as JSON. --write puts what is printed into examples/*/runs.txt, which must then be read: an expected line comes from the
+the programs that `rt ci` leaves or `./graphql-checked` and `./graphql-report` keep; where one is not built from these sources, it
+says so, leaves out its runs, and the status is 1. Lines of `--format json` and `--batch` are read back as JSON. --write puts what is printed into examples/*/runs.txt, which must then be read: an expected line comes from the
 specification, not from the program.
 
 --program runs FILE wherever a command has `./graphql-checked`, and of all runs those of examples/FOLDER alone that have it.
@@ -118,7 +118,8 @@ def places(run, lines):
 
 def is_built(program):
     """Whether the program is built from these sources."""
-    return subprocess.run([f"./{program}", "--help"], cwd=TOP, env=ENVIRONMENT, stdin=subprocess.DEVNULL, capture_output=True).returncode == 0
+    words = {"graphql-checked": ["README.md", "README.md"], "graphql-report": ["--schema", "README.md"]}[program]
+    return subprocess.run([f"./{program}", *words], cwd=TOP, env=ENVIRONMENT, stdin=subprocess.DEVNULL, capture_output=True).returncode == 1
 
 
 def is_json(line):
@@ -160,7 +161,7 @@ def main(words):
                 file.write(text)
         return 0
     wrong = compared([run for run in all_runs() if not any(program in run.command for program in missing)], [] if missing else pages())
-    return wrong if "--check" in words else 0
+    return (wrong or bool(missing)) if "--check" in words else 0
 
 
 def compared(runs, told):
@@ -183,7 +184,7 @@ def compared(runs, told):
                 wrong += 1
                 print(f"{path}: {place} is the place of no fault that a run prints")
     print(f"examples: {len(runs)} runs, {wrong} wrong")
-    return 1 if wrong else 0
+    return 1 if wrong or not runs else 0
 
 
 if __name__ == "__main__":

@@ -5,7 +5,7 @@
  * refuses requests for memory: then MEMORY is a right answer, and where one request alone is refused the call is made again and is
  * to give what is wanted. The words:
  *   bytes N        documents cut at each byte, and N with some other bytes: both ways of asking give the same
- *   stack          the deepest texts on threads of 512 KB and of 1 MB
+ *   stack          the deepest texts on threads of 512 KB and of 1 MB; without proofs, of 960 KB and 2 MB
  *   threads        four threads, each with its own handle
  *   opens N        N handles opened and closed: nothing is left of them
  *   documents N    N documents that are accepted over one handle, and N that are refused: nothing is left of them. Tells how much
@@ -52,6 +52,9 @@ static uint8_t *room_of(size_t length) {
     has_room = 1;
     return end_of[ROOM] - length;
 }
+
+/* The stack that a nesting needs, as the header says. */
+static size_t stack_of(size_t nesting) { return 65536 + nesting * (graphql_checked_proved() ? 1152 : 2304); }
 
 #define TEXT(area, text) placed(area, text, sizeof(text) - 1), sizeof(text) - 1
 #define ROOM_OF(length) room_of(length), length, &needed
@@ -114,8 +117,8 @@ static void by_value(void) {
     ASK(GRAPHQL_ACCEPTED, graphql_check(A_FIELD, TEXT(DOCUMENT, "{ a }"), 398, 0));
     ASK(GRAPHQL_STACK, graphql_check(A_FIELD, TEXT(DOCUMENT, "{ a }"), 399, 0));
     ASK(GRAPHQL_STACK, graphql_check(A_FIELD, TEXT(DOCUMENT, "{ a }"), 1, 1));
-    ASK(GRAPHQL_STACK, graphql_check(A_FIELD, TEXT(DOCUMENT, "{ a }"), 500, 641535));
-    ASK(GRAPHQL_ACCEPTED, graphql_check(A_FIELD, TEXT(DOCUMENT, "{ a }"), 500, 641536));
+    ASK(GRAPHQL_STACK, graphql_check(A_FIELD, TEXT(DOCUMENT, "{ a }"), 500, stack_of(500) - 1));
+    ASK(GRAPHQL_ACCEPTED, graphql_check(A_FIELD, TEXT(DOCUMENT, "{ a }"), 500, stack_of(500)));
     ASK(GRAPHQL_STACK, graphql_check(A_FIELD, TEXT(DOCUMENT, "{ a }"), SIZE_MAX, SIZE_MAX));
     /* rooms of each length */
     for (size_t length = 0; length <= sizeof REPORT; length++)
@@ -342,7 +345,8 @@ static void deepest(void) {
         {0, "scalar Any type Query { deep(v: Any = ", "[", "1", "]", "): Int }", 2, 0, 0},
         {0, "input In { in: In } type Query { deep(v: In = ", "{ in: ", "null", " }", "): Int }", 2, 0, 0},
     };
-    static const size_t stacks[] = {512 << 10, 1 << 20}, nestings[] = {398, 853};
+    const size_t stacks[] = {graphql_checked_proved() ? 512 << 10 : 960 << 10, graphql_checked_proved() ? 1 << 20 : 2 << 20};
+    static const size_t nestings[] = {398, 853};
     for (size_t size = 0; size < 2; size++)
         for (size_t kind = 0; kind < sizeof kinds / sizeof *kinds; kind++) {
             pthread_t thread;

@@ -7,7 +7,7 @@
 #include <stdlib.h>
 #include <string.h>
 
-enum { WRONG_WORDS = 2, UNREAD = 3, NESTING = 500, STACK = 1 << 20 };
+enum { WRONG_WORDS = 2, UNREAD = 3, NESTING = 500, STACK = 2 << 20 };
 
 /* Bytes that grow. */
 typedef struct {

@@ -15,8 +15,13 @@ import (
 	"unsafe"
 )
 
-// pointer is where the bytes are.
-func pointer(bytes []byte) *C.uint8_t { return (*C.uint8_t)(unsafe.SliceData(bytes)) }
+// pointer is where the bytes are, and nil where there are none.
+func pointer(bytes []byte) *C.uint8_t {
+	if len(bytes) == 0 {
+		return nil
+	}
+	return (*C.uint8_t)(unsafe.Pointer(&bytes[0]))
+}
 
 // told calls with a room, and with a larger one where the answer does not fit; the status, and what is put there.
 func told(call func(room *C.uint8_t, length C.size_t, needed *C.size_t) C.uint32_t) (C.uint32_t, string) {
@@ -39,7 +44,7 @@ func main() {
 	}
 	end := C.size_t(len(text))
 	status, report := told(func(room *C.uint8_t, length C.size_t, needed *C.size_t) C.uint32_t {
-		return C.graphql_schema_open(pointer(text), end, &end, 1, 500, 642<<10, &schema, room, length, needed)
+		return C.graphql_schema_open(pointer(text), end, &end, 1, 500, 2<<20, &schema, room, length, needed)
 	})
 	if status != C.GRAPHQL_ACCEPTED {
 		log.Fatalf("%s: status %d\n%s", os.Args[1], status, report)

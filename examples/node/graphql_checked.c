@@ -7,7 +7,7 @@
 #include <stdio.h>
 #include <stdlib.h>
 
-enum { NESTING = 500, STACK = 642 << 10 };
+enum { NESTING = 500, STACK = 2 << 20 };
 
 /* An exception where a call has other words than it is to have. */
 static napi_value wrong_words(napi_env env) {

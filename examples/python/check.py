@@ -25,7 +25,7 @@ def read(number: int, path: str) -> bytes:
 def texts(document: str, schemas: List[str], prefix: Optional[str]) -> List[str]:
     """The canonical texts of the schema and of the document."""
     *read_schemas, read_document = [read(number, path) for number, path in enumerate([*schemas, document], 1)]
-    with Schema(read_schemas, nesting=500, stack=1 << 20) as schema:
+    with Schema(read_schemas, nesting=500, stack=2 << 20) as schema:
         return [schema.text(prefix), schema.document_text(read_document, prefix)]
 
 

@@ -5,11 +5,12 @@
     for fault in report.faults:
         print(fault.line, fault.column, fault.rule, fault.message)
 
-A verdict is proved; this package passes texts and numbers on, and is not. `scripts/c_library` makes the library,
-`libgraphql_checked.so`: it is loaded from the path in GRAPHQL_CHECKED_LIBRARY, or else from beside this file.
+A verdict is proved where `graphql_checked.proved` is True; this package passes texts and numbers on, and is not.
+`scripts/c_library` makes the library, `libgraphql_checked.so`: it is loaded from the path in GRAPHQL_CHECKED_LIBRARY, or else
+from beside this file, or else from where that script makes it.
 """
 
-from ._library import Library, Status, version
+from ._library import Library, Status, build, is_proved, version
 from ._schema import (
     NESTING,
     EndsError,
@@ -36,7 +37,18 @@ __all__ = [
     "Schema",
     "StackError",
     "Status",
+    "build",
     "check",
     "check_json",
+    "proved",
     "version",
 ]
+
+proved: bool
+
+
+def __getattr__(name: str) -> bool:
+    """`proved`: whether the library was proved before it was built. It is asked once it is wanted, since that loads the library."""
+    if name == "proved":
+        return is_proved()
+    raise AttributeError(f"module {__name__!r} has no attribute {name!r}")

@@ -35,6 +35,7 @@ class Handle(ctypes.Structure):
 _handle = _pointer(Handle)
 _types: Dict[str, List[Any]] = {
     "graphql_checked_version": [],
+    "graphql_checked_proved": [],
     "graphql_report": [_bytes, _size, _bytes, _size, _size, _size, *_room],
     "graphql_report_json": [_bytes, _size, _bytes, _size, _size, _size, *_room],
     "graphql_schema_open": [_bytes, _size, _pointer(_size), _size, _size, _size, _handle, *_room],
@@ -55,15 +56,18 @@ class Library:
         for name, types in _types.items():
             function = getattr(self.functions, name)
             function.argtypes, function.restype = types, ctypes.c_uint32
+        self.functions.graphql_checked_build.argtypes = []
+        self.functions.graphql_checked_build.restype = ctypes.c_char_p
         self.functions.graphql_schema_close.argtypes = [_handle]
         self.functions.graphql_schema_close.restype = None
 
     @staticmethod
     @functools.lru_cache(maxsize=None)
     def default() -> "Library":
-        """The library at GRAPHQL_CHECKED_LIBRARY, or else beside this file."""
-        path = os.environ.get("GRAPHQL_CHECKED_LIBRARY") or os.path.join(os.path.dirname(os.path.abspath(__file__)), NAME)
-        return Library(path)
+        """The library at GRAPHQL_CHECKED_LIBRARY, or else beside this file, or else where scripts/c_library makes it."""
+        here = os.path.dirname(os.path.abspath(__file__))
+        beside, made = os.path.join(here, NAME), os.path.join(here, "../../.built/c", NAME)
+        return Library(os.environ.get("GRAPHQL_CHECKED_LIBRARY") or (made if os.path.exists(made) and not os.path.exists(beside) else beside))
 
     def call(self, name: str, *words: object, room: int = 4096) -> Tuple[Status, bytes]:
         """Calls a function that puts bytes into room, again with more room where they do not fit; its status, and the bytes."""
@@ -80,3 +84,14 @@ def version() -> Tuple[int, int, int]:
     """The version of the library: major, minor, patch."""
     number: int = Library.default().functions.graphql_checked_version()
     return number // 10_000, number // 100 % 100, number % 100
+
+
+def build() -> str:
+    """How the library was made: its version, the commit of its sources, and `proved` or `not proved`."""
+    text: bytes = Library.default().functions.graphql_checked_build()
+    return text.decode()
+
+
+def is_proved() -> bool:
+    """Whether the library was proved before it was built."""
+    return bool(Library.default().functions.graphql_checked_proved())

@@ -17,6 +17,7 @@ from typing import Any, Dict, Iterator, Tuple
 TOP = os.path.join(os.path.dirname(os.path.abspath(__file__)), "../..")
 sys.path.insert(0, os.path.join(TOP, "python"))
 
+import graphql_checked  # noqa: E402
 from graphql_checked import (  # noqa: E402
     Library,
     NotUtf8Error,
@@ -25,6 +26,7 @@ from graphql_checked import (  # noqa: E402
     Schema,
     StackError,
     Status,
+    build,
     check,
     check_json,
     version,
@@ -73,7 +75,7 @@ class TestPairs(unittest.TestCase):
     def test_nesting_and_stack(self) -> None:
         with self.assertRaises(StackError):
             check(SHOP, "{ product { id } }", nesting=399)
-        self.assertTrue(check(SHOP, "{ product { id } }", nesting=500, stack=1 << 20))
+        self.assertTrue(check(SHOP, "{ product { id } }", nesting=500, stack=2 << 20))
         self.assertEqual(check(SHOP, "{ product { id } }", nesting=1).faults[0].rule, "Nesting")
         for wrong in (-1, 1 << 63):
             with self.assertRaises(ValueError):
@@ -93,7 +95,14 @@ class TestPairs(unittest.TestCase):
             check_json(SHOP, "{ product { id } }", nesting=399)
 
     def test_version(self) -> None:
-        self.assertEqual(version(), (0, 1, 0))
+        with open(os.path.join(TOP, "VERSION"), encoding="utf-8") as file:
+            told = file.read().strip()
+        self.assertEqual(".".join(map(str, version())), told)
+        self.assertTrue(build().startswith(f"{told} (commit "))
+
+    def test_proved(self) -> None:
+        self.assertEqual(graphql_checked.proved, build().endswith(", proved)"))
+        self.assertNotEqual(graphql_checked.proved, build().endswith(", not proved)"))
 
 
 class TestSchemas(unittest.TestCase):

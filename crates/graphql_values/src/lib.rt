@@ -1,7 +1,7 @@
 //! Types, values, directives, selections and operations, which documents and schemas are made of, and
 //! the base of the printer: the face of the crates that hold them, and the laws of their trees.
 //!
-//! The printer's base is `tree_printing`; types and values are in `tree_literals`, arguments, directives and the
+//! The printer's base, types and values are in `tree_literals`, arguments, directives and the
 //! definitions of input values in `tree_directives`, selections and operations in `tree_operations`.
 //!
 //! For the layer above: contracts see each of these as a plain tree (`Placed`, `ValueTree` and their neighbours, which

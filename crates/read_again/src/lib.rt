@@ -1,7 +1,7 @@
 //! What is printed reads as it was: printed pieces are tokens, and the grammar reads them as the tree that was printed.
 //!
 //! Laws, each the contract of a function that does nothing:
-//! - `strings.rt`: what is printed of a string is read as it was. How a string is printed is in `tree_printing`
+//! - `strings.rt`: what is printed of a string is read as it was. How a string is printed is in `tree_literals`
 //!   (`specs/StringLayout.antt`), how far a string token reaches and what it stands for in `read_tokens` (`specs/Strings.antt`
 //!   and `specs/Blocks.antt`).
 //! - `printed.rt`: the text of a well-formed tree (`specs/WellFormed.antt`) is a text of its symbol, of this tree alone, apart

@@ -1,4 +1,7 @@
-//! Reads operations and fragments from tokens.
+//! Reads values, arguments, directives, types, operations and fragments from tokens.
+//!
+//! For the layers above: each function reads what the parser of its name in `read_grammar` does, an `optional_` one that or
+//! nothing, by the next token. Begin with `steps.rt`, which all parsers use, and `operation.rt`.
 #![tactic(auto)]
 
 mod argument_list;

@@ -3,6 +3,10 @@
 //! For the layer above: `type_system_definition` and `type_system_extension` answer the tree that the grammar has there,
 //! or stop where it has none.
 //!
+//! The parts of definitions have parsers of their own (`field_list.rt`, `input_value_list.rt`, `root_list.rt` and others),
+//! each for the parser of its name in `TypeSystemReading` of `read_grammar`; the parts that functions of their own read are named
+//! in `specs/MemberSteps.antt`.
+//!
 //! Begin with `definition.rt` and `kind.rt`.
 #![tactic(auto)]
 

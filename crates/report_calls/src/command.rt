@@ -22,7 +22,7 @@ pub(crate) fn program_command<'a>(alloc: Global) -> Result<Command<'a>, AllocErr
 /// The command with the options that have a value.
 fn command_of_options<'a>(alloc: Global) -> Result<Command<'a>, AllocError> {
     Command::new(alloc, "graphql-report")
-        .version("unreleased")
+        .version("0.1.0")
         .about(
             "Checks GraphQL documents over a schema, and tells each fault at its line and column",
         )

@@ -4,7 +4,10 @@
 //! `deferred_breaches` what breaks those on `@defer` alone (`specs/Documents.antt`; `AreAlike` of `specs/Told.antt`, since root
 //! fields have no order). The rules are `Subscriptions.antt`, `Defer.antt` and `Limits.antt` of `rule_document_definitions`.
 //!
-//! Begin with `documents.rt`, then `subscriptions.rt`, `defer.rt` and `labels.rt`.
+//! `always_reached` gives the selections that an operation always reaches: on some way to each nothing may be left out by `@skip`
+//! or `@include` (`specs/Always.antt`, which leads to `ReachedAlways` of `rule_document_definitions`).
+//!
+//! Begin with `documents.rt`, then `subscriptions.rt`, `defer.rt`, `labels.rt` and `always.rt`.
 #![tactic(auto)]
 
 mod always;
