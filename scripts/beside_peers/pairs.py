@@ -360,7 +360,7 @@ class Maker:
             is_needed = isinstance(field.type, tuple) and field.type[0] == "!" and field.default is None
             if is_needed and self.now("left_input_field"):
                 continue
-            if is_needed or depth < 3 and self.chance(0.5):
+            if is_needed and depth < 9 or depth < 3 and self.chance(0.5):
                 found += [[name, ":", *self.value(field.type, depth + 1, used, field.default)]]
                 if self.now("input_field_again", 0.3):
                     found += [found[-1]]
