@@ -120,6 +120,116 @@ def has_default_and_mark(text, name):
     return bool(re.search(rf"(?<!\$ )\b{name} : (?:\[ )*\w+(?: [\]!])* ! =", " ".join(tokens(text))))
 
 
+def has_location_default(text, type_):
+    """Whether something of a type has a default in a schema."""
+    return bool(re.search(rf": {re.escape(' '.join(tokens(type_)))} =", " ".join(tokens(text))))
+
+
+def is_own_scalar(text, name):
+    """Whether a scalar of a name is defined."""
+    return any(words[:2] == ["scalar", name] for words in definitions(text))
+
+
+def is_given_null(text, argument):
+    """Whether null is given for an argument or a field of a name."""
+    return bool(re.search(rf"\b{argument} : null\b", " ".join(tokens(text))))
+
+
+def repeats_in_default(text, name):
+    """Whether a default has an object with a field of a name twice."""
+    found = " ".join(tokens(text))
+    return any(len(re.findall(rf"\b{name} :", default)) > 1 for default in re.findall(r"= ([\[{].*?[\]}]) (?=[\w\"@)}])", found))
+
+
+def in_fragment_head(text, variable):
+    """Whether a directive of a fragment's definition uses a variable."""
+    for words in definitions(text):
+        if words[0] == "fragment" and "{" in words:
+            head = words[4:]
+            depth = 0
+            for one, other in zip(head, head[1:]):
+                depth += (one == "(") - (one == ")")
+                if one == "{" and not depth:
+                    break
+                if (one, other) == ("$", variable):
+                    return True
+    return False
+
+
+def text_of(pair):
+    """The text that is refused."""
+    return pair[pair["stage"]]
+
+
+def has(pattern):
+    """A predicate: whether the refused text fits a pattern."""
+    return lambda pair, _: bool(re.search(pattern, text_of(pair), re.S))
+
+
+def has_tokens(pattern):
+    """A predicate: whether the tokens of the refused text, with a space between each two, fit a pattern."""
+    return lambda pair, _: bool(re.search(pattern, " ".join(tokens(text_of(pair))), re.S))
+
+
+def unfolded(text):
+    """A document with the fragments written where they are spread, and without their definitions."""
+    bodies = {words[1]: words[3:] for words in definitions(text) if words[0] == "fragment" and len(words) > 3}
+
+    def written(words, path):
+        found, i = [], 0
+        while i < len(words):
+            if words[i] == "..." and i + 1 < len(words) and words[i + 1] in bodies and words[i + 1] not in path:
+                body, i = bodies[words[i + 1]], i + 2
+                found += ["...", "on", body[0], *written(body[body.index("{") :], (*path, words[i - 1]))]
+                while i < len(words) and words[i] == "@":
+                    i += 2
+                    if i < len(words) and words[i] == "(":
+                        i = words.index(")", i) + 1
+                continue
+            found.append(words[i])
+            i += 1
+        return found
+
+    return " ".join(sum((written(words, ()) for words in operations(text)), []))
+
+
+def operations(text):
+    """The operations of a document, each as its tokens."""
+    found, depth, keep = [], 0, False
+    for token in tokens(text):
+        if depth == 0 and token in ("query", "mutation", "subscription", "fragment") or depth == 0 and token == "{" and (not found or found[-1][-1] == "}" and is_closed(found[-1])):
+            keep = token != "fragment"
+            if keep:
+                found.append([])
+        if keep:
+            found[-1].append(token)
+        depth += (token in ("{", "(", "[")) - (token in ("}", ")", "]"))
+        if depth == 0 and token == "}":
+            keep = False
+    return found
+
+
+def is_closed(words):
+    """Whether all brackets are closed."""
+    return sum(word == "{" for word in words) == sum(word == "}" for word in words)
+
+
+def conflicts_unfolded(pair, _):
+    """Whether the same peer finds the conflict once the fragments are written where they are spread."""
+    stage, told = pair["again"](unfolded(pair["document"]))
+    return stage == "document" and any("conflict" in text for text in told)
+
+
+def implements_both(pair, found):
+    """Whether some interface implements two interfaces."""
+    for words in definitions(pair["schema"]):
+        if "implements" in words and "interface" in words[:2]:
+            head = words[: words.index("{") if "{" in words else len(words)]
+            if found[1] in head[3:] and found[2] in head[3:]:
+                return True
+    return False
+
+
 def inner(type_):
     """The name inside a type."""
     return type_.strip("[]! ")
@@ -129,6 +239,9 @@ BOTH = ("graphql-js", "graphql-core")
 ALL = (*BOTH, "gqlparser")
 GO = ("gqlparser",)
 Q = "[\"'`]"
+USED = r"[Vv]ariable [\"']\$(\w+)[\"'] of type [\"'](.*?)[\"'] used in position expecting type [\"'](.*?)[\"']"
+BUILT_IN = ("Int", "Float", "String", "Boolean", "ID")
+CONTROL = r"[\x00-\x08\x0b\x0c\x0e-\x1f]"
 VALUES = r"^(?:UnsupportedValueType|RequiredField|UndefinedInputValue|UndefinedEnumValue|IntCoercionError|UniqueInputValue)\b"
 
 
@@ -138,12 +251,28 @@ def in_schema(pair, _):
 
 
 DIFFERENCES = [
-    ("5.2.3.1 one root field, each occurrence counted", BOTH, "lax", "document", r"^SubscriptionUsesMultipleFields", None, "Stricter."),
+    ("5.2.3.1 one root field, each occurrence counted", ALL, "lax", "document", r"^SubscriptionUsesMultipleFields", lambda pair, _: pair["others"].get("graphql-js") == "none", "Stricter: graphql-js counts response names."),
     ("5.2.3.1 @skip and @include at the root of a subscription", ALL, "lax", "document", r"^SubscriptionUsesConditionalSelection", None, "Stricter."),
-    ("5.8.5 a default that is null", ALL, "strict", "document", r"[Vv]ariable [\"']\$(\w+)[\"'] of type [\"'](.*?)[\"'] used in position expecting type [\"'](.*?)[\"']", lambda pair, found: inner(found[2]) == inner(found[3]) and has_null_default(pair["document"], found[1]), "Laxer."),
-    ("5.8.5 a variable in a list or an object", ALL, "strict", "document", r"[Vv]ariable [\"']\$(\w+)[\"'] of type [\"'](.*?)[\"'] used in position expecting type [\"'](.*?)[\"']", lambda pair, found: inner(found[2]) == inner(found[3]) and inside(pair["document"], found[1]), "Laxer."),
-    ("3.6.1, 3.10 a default that does not fit", BOTH, "strict", "document", r"[Ff]ield [\"'].*[\"'] argument [\"'](\w+)[\"'] of type [\"'].*!?[\"'] is required, but it was not provided", lambda pair, found: has_default_and_mark(pair["schema"], found[1]), "Laxer: graphql-js drops such a default, and then asks for the argument."),
+    ("5.8.5 a default that is null", ALL, "strict", "document", USED, lambda pair, found: inner(found[2]) == inner(found[3]) and has_null_default(pair["document"], found[1]), "Laxer."),
+    ("5.8.5 a variable in a list or an object", ALL, "strict", "document", USED, lambda pair, found: inner(found[2]) == inner(found[3]) and inside(pair["document"], found[1]), "Laxer."),
+    ("3.6.1, 3.10 a default that does not fit", BOTH, "strict", "document", rf"argument {Q}(\w+){Q} of type .* is required, but it was not provided", lambda pair, found: has_default_and_mark(pair["schema"], found[1]), "Laxer: graphql-js drops such a default, and then asks for the argument."),
+    ("3.6.1, 3.10 a default that does not fit", BOTH, "strict", "document", rf"^Field {Q}\w+\.(\w+){Q} of required type .* was not provided", lambda pair, found: has_default_and_mark(pair["schema"], found[1]), "Laxer: the same of an input field."),
+    ("3.6.1, 3.10 a default that does not fit", BOTH, "strict", "document", USED, lambda pair, found: found[2] + "!" == found[3] and has_location_default(pair["schema"], found[3]), "Laxer: the same of a variable."),
     ("3.13.3 @deprecated on arguments and input fields", BOTH, "strict", "schema", r"^Required (?:argument|input field) .* cannot be deprecated", None, "Laxer."),
+    ("3.6.1, 3.10 a default that does not fit", BOTH, "strict", "schema", rf"^There can be only one input field named {Q}(\w+)", lambda pair, found: repeats_in_default(pair["schema"], found[1]), "Laxer."),
+    ("5.5.2.3 the fragment is on the very type where it stands", ALL, "strict", "document", rf"cannot be spread here as objects of type {Q}(\w+){Q} can never be of type {Q}(\w+)", lambda _, found: found[1] == found[2], "Laxer."),
+    ("5.5.2.3 an interface alone implements both", GO, "lax", "document", r"^InvalidFragmentSpread: .* with type condition `(\w+)` cannot be applied to `(\w+)`", implements_both, "Stricter."),
+    ("2.1 raw control characters", GO, "strict", "schema", r"^(?:Unexpected <Invalid>|Invalid character within String|Cannot contain the invalid|Expected .*, found <Invalid>)", has(CONTROL), "Laxer."),
+    ("2.1 raw control characters", GO, "strict", "document", r"^(?:Unexpected <Invalid>|Invalid character within String|Cannot contain the invalid|Expected .*, found <Invalid>)", has(CONTROL), "Laxer."),
+    ("2.9.4 escapes of surrogates", ALL, "lax", "schema", r"^Syntax: no token starts here", has(r"\\u[dD][89a-fA-F]"), "Stricter."),
+    ("2.9.4 escapes of surrogates", ALL, "lax", "document", r"^Syntax: no token starts here", has(r"\\u[dD][89a-fA-F]"), "Stricter."),
+    ("3.5.2 floats past every range", GO, "strict", "document", r"^ValuesOfCorrectType: .*?\d[eE]\+?[3-9]\d\d", None, "Laxer."),
+    ("5.7 directives of a built-in scalar", ALL, "strict", "schema", rf"^(?:Directive {Q}?@?(\w+){Q}? (?:may not be used on (?:SCALAR|scalar)|is not applicable on SCALAR)|(?:Unknown|Undefined) directive {Q}?@?(\w+))", lambda pair, found: any(uses(pair["schema"], ("extend", "scalar", name), found[1] or found[2]) for name in BUILT_IN), "Laxer."),
+    ("3.5, 5.6.1 items for a custom scalar", ALL, "lax", "document", r"^UnsupportedValueType: expected value of type (\w+)!, found null", lambda pair, found: is_own_scalar(pair["schema"], found[1]) and bool(re.search(r"\[[^\]]*null", pair["document"])), "Stricter: items of a list are judged against the scalar."),
+    ("3.5, 5.6.1 items for a custom scalar", ALL, "lax", "document", r"^DisallowedVariableUsage: variable `\$(\w+)` of type `.*?` cannot be used for argument `.*?` of type `(.*?)`", lambda pair, found: is_own_scalar(pair["schema"], inner(found[2])) and inside(pair["document"], found[1]), "Stricter: items of a list are judged against the scalar."),
+    ("October 2021 has no @defer", ALL, "lax", "document", r"^(?:Defer\w+|DuplicateDeferLabel)", None, "Stricter."),
+    ("5.2.3.1 @skip and @include at the root of a subscription", BOTH, "lax", "document", r"^SubscriptionUsesIntrospection", has_tokens(r"__\w+ @ (?:skip|include)"), "Stricter: what is skipped is counted."),
+    ("4 built-in types are extended", BOTH, "strict", "schema", rf"^Cannot extend type {Q}(?:__\w+|Int|Float|String|Boolean|ID){Q} because it is not defined", None, "Laxer."),
     ("3.6 arguments of one name", GO, "lax", "schema", r"^UniqueInputValue", None, "Stricter."),
 ]
 SLIPS = [
@@ -156,6 +285,10 @@ SLIPS = [
     ("directives in `extend input` are judged as those of arguments", BOTH, "strict", "schema", rf"Directive {Q}@(\w+){Q} may not be used on (?:ARGUMENT_DEFINITION|argument definition)", lambda pair, found: uses(pair["schema"], ("extend", "input"), found[1]), "3.13: the location is INPUT_FIELD_DEFINITION."),
     ("directives in `extend input` are judged as those of arguments", BOTH, "lax", "schema", r"^UnsupportedLocation: (\w+) directive is not supported for INPUT_FIELD_DEFINITION", lambda pair, found: uses(pair["schema"], ("extend", "input"), found[1]), "3.13: the location is INPUT_FIELD_DEFINITION."),
     ("values in a schema's directives are not judged", BOTH, "lax", "schema", VALUES, None, "5.6.1: a value fits its type."),
+    ("values in a schema's directives are not judged", BOTH, "lax", "schema", r"^RequiredArgument: the required argument `@\w+\((\w+):\)`", lambda pair, found: is_given_null(pair["schema"], found[1]), "5.4.2.1: null is not given for it."),
+    ("two fragments are compared once, whatever they are compared with", ALL, "lax", "document", r"^ConflictingField", conflicts_unfolded, "5.3.2: the fields of both sets; with the fragments written in their places the peer finds the conflict."),
+    ("escapes of the later edition", BOTH, "lax", "schema", r"^Syntax: no token starts here", has(r"\\u\{[0-9a-fA-F]+\}"), "2.9.4: four digits."),
+    ("escapes of the later edition", BOTH, "lax", "document", r"^Syntax: no token starts here", has(r"\\u\{[0-9a-fA-F]+\}"), "2.9.4: four digits."),
     ("introspection is limited in depth", ("graphql-core",), "strict", "document", r"^Maximum introspection depth exceeded", None, "5: no such rule."),
     ("arguments of a schema's directives are not judged", GO, "lax", "schema", VALUES + r"|^(?:UndefinedArgument|RequiredArgument|UniqueArgument)\b", None, "5.4, 5.6: as those of other uses."),
     ("a directive repeated in a schema", GO, "lax", "schema", r"^UniqueDirective\b", None, "5.7.3."),
@@ -166,7 +299,28 @@ SLIPS = [
     ("an interface that implements itself", GO, "lax", "schema", r"^RecursiveInterfaceDefinition", None, "3.7."),
     ("roots are not judged", GO, "lax", "schema", r"^(?:QueryRootOperationType|RootOperationObjectType|DuplicateRootOperation)\b", None, "3.3.1."),
     ("directives of the schema and of enum values are not judged", GO, "lax", "schema", r"^UnsupportedLocation: .* for (?:ENUM_VALUE|SCHEMA) location", None, "5.7.2."),
+    ("directives of the schema and of enum values are not judged", GO, "lax", "schema", rf"^UndefinedDirective: cannot find directive {Q}@(\w+)", lambda pair, found: any(uses(pair["schema"], start, found[1]) for start in (("schema",), ("enum",), ("extend", "schema"), ("extend", "enum"))), "5.7.1."),
+    ("arguments of what implements may lack a mark", GO, "lax", "schema", r"^InvalidImplementationFieldArgumentType: .* of type `(.*?)` but .* type `(.*?)`", lambda _, found: found[1].replace("!", "") == found[2].replace("!", ""), "3.6, 3.7: the same type."),
+    ("a union without members", GO, "lax", "schema", r"^EmptyMemberSet", None, "3.8."),
+    ("an empty description may stand before an extension", GO, "lax", "schema", r"^Syntax: unexpected token", has_tokens(r"(?:\"\"|\"{6}) extend"), "3.4.3."),
     ("a built-in directive is defined twice", GO, "lax", "schema", r"^DirectiveDefinitionCollision: `(?:include|skip|deprecated|specifiedBy)`", None, "3.13: names are unique."),
+    ("an extension of an interface with interfaces is not read", GO, "strict", "schema", r"^Unexpected Name \"implements\"", has_tokens(r"extend interface \w+ implements"), "3.7.1."),
+    ("a default of the location is not looked at", GO, "strict", "document", "^VariablesInAllowedPosition: " + USED, lambda pair, found: found[2] + "!" == found[3] and has_location_default(pair["schema"], found[3]), "5.8.5: hasLocationDefaultValue."),
+    ("variables in directives of a fragment's definition are not counted", GO, "strict", "document", r"^NoUnusedVariables: Variable \"\$(\w+)\"", lambda pair, found: in_fragment_head(pair["document"], found[1]), "5.8.4."),
+    ("variables in directives of a fragment's definition are not counted", GO, "lax", "document", r"^(?:UndefinedVariable|DisallowedVariableUsage): variable `\$(\w+)`", lambda pair, found: in_fragment_head(pair["document"], found[1]), "5.8.3, 5.8.5."),
+    ("lists and objects in arguments are taken as equal", GO, "lax", "document", r"^ConflictingFieldArgument", has_tokens(r"\w : [\[{]"), "5.3.2: identical sets of arguments."),
+    ("an empty object fits a scalar or an enum", GO, "lax", "document", r"^UnsupportedValueType: .* found an input object", has_tokens(r"\{ \}"), "5.6.1."),
+    ("whole numbers past 32 bits fit Int", GO, "lax", "document", r"^IntCoercionError", None, "3.5.1."),
+    ("whole numbers past 64 bits fit nothing", GO, "strict", "document", r"^ValuesOfCorrectType: .*?\d{19,}", None, "3.5.5: any whole number fits an ID."),
+    ("a text without definitions is read", GO, "lax", "document", r"^Syntax: unexpected end of text", lambda pair, _: not tokens(pair["document"]), "2.2: a document has a definition."),
+    ("a text without definitions is read", GO, "lax", "schema", r"^Syntax: unexpected end of text", lambda pair, _: not tokens(pair["schema"]), "2.2: a document has a definition."),
+    ("empty brackets of arguments and of variables are read", GO, "lax", "document", r"^Syntax: unexpected token", has_tokens(r"\( \)"), "2.6, 2.10: one at least."),
+    ("empty brackets of arguments and of variables are read", GO, "lax", "schema", r"^Syntax: unexpected token", has_tokens(r"\( \)"), "2.6: one at least."),
+    ("a name after a number needs nothing between", GO, "lax", "schema", r"^Syntax: no token starts here", has(r"\d[A-Za-z_.]"), "2.9.1."),
+    ("a name after a number needs nothing between", GO, "lax", "document", r"^Syntax: no token starts here", has(r"\d[A-Za-z_.]"), "2.9.1."),
+    ("variables of fragments are read", GO, "lax", "document", r"^Syntax: unexpected token", has_tokens(r"fragment \w+ \("), "2.8: a fragment has none."),
+    ("a variable is read where a value is constant", GO, "lax", "document", r"^Syntax: unexpected token", has_tokens(r"\$ \w+ : [^$]*@ \w+ \([^)]*\$"), "2.10: directives of a variable are constant."),
+    ("root fields of a subscription are counted by name, without aliases", GO, "lax", "document", r"^SubscriptionUsesMultipleFields", lambda pair, _: pair["others"].get("graphql-js") == "document", "5.2.3.1: by response name."),
     ("`repeatable` is not looked at", GO, "strict", "document", r"^UniqueDirectivesPerLocation: The directive [\"']@(\w+)", lambda pair, found: is_repeatable(pair["schema"], found[1]), "5.7.3."),
 ]
 

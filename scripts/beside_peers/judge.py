@@ -2,6 +2,7 @@
 stage that refuses and its messages. judge.py LIBRARY once SCHEMA DOCUMENT judges two files; judge.py LIBRARY held SCHEMA COUNT
 DOCUMENT.. opens the schema once, judges the documents COUNT times, and prints the processor seconds."""
 
+import gc
 import json
 import sys
 import time
@@ -63,6 +64,8 @@ def main(mode="", *words):
         begun = time.process_time()
         accepted = sum(judged(schema, texts[i % len(texts)])["stage"] == "none" for i in range(int(words[1])))
         return print(json.dumps({"accepted": accepted, "seconds": time.process_time() - begun}))
+    gc.freeze()
+    gc.set_threshold(200000, 20, 20)
     for line in sys.stdin:
         pair = json.loads(line)
         schema, refused = opened(pair["schema"])

@@ -24,7 +24,7 @@ unknown_field unknown_argument left_argument argument_again wrong_value unknown_
 left_input_field leaf_selected composite_bare unknown_fragment unused_fragment fragment_cycle fragment_on_leaf fragment_on_unknown
 impossible_spread fragment_twice operation_twice anonymous_beside type_in_document undefined_variable unused_variable variable_again
 variable_of_output variable_of_unknown variable_misplaced variable_wrong_default subscription_fields subscription_introspection
-subscription_skip no_such_root conflict big_int odd_string null_value defer
+subscription_skip no_such_root conflict big_int odd_string null_value defer extend_built_in built_in_directive flat_list
 """.split()
 TOKENS = ["drop", "double", "swap", "other_name", "other_token", "other_character", "cut"]
 
@@ -286,6 +286,8 @@ class Maker:
                 argument.default = self.default(argument.type)
             name = "__d" if self.now("reserved_name", 0.05) else f"d{i}"
             self.directives[name] = (arguments, places, self.chance(0.3))
+        if self.breach == "defer" and self.chance(0.8):
+            self.directives["defer"] = ({"label": Field("String"), "if": Field("Boolean", default=["true"])}, ["FRAGMENT_SPREAD", "INLINE_FRAGMENT"], False)
         condition = {"if": Field(("!", "Boolean"))}
         self.directives["skip"] = self.directives["include"] = (condition, ["FIELD", "FRAGMENT_SPREAD", "INLINE_FRAGMENT"], False)
         self.directives["deprecated"] = ({"reason": Field("String", default=['"No longer"'])}, ["FIELD_DEFINITION", "ENUM_VALUE"], False)
@@ -321,6 +323,8 @@ class Maker:
         """A value for a scalar of the schema's own."""
         if depth > 1 or self.chance(0.7):
             return self.pick([["1"], ["1.5"], [self.string()], ["true"], ["FOO"], ["-2"], ["1e400"] if self.chance(0.02) else ["2"]])
+        if used is not None and self.chance(0.1):
+            return ["[", *self.pick([["null"], self.variable(self.input_type(), used, None)]), "]"]
         if self.chance(0.5):
             return ["[", *self.any_value(depth + 1, used), *self.any_value(depth + 1, used), "]"]
         return ["{", "k", ":", *self.any_value(depth + 1, used), "j", ":", *(["null"] if self.chance(0.3) else self.any_value(depth + 1, used)), "}"]
@@ -338,6 +342,8 @@ class Maker:
         elif self.chance(0.08):
             return ["null"]
         if isinstance(type_, tuple):
+            if isinstance(bare(type_[1]), tuple) and self.now("flat_list"):
+                return ["[", *self.value(name_of(type_), depth + 1), *self.value(name_of(type_), depth + 1), "]"]
             if self.chance(0.2) and not isinstance(type_[1], tuple):
                 return self.value(type_[1], depth + 1, used)
             items = [self.value(type_[1], depth + 1, used) for _ in range(self.random.randint(0, 2 if depth < 3 else 0))]
@@ -569,6 +575,10 @@ class Maker:
             found += [["scalar", self.pick(BUILT_IN)]]
         if self.now("built_in_again"):
             found += [["type", self.pick(["__Schema", "__Type"]), "{", "a", ":", "Int", "}"]]
+        if self.now("extend_built_in"):
+            found += [self.pick([["extend", "type", "__Schema", "{", "foo", ":", "Int", "}"], ["extend", "enum", "__TypeKind", "{", "FOO", "}"], ["extend", "scalar", "Int", "@", "d0"]])]
+        if self.now("built_in_directive"):
+            found += [["directive", "@", self.pick(["skip", "include", "deprecated"]), *self.pick([[], ["(", "unless", ":", "Int", ")"]]), "on", "FIELD", "|", "OBJECT"]]
         if self.now("operation_in_schema"):
             found += [["query", "{", "a", "}"]]
         self.random.shuffle(found)
@@ -598,7 +608,7 @@ class Maker:
         if name not in self.types:
             return ["{", "__typename", "}"]
         found = []
-        for _ in range(1 if root == "subscription" else self.random.randint(1, 4)):
+        for _ in range(1 if root == "subscription" else self.random.randint(1, 3)):
             found += self.selection(name, depth, used, spreads, root)
         if root == "subscription" and self.now("subscription_fields"):
             found += self.selection(name, depth, used, spreads, None)
@@ -607,9 +617,9 @@ class Maker:
     def selection(self, name, depth, used, spreads, root):
         """One selection in a type."""
         share = self.random.random()
-        if share < 0.12 and depth < 4:
+        if share < 0.12 and depth < 3:
             return self.inline(name, depth, used, spreads, root)
-        if share < 0.24 and depth < 4:
+        if share < 0.24 and depth < 3:
             return self.spread(name, depth, used, spreads, root)
         if share < 0.3 and root != "subscription" or self.now("subscription_introspection", 0.9 if root == "subscription" else 0):
             return [*self.alias(0.2), "__typename", *self.directives_at("FIELD", used)]
@@ -637,7 +647,7 @@ class Maker:
         if not fields or self.types[name].kind not in ("type", "interface"):
             return ["__typename"] if root != "subscription" else ["nowhere"]
         leaves = [field for field in fields if self.is_input(fields[field].type)]
-        chosen = self.pick(leaves if depth > 3 and leaves else fields)
+        chosen = self.pick(leaves if (depth > 2 or self.chance(0.3)) and leaves else fields)
         field = fields[chosen]
         if self.now("unknown_field", 0.2):
             return ["nowhere"]
@@ -655,7 +665,7 @@ class Maker:
             return ["{", "a", "}"] if self.now("leaf_selected", 0.2) else []
         if self.now("composite_bare", 0.3):
             return []
-        if depth > 4:
+        if depth > 3:
             return ["{", "__typename", "}"]
         return self.selections(name_of(type_), depth + 1, used, spreads)
 
@@ -742,7 +752,7 @@ class Maker:
 
     def document(self):
         """The definitions of the document, each as its tokens."""
-        count = self.pick([1, 1, 1, 2, 3]) + (self.breach in ("operation_twice", "anonymous_beside"))
+        count = self.pick([1, 1, 1, 1, 2, 3]) + (self.breach in ("operation_twice", "anonymous_beside"))
         found = [self.operation(number, count == 1) for number in range(count)]
         for fragment in self.fragments:
             found.append(["fragment", fragment["name"], "on", fragment["on"], *fragment["body"]])
