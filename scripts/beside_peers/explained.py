@@ -173,7 +173,7 @@ def has_tokens(pattern):
 
 def unfolded(text):
     """A document with the fragments written where they are spread, and without their definitions."""
-    bodies = {words[1]: words[3:] for words in definitions(text) if words[0] == "fragment" and len(words) > 3}
+    bodies = {words[1]: words[3:] for words in executable(text) if words[0] == "fragment" and len(words) > 3}
 
     def written(words, path):
         found, i = [], 0
@@ -190,28 +190,19 @@ def unfolded(text):
             i += 1
         return found
 
-    return " ".join(sum((written(words, ()) for words in operations(text)), []))
+    return " ".join(sum((written(words, ()) for words in executable(text) if words[0] != "fragment"), []))
 
 
-def operations(text):
-    """The operations of a document, each as its tokens."""
-    found, depth, keep = [], 0, False
+def executable(text):
+    """The definitions of a document, each as its tokens: each ends with the brace that closes its selections."""
+    found, depth, is_open = [], 0, False
     for token in tokens(text):
-        if depth == 0 and token in ("query", "mutation", "subscription", "fragment") or depth == 0 and token == "{" and (not found or found[-1][-1] == "}" and is_closed(found[-1])):
-            keep = token != "fragment"
-            if keep:
-                found.append([])
-        if keep:
-            found[-1].append(token)
+        if not is_open:
+            found.append([])
+        found[-1].append(token)
         depth += (token in ("{", "(", "[")) - (token in ("}", ")", "]"))
-        if depth == 0 and token == "}":
-            keep = False
+        is_open = depth > 0 or token != "}"
     return found
-
-
-def is_closed(words):
-    """Whether all brackets are closed."""
-    return sum(word == "{" for word in words) == sum(word == "}" for word in words)
 
 
 def conflicts_unfolded(pair, _):
@@ -252,7 +243,7 @@ def in_schema(pair, _):
 
 DIFFERENCES = [
     ("5.2.3.1 one root field, each occurrence counted", ALL, "lax", "document", r"^SubscriptionUsesMultipleFields", lambda pair, _: pair["others"].get("graphql-js") == "none", "Stricter: graphql-js counts response names."),
-    ("5.2.3.1 @skip and @include at the root of a subscription", ALL, "lax", "document", r"^SubscriptionUsesConditionalSelection", None, "Stricter."),
+    ("5.2.3.1 @skip and @include at the root of a subscription", ALL, "lax", "document", r"^SubscriptionUsesConditionalSelection", has_tokens(r"@ (?:skip|include)"), "Stricter."),
     ("5.8.5 a default that is null", ALL, "strict", "document", USED, lambda pair, found: inner(found[2]) == inner(found[3]) and has_null_default(pair["document"], found[1]), "Laxer."),
     ("5.8.5 a variable in a list or an object", ALL, "strict", "document", USED, lambda pair, found: inner(found[2]) == inner(found[3]) and inside(pair["document"], found[1]), "Laxer."),
     ("3.6.1, 3.10 a default that does not fit", BOTH, "strict", "document", rf"argument {Q}(\w+){Q} of type .* is required, but it was not provided", lambda pair, found: has_default_and_mark(pair["schema"], found[1]), "Laxer: graphql-js drops such a default, and then asks for the argument."),
@@ -269,7 +260,7 @@ DIFFERENCES = [
     ("3.5.2 floats past every range", GO, "strict", "document", r"^ValuesOfCorrectType: .*?\d[eE]\+?[3-9]\d\d", None, "Laxer."),
     ("5.7 directives of a built-in scalar", ALL, "strict", "schema", rf"^(?:Directive {Q}?@?(\w+){Q}? (?:may not be used on (?:SCALAR|scalar)|is not applicable on SCALAR)|(?:Unknown|Undefined) directive {Q}?@?(\w+))", lambda pair, found: any(uses(pair["schema"], ("extend", "scalar", name), found[1] or found[2]) for name in BUILT_IN), "Laxer."),
     ("3.5, 5.6.1 items for a custom scalar", ALL, "lax", "document", r"^UnsupportedValueType: expected value of type (\w+)!, found null", lambda pair, found: is_own_scalar(pair["schema"], found[1]) and bool(re.search(r"\[[^\]]*null", pair["document"])), "Stricter: items of a list are judged against the scalar."),
-    ("3.5, 5.6.1 items for a custom scalar", ALL, "lax", "document", r"^DisallowedVariableUsage: variable `\$(\w+)` of type `.*?` cannot be used for argument `.*?` of type `(.*?)`", lambda pair, found: is_own_scalar(pair["schema"], inner(found[2])) and inside(pair["document"], found[1]), "Stricter: items of a list are judged against the scalar."),
+    ("3.5, 5.6.1 items for a custom scalar", GO, "lax", "document", r"^UnsupportedValueType: expected value of type (\w+)!?, found a variable", lambda pair, found: is_own_scalar(pair["schema"], found[1]) and bool(re.search(r"\[[^\]]*\$", pair["document"])), "Stricter: items of a list are judged against the scalar."),
     ("October 2021 has no @defer", ALL, "lax", "document", r"^(?:Defer\w+|DuplicateDeferLabel)", None, "Stricter."),
     ("5.2.3.1 @skip and @include at the root of a subscription", BOTH, "lax", "document", r"^SubscriptionUsesIntrospection", has_tokens(r"__\w+ @ (?:skip|include)"), "Stricter: what is skipped is counted."),
     ("4 built-in types are extended", BOTH, "strict", "schema", rf"^Cannot extend type {Q}(?:__\w+|Int|Float|String|Boolean|ID){Q} because it is not defined", None, "Laxer."),
@@ -277,8 +268,8 @@ DIFFERENCES = [
 ]
 SLIPS = [
     ("cycles of directives are not looked for", BOTH, "lax", "schema", r"^RecursiveDirectiveDefinition: `(\w+)`", lambda pair, found: leads_back(pair["schema"], found[1]), "3.13: a directive's definition must not refer to itself, directly or through others."),
-    ("operations in a schema's text are left out", BOTH, "lax", "schema", r"^ExecutableDefinition", None, "3: a type system document has definitions of the type system alone."),
-    ("a definition of a built-in type is left out", BOTH, "lax", "schema", r"^(?:TypeDefinitionCollision: `__\w+`|BuiltInScalarTypeRedefinition)", None, "3.3: no provided type may have the name of a built-in type."),
+    ("operations in a schema's text are left out", BOTH, "lax", "schema", r"^ExecutableDefinition", has_tokens(r"(?:^|[^@:|&=] )(?:query|mutation|subscription|fragment)\b[^:]*?\{|^\{|\} \{"), "3: a type system document has definitions of the type system alone."),
+    ("a definition of a built-in type is left out", BOTH, "lax", "schema", r"^(?:TypeDefinitionCollision: `(__\w+)`|BuiltInScalarTypeRedefinition: the built-in scalar `(\w+)`)", lambda pair, found: bool(re.search(rf"(?<!extend )\b(?:scalar|type|interface|union|enum|input) {found[1] or found[2]}\b", " ".join(tokens(pair["schema"])))), "3.3: no provided type may have the name of a built-in type."),
     ("an operation whose root the schema lacks is not judged", BOTH, "lax", "document", r"^UndefinedRootOperation", None, "3.3.1: without the root the kind of operation is not supported."),
     ("one type as two roots", ALL, "lax", "schema", r"^DuplicateRootOperationType: the same type `(\w+)`", lambda pair, found: is_one_root(pair["schema"], found[1]), "3.3.1: the roots must all be different types."),
     ("an implied root is given again by an extension", BOTH, "lax", "schema", r"^DuplicateRootOperation: the (\w+) root", lambda pair, found: has_implied_root(pair["schema"], found[1]), "3.3.1: a schema has at most one root of a kind; the types' names give it already."),
@@ -297,7 +288,7 @@ SLIPS = [
     ("names given twice: interfaces, values, members", GO, "lax", "schema", r"^(?:DuplicateImplementsInterfaceIn\w+|EnumValueNameCollision|UnionMemberNameCollision)", None, "3.6 to 3.9."),
     ("cycles of input objects are not looked for", GO, "lax", "schema", r"^RecursiveInputObjectDefinition", None, "3.10."),
     ("an interface that implements itself", GO, "lax", "schema", r"^RecursiveInterfaceDefinition", None, "3.7."),
-    ("roots are not judged", GO, "lax", "schema", r"^(?:QueryRootOperationType|RootOperationObjectType|DuplicateRootOperation)\b", None, "3.3.1."),
+    ("roots are not judged", GO, "lax", "schema", r"^(?:QueryRootOperationType|RootOperationObjectType|DuplicateRootOperation|OrphanSchemaExtension)\b", None, "3.3.1."),
     ("directives of the schema and of enum values are not judged", GO, "lax", "schema", r"^UnsupportedLocation: .* for (?:ENUM_VALUE|SCHEMA) location", None, "5.7.2."),
     ("directives of the schema and of enum values are not judged", GO, "lax", "schema", rf"^UndefinedDirective: cannot find directive {Q}@(\w+)", lambda pair, found: any(uses(pair["schema"], start, found[1]) for start in (("schema",), ("enum",), ("extend", "schema"), ("extend", "enum"))), "5.7.1."),
     ("arguments of what implements may lack a mark", GO, "lax", "schema", r"^InvalidImplementationFieldArgumentType: .* of type `(.*?)` but .* type `(.*?)`", lambda _, found: found[1].replace("!", "") == found[2].replace("!", ""), "3.6, 3.7: the same type."),
