@@ -263,6 +263,7 @@ DIFFERENCES = [
     ("3.5, 5.6.1 items for a custom scalar", GO, "lax", "document", r"^UnsupportedValueType: expected value of type (\w+)!?, found a variable", lambda pair, found: is_own_scalar(pair["schema"], found[1]) and bool(re.search(r"\[[^\]]*\$", pair["document"])), "Stricter: items of a list are judged against the scalar."),
     ("October 2021 has no @defer", ALL, "lax", "document", r"^(?:Defer\w+|DuplicateDeferLabel)", None, "Stricter."),
     ("5.2.3.1 @skip and @include at the root of a subscription", BOTH, "lax", "document", r"^SubscriptionUsesIntrospection", has_tokens(r"__\w+ @ (?:skip|include)"), "Stricter: what is skipped is counted."),
+    ("5.2.3.1 one root field, each occurrence counted", BOTH, "lax", "document", r"^SubscriptionUsesIntrospection", has_tokens(r"on \w+ [^{]*\{"), "Stricter: fields are counted in fragments that cannot apply too."),
     ("4 built-in types are extended", BOTH, "strict", "schema", rf"^Cannot extend type {Q}(?:__\w+|Int|Float|String|Boolean|ID){Q} because it is not defined", None, "Laxer."),
     ("3.6 arguments of one name", GO, "lax", "schema", r"^UniqueInputValue", None, "Stricter."),
 ]
@@ -292,6 +293,7 @@ SLIPS = [
     ("directives of the schema and of enum values are not judged", GO, "lax", "schema", r"^UnsupportedLocation: .* for (?:ENUM_VALUE|SCHEMA) location", None, "5.7.2."),
     ("directives of the schema and of enum values are not judged", GO, "lax", "schema", rf"^UndefinedDirective: cannot find directive {Q}@(\w+)", lambda pair, found: any(uses(pair["schema"], start, found[1]) for start in (("schema",), ("enum",), ("extend", "schema"), ("extend", "enum"))), "5.7.1."),
     ("arguments of what implements may lack a mark", GO, "lax", "schema", r"^InvalidImplementationFieldArgumentType: .* of type `(.*?)` but .* type `(.*?)`", lambda _, found: found[1].replace("!", "") == found[2].replace("!", ""), "3.6, 3.7: the same type."),
+    ("a built-in scalar that the schema does not use is known", GO, "lax", "document", r"^UndefinedDefinition: cannot find type `(Int|Float|ID)`", lambda pair, found: found[1] not in tokens(pair["schema"]), "3.5: one that is not used is not included."),
     ("a union without members", GO, "lax", "schema", r"^EmptyMemberSet", None, "3.8."),
     ("an empty description may stand before an extension", GO, "lax", "schema", r"^Syntax: unexpected token", has_tokens(r"(?:\"\"|\"{6}) extend"), "3.4.3."),
     ("a built-in directive is defined twice", GO, "lax", "schema", r"^DirectiveDefinitionCollision: `(?:include|skip|deprecated|specifiedBy)`", None, "3.13: names are unique."),

@@ -135,6 +135,7 @@ func main() {
 		return
 	}
 	lines := bufio.NewReaderSize(os.Stdin, 1<<20)
+	last, schema, refused := "\x00", (*ast.Schema)(nil), (*answer)(nil)
 	for {
 		line, err := lines.ReadBytes('\n')
 		if err != nil {
@@ -144,6 +145,14 @@ func main() {
 		if err := json.Unmarshal(line, &one); err != nil {
 			panic(err)
 		}
-		say(judged(one))
+		if one.Schema != last {
+			last = one.Schema
+			schema, refused = open(last)
+		}
+		if refused != nil {
+			say(*refused)
+		} else {
+			say(judge(schema, one.Document))
+		}
 	}
 }

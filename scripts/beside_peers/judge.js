@@ -49,9 +49,10 @@ if (mode === 'once') {
   console.log(JSON.stringify({ accepted, seconds: (used.user + used.system) / 1e6 }));
 } else {
   const lines = require('readline').createInterface({ input: process.stdin, crlfDelay: Infinity });
+  let last, schema, refused;
   lines.on('line', (line) => {
     const pair = JSON.parse(line);
-    const { schema, refused } = open(pair.schema);
+    if (pair.schema !== last) ({ schema, refused } = open((last = pair.schema)));
     process.stdout.write(JSON.stringify(refused || judge(schema, pair.document)) + '\n');
   });
 }

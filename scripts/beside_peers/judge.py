@@ -66,9 +66,11 @@ def main(mode="", *words):
         return print(json.dumps({"accepted": accepted, "seconds": time.process_time() - begun}))
     gc.freeze()
     gc.set_threshold(200000, 20, 20)
+    last = None
     for line in sys.stdin:
         pair = json.loads(line)
-        schema, refused = opened(pair["schema"])
+        if pair["schema"] != last:
+            last, (schema, refused) = pair["schema"], opened(pair["schema"])
         print(json.dumps(refused or judged(schema, pair["document"])), flush=True)
     return None
 

@@ -1,7 +1,8 @@
 """Random pairs of a schema and a document, from a seed: mostly near valid, with at most one breach that is made on purpose.
 
-A pair is made by type: what is written fits what is there. A breach is a name of BREACHES: at one place that has to do with it the
-maker does otherwise. Names of TOKENS change the finished tokens instead."""
+A pair is made by type: what is written fits what is there. A breach is a name of SCHEMA_BREACHES or DOCUMENT_BREACHES: at one place
+that has to do with it the maker does otherwise. Names of TOKENS change the finished tokens instead. Of five pairs the first has a
+schema of its own, which may be broken; the others share one, and their documents may be broken."""
 
 import random
 
@@ -13,18 +14,21 @@ FIELDS = ["a", "b", "c", "d", "e", "id", "name", "size", "next", "all", "type", 
 ARGUMENTS = ["x", "y", "z", "first", "if", "on"]
 PUNCTUATION = set("{}[]():!=|&@$")
 
-BREACHES = """
+SCHEMA_BREACHES = """
 type_twice field_twice argument_twice value_twice member_twice interface_twice directive_twice schema_twice root_twice
 unknown_type unknown_interface unknown_member unknown_directive wrong_place repeated_directive unknown_directive_argument
 missing_directive_argument wrong_directive_value reserved_name output_as_input input_as_output empty_body root_no_object no_query
 same_root itself_interface missing_transitive missing_field wrong_field_type missing_argument wrong_argument_type extra_required
 input_cycle directive_cycle orphan_extension other_kind orphan_schema scalar_again built_in_again operation_in_schema wrong_default
-no_interface no_object_member
+no_interface no_object_member extend_built_in built_in_directive odd_string
+""".split()
+DOCUMENT_BREACHES = """
+unknown_directive wrong_place repeated_directive unknown_directive_argument missing_directive_argument wrong_directive_value
 unknown_field unknown_argument left_argument argument_again wrong_value unknown_value unknown_input_field input_field_again
 left_input_field leaf_selected composite_bare unknown_fragment unused_fragment fragment_cycle fragment_on_leaf fragment_on_unknown
 impossible_spread fragment_twice operation_twice anonymous_beside type_in_document undefined_variable unused_variable variable_again
 variable_of_output variable_of_unknown variable_misplaced variable_wrong_default subscription_fields subscription_introspection
-subscription_skip no_such_root conflict big_int odd_string null_value defer extend_built_in built_in_directive flat_list
+subscription_skip no_such_root conflict big_int odd_string null_value defer flat_list wrong_default
 """.split()
 TOKENS = ["drop", "double", "swap", "other_name", "other_token", "other_character", "cut"]
 
@@ -84,6 +88,12 @@ class Maker:
         self.random, self.breach, self.is_done = random.Random(seed), breach, False
         self.types, self.directives, self.usual, self.variables, self.fragments = {}, {}, {}, {}, []
         self.is_merging, self.count = self.chance(0.15), 0
+
+    def renew(self, seed, breach):
+        """Begins a document over the same schema."""
+        self.random, self.breach, self.is_done = random.Random(seed), breach, False
+        self.variables, self.fragments, self.count = {}, [], 0
+        self.is_merging = self.chance(0.15)
 
     def chance(self, share):
         """Whether it happens, with so much chance."""
@@ -286,7 +296,7 @@ class Maker:
                 argument.default = self.default(argument.type)
             name = "__d" if self.now("reserved_name", 0.05) else f"d{i}"
             self.directives[name] = (arguments, places, self.chance(0.3))
-        if self.breach == "defer" and self.chance(0.8):
+        if self.chance(0.1):
             self.directives["defer"] = ({"label": Field("String"), "if": Field("Boolean", default=["true"])}, ["FRAGMENT_SPREAD", "INLINE_FRAGMENT"], False)
         condition = {"if": Field(("!", "Boolean"))}
         self.directives["skip"] = self.directives["include"] = (condition, ["FIELD", "FRAGMENT_SPREAD", "INLINE_FRAGMENT"], False)
@@ -812,17 +822,21 @@ def unmarked_twice(type_):
     return inner if type_[0] == "!" and isinstance(inner, tuple) and inner[0] == "!" else (type_[0], inner)
 
 
+def drawn(seed, names):
+    """What is done to a text: nothing, a breach, or a change of its tokens."""
+    chooser = random.Random(seed)
+    share = chooser.random()
+    return None if share < 0.25 else chooser.choice(names) if share < 0.8 else chooser.choice(TOKENS)
+
+
 def pair(seed, number):
     """The pair of a seed and a number: its schema, its document, and what was done to it."""
-    chooser = random.Random(f"{seed}:{number}")
-    breach = chooser.choice([None] * 4 + BREACHES + TOKENS * 3)
-    if chooser.random() < 0.2:
-        breach = None
-    maker = Maker(f"{seed}:{number}:", breach)
-    schema, document = maker.schema(), maker.document()
-    if breach in TOKENS:
-        if chooser.random() < 0.5:
-            schema = maker.changed(schema)
-        else:
-            document = maker.changed(document)
-    return {"schema": maker.laid(schema), "document": maker.laid(document), "breach": breach or "none"}
+    group, is_own = f"{seed}:{number // 5}:", number % 5 == 0
+    breach = drawn(f"{seed}:{number}:breach", SCHEMA_BREACHES if is_own else DOCUMENT_BREACHES)
+    maker = Maker(f"{group}:own" if is_own else group, breach if is_own else None)
+    tokens = maker.schema()
+    schema = maker.laid(maker.changed(tokens) if is_own and breach in TOKENS else tokens)
+    maker.renew(f"{seed}:{number}", None if is_own else breach)
+    tokens = maker.document()
+    document = maker.laid(maker.changed(tokens) if breach in TOKENS and not is_own else tokens)
+    return {"schema": schema, "document": document, "breach": breach or "none"}

@@ -8,6 +8,8 @@ SMALLEST = [
     (S, "subscription { s t: s }"),
     (S, "subscription { s @skip(if: false) }"),
     (S, "subscription { __typename @skip(if: true) }"),
+    (S + " interface R { s: Int } type T implements R { s: Int } extend type Subscription implements R", "subscription { ... on R { ... on T { __typename } } }"),
+    ("type Query { j(x: J): Int } scalar J", "query ($v: Float) { j(x: { a: $v }) }"),
     (S, "{ i { ... on I { x } } }"),
     (S, "query ($v: Int = null) { a(x: $v) }"),
     (S, "query ($v: Int) { b(x: [$v]) }"),
