@@ -250,6 +250,7 @@ DIFFERENCES = [
     ("3.6.1, 3.10 defaults", BOTH, "strict", "document", rf"^Field {Q}\w+\.(\w+){Q} of required type .* was not provided", lambda pair, found: has_default_and_mark(pair["schema"], found[1]), "Laxer: the same of an input field."),
     ("3.6.1, 3.10 defaults", BOTH, "strict", "document", USED, lambda pair, found: found[2] + "!" == found[3] and has_location_default(pair["schema"], found[3]), "Laxer: the same of a variable."),
     ("3.13.3 @deprecated", BOTH, "strict", "schema", r"^Required (?:argument|input field) .* cannot be deprecated", None, "Laxer."),
+    ("3.13.3 @deprecated", GO, "strict", "document", r"(?:Unknown argument \"includeDeprecated\" on field \"__\w+\.(?:args|inputFields)|Cannot query field \"(?:isDeprecated|deprecationReason)\" on type \"__InputValue)", None, "Laxer: introspection of it."),
     ("3.6.1, 3.10 defaults", BOTH, "strict", "schema", rf"^There can be only one input field named {Q}(\w+)", lambda pair, found: repeats_in_default(pair["schema"], found[1]), "Laxer."),
     ("5.5.2.3 the very type", ALL, "strict", "document", rf"cannot be spread here as objects of type {Q}(\w+){Q} can never be of type {Q}(\w+)", lambda _, found: found[1] == found[2], "Laxer."),
     ("5.5.2.3 interfaces implementing", GO, "lax", "document", r"^InvalidFragmentSpread: .* with type condition `(\w+)` cannot be applied to `(\w+)`", implements_both, "Stricter."),

@@ -41,6 +41,7 @@ SMALLEST = [
     (ROOT.replace("a:", "a(x: Int! = 1):"), "query ($v: Int) { a(x: $v) }"),
     (ROOT.replace("a:", "a(x: Int! @deprecated):"), "{ __typename }"),
     (ROOT.replace("a:", "a(x: Int, x: Int):"), "{ __typename }"),
+    (ROOT, '{ __type(name: "T") { inputFields(includeDeprecated: true) { isDeprecated } } }'),
     (ROOT + "extend scalar Int @d", "{ a }"),
     (ROOT + "directive @d on FIELD extend scalar Int @d", "{ a }"),
     (ROOT + "extend type __Schema { foo: Int }", "{ a }"),
