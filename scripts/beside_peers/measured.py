@@ -72,20 +72,22 @@ def written(folder, schema, documents):
 
 
 def line(name, kind, least, seconds):
-    """Prints what a case costs graphql-checked, and by what factor more each peer."""
-    ratios = ", ".join(f"{peer} {value / least:.1f}" for peer, value in seconds.items())
-    print(f"{name}: {kind}: graphql-checked {least * 1e6:,.0f} us; times as much: {ratios}", flush=True)
+    """What a case costs graphql-checked, and by what factor more each peer."""
+    ratios = "; ".join(f"{peer} {value / least:.0f}" if value > 10 * least else f"{peer} {value / least:.1f}" for peer, value in seconds.items())
+    said = f"- {name}, {kind}: {least * 1e6:,.0f} us; {ratios}"
+    print(said, flush=True)
+    return said
 
 
 def measure(top, commands, count):
-    """Prints a line for each case and each kind of work."""
-    check = os.path.join(top, ".built/c/check")
+    """A line for each case and each kind of work."""
+    check, lines = os.path.join(top, ".built/c/check"), []
     with tempfile.TemporaryDirectory() as folder:
         for name, schema, documents in texts(top):
             paths = written(folder, schema, documents)
             least = once([check, paths[1], paths[0]], count)
-            line(name, "process", least, {peer: once([*words, "once", *paths[:2]], count) for peer, words in commands.items()})
+            lines.append(line(name, "process", least, {peer: once([*words, "once", *paths[:2]], count) for peer, words in commands.items()}))
             times = max(2, count * (100 if len(documents[0]) < 5000 else 2))
             seconds = {peer: held([*words, "held", paths[0], str(times), *paths[1:]], times) for peer, words in commands.items()}
-            line(name, "held schema", ours(schema, documents, times), seconds)
-    return 0
+            lines.append(line(name, "held schema", ours(schema, documents, times), seconds))
+    return lines
