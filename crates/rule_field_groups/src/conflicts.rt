@@ -21,6 +21,7 @@ use fault_document_data::{
 };
 use graphql_names::{Name, SourceSpan};
 use rule_document_ground::{FieldSelection, Schema, tell_breach};
+use rule_field_sets::Member;
 use rule_same_values::differing_argument;
 use schema_coordinates::{FieldArgumentCoordinate, TypeAttributeCoordinate};
 use std::alloc::{AllocError, Global};
@@ -245,14 +246,13 @@ fn conflicting_field_argument(
 /// Tells of two fields of a group, if they do not agree: of their shapes, or of their names or else of their arguments.
 fn check_two(
     comparing: &Comparing<'_>,
-    first: FieldSelection<'_>,
-    other: FieldSelection<'_>,
+    first: Member<'_>,
+    other: Member<'_>,
     breaches: &mut Vec<Breach>,
     comparisons: &mut u128,
 ) -> Result<(), AllocError>
-    ensures told { OnOk result (AddsTwo comparing.now.pass (judged_by comparing.now) (field_of first.entry) (field_of other.entry) breaches.old breaches.new) }
-    ensures counted { CountsUp comparisons.old (compared_once comparing.now.pass) comparisons.new }
 {
+    let (first, other) = (first.selection, other.selection);
     match comparing.pass {
         Pass::Shapes => {
             conflicting_field_type(comparing.schema, first, other, breaches, comparisons)
@@ -269,15 +269,11 @@ fn check_two(
 /// Tells each of the other fields that does not agree with the first.
 fn check_others(
     comparing: &Comparing<'_>,
-    first: FieldSelection<'_>,
-    others: &[FieldSelection<'_>],
+    first: Member<'_>,
+    others: &[Member<'_>],
     breaches: &mut Vec<Breach>,
     comparisons: &mut u128,
 ) -> Result<(), AllocError>
-    ensures told { OnOk result (AddsGroup comparing.now.pass (judged_by comparing.now) (fields_of (first.entry ∷ others.now)) breaches.old breaches.new) }
-    ensures more { comparisons.old ≤ comparisons.new }
-    ensures counted { comparisons.new ≤ comparisons.old + compared comparing.now.pass others.now }
-    ensures exact { OnOk result (CountsUp comparisons.old (compared comparing.now.pass others.now) comparisons.new) }
 {
     for other in others {
         check_two(comparing, first, *other, breaches, comparisons)?;
@@ -285,18 +281,27 @@ fn check_others(
     Ok(())
 }
 
-/// Tells each further field of a list that does not agree with the first one.
-pub fn check_group(
+/// Tells of two fields that go together in a pass, if they do not agree.
+pub fn check_two_fields(
     pass: Pass,
     schema: &Schema,
-    group: &[FieldSelection<'_>],
+    first: Member<'_>,
+    other: Member<'_>,
+    breaches: &mut Vec<Breach>,
+    comparisons: &mut u128,
+) -> Result<(), AllocError> {
+    let comparing = Comparing { pass, schema };
+    check_two(&comparing, first, other, breaches, comparisons)
+}
+
+/// Tells each further field of a list that does not agree with the first one.
+fn check_group(
+    pass: Pass,
+    schema: &Schema,
+    group: &[Member<'_>],
     breaches: &mut Vec<Breach>,
     comparisons: &mut u128,
 ) -> Result<(), AllocError>
-    ensures told { OnOk result (AddsGroup pass (judged (schema_tree schema.now)) (fields_of group.now) breaches.old breaches.new) }
-    ensures more { comparisons.old ≤ comparisons.new }
-    ensures counted { comparisons.new ≤ comparisons.old + compared pass group.now }
-    ensures exact { OnOk result (CountsUp comparisons.old (compared pass (drop 1 group.now)) comparisons.new) }
 {
     let comparing = Comparing { pass, schema };
     match group.split_first() {
@@ -308,14 +313,11 @@ pub fn check_group(
 /// Tells each of the fields before another one that does not agree with the first of them; and the other, if it does not.
 fn check_before(
     comparing: &Comparing<'_>,
-    before: &[FieldSelection<'_>],
-    other: FieldSelection<'_>,
+    before: &[Member<'_>],
+    other: Member<'_>,
     breaches: &mut Vec<Breach>,
     comparisons: &mut u128,
 ) -> Result<(), AllocError>
-    ensures told { OnOk result (AddsGroup comparing.now.pass (judged_by comparing.now) (fields_of (other.entry ∷ before.now)) breaches.old breaches.new) }
-    ensures more { comparisons.old ≤ comparisons.new }
-    ensures counted { comparisons.new ≤ comparisons.old + compared comparing.now.pass before.now }
 {
     match before.split_first() {
         None => Ok(()),
@@ -330,14 +332,11 @@ fn check_before(
 /// shared. The later of two is told: the early fields are before the first shared one.
 fn check_own(
     comparing: &Comparing<'_>,
-    shared: &[FieldSelection<'_>],
+    shared: &[Member<'_>],
     own: &OwnFields<'_>,
     breaches: &mut Vec<Breach>,
     comparisons: &mut u128,
 ) -> Result<(), AllocError>
-    ensures told { OnOk result (AddsGroup comparing.now.pass (judged_by comparing.now) (fields_of (take 1 shared.now ++ own.now.fields.items)) breaches.old breaches.new) }
-    ensures more { comparisons.old ≤ comparisons.new }
-    ensures counted { comparisons.new ≤ comparisons.old + compared comparing.now.pass own.now.fields.items }
 {
     let fields = own.fields.as_slice();
     match shared.split_first() {
@@ -364,9 +363,6 @@ pub fn check_key_group(
     breaches: &mut Vec<Breach>,
     comparisons: &mut u128,
 ) -> Result<(), AllocError>
-    ensures told { OnOk result (AddsEach pass (judged (schema_tree schema.now)) (map fields_of (parts_of group.now)) breaches.old breaches.new) }
-    ensures more { comparisons.old ≤ comparisons.new }
-    ensures counted { comparisons.new ≤ comparisons.old + compared_in pass group.now }
 {
     let comparing = Comparing { pass, schema };
     check_group(pass, schema, &group.shared, breaches, comparisons)?;

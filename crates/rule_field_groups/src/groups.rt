@@ -1,59 +1,45 @@
 //! Groups of the fields of a list.
-ghost use Rattle.std.specs.Prelude.{◌≡◌, ◌≤◌, ◌+◌, ℕ, ◌++◌, ◌∷◌, [], List, map, filter, flat_map, not, length, if◌then◌else◌, IfOk, OnOk};
-ghost use Rattle.std.specs.List.{sum};
-ghost use Rattle.std.specs.Str.{bytes_eq};
-ghost use Rattle.indexmap.specs.IndexMap.{get, IsUnique};
-ghost use Rattle.schema_components.specs.Names.{same_text};
-ghost use Rattle.schema_types.specs.TypeView.{name_text};
-ghost use Rattle.rule_document_ground.specs.in_schema.SchemaOf.{schema_tree};
-ghost use Rattle.rule_definitions.specs.Judged.{judged};
-ghost use Rattle.rule_document_definitions.specs.Groups.{AreGroups};
-ghost use Rattle.rule_document_ground.specs.Fields.{fields_of};
-ghost use Rattle.rule_field_groups.specs.Compared.{compared};
-ghost use Rattle.rule_field_groups.specs.Passes.{Together};
-ghost use Rattle.rule_field_groups.specs.Grouped.{items_under, count_in, has, lists_in, lists_of, AreFiled, ArePartsOf};
-ghost use Rattle.rule_field_groups.specs.KeyGroups.{filed_name, is_shared, own_lists, parts_of, parts_in, lists_in_group, compared_in, IsByParents, ArePartsFor};
 
-use crate::kinds::is_abstract;
 use crate::pass::Pass;
-use graphql_names::Name;
 use indexmap::IndexMap;
-use rule_document_ground::{FieldSelection, Schema};
+use rule_field_sets::Member;
 use std::alloc::{AllocError, Global};
 
-/// Adds a field after those under the name.
+/// Adds a field after those under the number.
 fn push_under<'doc>(
     alloc: Global,
-    index: &mut IndexMap<Name, Vec<FieldSelection<'doc>>>,
-    name: &Name,
-    field: FieldSelection<'doc>,
-) -> Result<(), AllocError>
-    ensures under { OnOk result ((n : List ℕ) → items_under n index.new ≡ items_under n index.old ++ (if bytes_eq n name.now.text then field.entry ∷ [] else [])) }
-    ensures counted { OnOk result (count_in index.new ≡ count_in index.old + 1) }
-{
-    if let Some(fields) = index.get_mut(name) {
+    index: &mut IndexMap<usize, Vec<Member<'doc>>>,
+    number: usize,
+    field: Member<'doc>,
+) -> Result<(), AllocError> {
+    if let Some(fields) = index.get_mut(&number) {
         fields.push(field)?;
         return Ok(());
     }
-    insert_under(alloc, index, name, field)
+    insert_under(alloc, index, number, field)
 }
 
-/// Adds a field under a name that nothing stands under.
+/// Adds a field under a number that nothing stands under.
 fn insert_under<'doc>(
     alloc: Global,
-    index: &mut IndexMap<Name, Vec<FieldSelection<'doc>>>,
-    name: &Name,
-    field: FieldSelection<'doc>,
-) -> Result<(), AllocError>
-    requires { get (same_text name_text) index.old name.now ≡ None }
-    ensures under { OnOk result ((n : List ℕ) → items_under n index.new ≡ items_under n index.old ++ (if bytes_eq n name.now.text then field.entry ∷ [] else [])) }
-    ensures counted { OnOk result (count_in index.new ≡ count_in index.old + 1) }
-{
+    index: &mut IndexMap<usize, Vec<Member<'doc>>>,
+    number: usize,
+    field: Member<'doc>,
+) -> Result<(), AllocError> {
     let mut fields = Vec::new(alloc);
     fields.push(field)?;
-    let name = name.clone()?;
-    index.insert(name, fields)?;
+    index.insert(number, fields)?;
     Ok(())
+}
+
+/// Whether two fields go together in a pass: they have one key, and where names are compared one object may have both ("the parent
+/// types are equal or either is not an Object Type").
+pub fn go_together(pass: Pass, one: Member<'_>, other: Member<'_>) -> bool {
+    one.key == other.key
+        && match pass {
+            Pass::Shapes => true,
+            Pass::Selections => one.parent == other.parent || one.is_shared || other.is_shared,
+        }
 }
 
 /// What the fields of a list are grouped by.
@@ -65,40 +51,32 @@ enum Filing {
     Parent,
 }
 
-/// The name that a field is grouped by.
-fn filed_name<'doc>(filing: Filing, field: FieldSelection<'doc>) -> &'doc Name
-    ensures { result.now.text ≡ filed_name filing field.entry }
-{
+/// The number that a field is grouped by.
+fn filed_number(filing: Filing, field: Member<'_>) -> usize {
     match filing {
-        Filing::Key => field.response_key(),
-        Filing::Parent => field.parent_type,
+        Filing::Key => field.key,
+        Filing::Parent => field.parent,
     }
 }
 
-/// The fields of the list under the names that they are grouped by.
+/// The fields of the list under the numbers that they are grouped by.
 fn index_of<'doc>(
     alloc: Global,
     filing: Filing,
-    list: &[FieldSelection<'doc>],
-) -> Result<IndexMap<Name, Vec<FieldSelection<'doc>>>, AllocError>
-    ensures under { IfOk result (λ m. (n : List ℕ) → items_under n m ≡ filter (has (filed_name filing) n) list.now) }
-    ensures counted { IfOk result (λ m. count_in m ≡ length list.now) }
-{
+    list: &[Member<'doc>],
+) -> Result<IndexMap<usize, Vec<Member<'doc>>>, AllocError> {
     let mut index = IndexMap::new(alloc);
     for field in list {
-        push_under(alloc, &mut index, filed_name(filing, *field), *field)?;
+        push_under(alloc, &mut index, filed_number(filing, *field), *field)?;
     }
     Ok(index)
 }
 
-/// What an index has under its names, name by name.
+/// What an index has under its numbers, number by number.
 fn groups_in<'doc>(
     alloc: Global,
-    index: IndexMap<Name, Vec<FieldSelection<'doc>>>,
-) -> Result<Vec<Vec<FieldSelection<'doc>>>, AllocError>
-    ensures all { IfOk result (λ groups. lists_of groups ≡ lists_in index.entry) }
-    ensures unique { IfOk result (λ groups. IsUnique (same_text name_text) index.entry) }
-{
+    index: IndexMap<usize, Vec<Member<'doc>>>,
+) -> Result<Vec<Vec<Member<'doc>>>, AllocError> {
     let mut groups = Vec::with_capacity(alloc, index.len())?;
     for group in index.into_values() {
         groups.push(group)?;
@@ -106,15 +84,12 @@ fn groups_in<'doc>(
     Ok(groups)
 }
 
-/// The fields of the list that have one name, for each name, in the order of the list.
+/// The fields of the list that have one number, for each number, in the order of the list.
 fn filed<'doc>(
     alloc: Global,
     filing: Filing,
-    list: &[FieldSelection<'doc>],
-) -> Result<Vec<Vec<FieldSelection<'doc>>>, AllocError>
-    ensures filed { IfOk result (λ groups. AreFiled (filed_name filing) list.now (lists_of groups)) }
-    ensures counted { IfOk result (λ groups. sum (map length (lists_of groups)) ≡ length list.now) }
-{
+    list: &[Member<'doc>],
+) -> Result<Vec<Vec<Member<'doc>>>, AllocError> {
     let index = index_of(alloc, filing, list)?;
     groups_in(alloc, index)
 }
@@ -123,23 +98,20 @@ fn filed<'doc>(
 /// those on each object type. One object may have the shared ones and those of one type.
 #[derive(Drop)]
 pub struct KeyGroup<'doc> {
-    pub(crate) shared: Vec<FieldSelection<'doc>>,
+    pub(crate) shared: Vec<Member<'doc>>,
     pub(crate) own: Vec<OwnFields<'doc>>,
 }
 
 /// The fields on one object type.
 #[derive(Drop)]
 pub(crate) struct OwnFields<'doc> {
-    pub(crate) fields: Vec<FieldSelection<'doc>>,
+    pub(crate) fields: Vec<Member<'doc>>,
     /// How many of them are before the first shared one, in the order of the list.
     pub(crate) early: usize,
 }
 
 /// A group in which all fields are shared: shapes are compared whatever the types that fields are selected on.
-fn all_shared<'doc>(alloc: Global, shared: Vec<FieldSelection<'doc>>) -> KeyGroup<'doc>
-    ensures shared { result.shared.items ≡ shared.entry.items }
-    ensures own { own_lists result ≡ [] }
-{
+fn all_shared<'doc>(alloc: Global, shared: Vec<Member<'doc>>) -> KeyGroup<'doc> {
     KeyGroup {
         shared,
         own: Vec::new(alloc),
@@ -149,14 +121,11 @@ fn all_shared<'doc>(alloc: Global, shared: Vec<FieldSelection<'doc>>) -> KeyGrou
 /// The fields of the list on abstract types.
 fn abstract_fields<'doc>(
     alloc: Global,
-    schema: &Schema,
-    list: &[FieldSelection<'doc>],
-) -> Result<Vec<FieldSelection<'doc>>, AllocError>
-    ensures { IfOk result (λ v. v.items ≡ filter (is_shared (judged (schema_tree schema.now))) list.now) }
-{
+    list: &[Member<'doc>],
+) -> Result<Vec<Member<'doc>>, AllocError> {
     let mut found = Vec::new(alloc);
     for field in list {
-        if is_abstract(schema, field.parent_type) {
+        if field.is_shared {
             found.push(*field)?;
         }
     }
@@ -166,14 +135,11 @@ fn abstract_fields<'doc>(
 /// The fields of the list on object types.
 fn object_fields<'doc>(
     alloc: Global,
-    schema: &Schema,
-    list: &[FieldSelection<'doc>],
-) -> Result<Vec<FieldSelection<'doc>>, AllocError>
-    ensures { IfOk result (λ v. v.items ≡ filter (λ x. not (is_shared (judged (schema_tree schema.now)) x)) list.now) }
-{
+    list: &[Member<'doc>],
+) -> Result<Vec<Member<'doc>>, AllocError> {
     let mut found = Vec::new(alloc);
     for field in list {
-        if !is_abstract(schema, field.parent_type) {
+        if !field.is_shared {
             found.push(*field)?;
         }
     }
@@ -183,12 +149,11 @@ fn object_fields<'doc>(
 /// How many of the fields on each object type are before the first one on an abstract type, in the order of these types.
 fn early_counts(
     alloc: Global,
-    schema: &Schema,
-    list: &[FieldSelection<'_>],
+    list: &[Member<'_>],
 ) -> Result<Vec<usize>, AllocError> {
     let mut leading = Vec::new(alloc);
     for field in list {
-        if is_abstract(schema, field.parent_type) {
+        if field.is_shared {
             break;
         }
         leading.push(*field)?;
@@ -203,11 +168,9 @@ fn early_counts(
 /// The lists, each with its count of `early`, or 0 where that is shorter.
 fn own_fields<'doc>(
     alloc: Global,
-    lists: Vec<Vec<FieldSelection<'doc>>>,
+    lists: Vec<Vec<Member<'doc>>>,
     early: &[usize],
-) -> Result<Vec<OwnFields<'doc>>, AllocError>
-    ensures { IfOk result (λ own. map (λ o. o.fields.items) own.items ≡ lists_of lists.entry) }
-{
+) -> Result<Vec<OwnFields<'doc>>, AllocError> {
     let mut own = Vec::with_capacity(alloc, lists.len())?;
     for fields in lists {
         let early = match early.get(own.len()) {
@@ -222,16 +185,12 @@ fn own_fields<'doc>(
 /// The fields of one key by their parents ("the parent types are equal or either is not an Object Type").
 fn by_parents<'doc>(
     alloc: Global,
-    schema: &Schema,
-    list: &[FieldSelection<'doc>],
-) -> Result<KeyGroup<'doc>, AllocError>
-    ensures parents { IfOk result (λ group. IsByParents (judged (schema_tree schema.now)) list.now group) }
-    ensures once { IfOk result (λ group. sum (map length (lists_in_group group)) ≡ length list.now) }
-{
-    let shared = abstract_fields(alloc, schema, list)?;
-    let objects = object_fields(alloc, schema, list)?;
+    list: &[Member<'doc>],
+) -> Result<KeyGroup<'doc>, AllocError> {
+    let shared = abstract_fields(alloc, list)?;
+    let objects = object_fields(alloc, list)?;
     let filed = filed(alloc, Filing::Parent, &objects)?;
-    let early = early_counts(alloc, schema, list)?;
+    let early = early_counts(alloc, list)?;
     let own = own_fields(alloc, filed, &early)?;
     Ok(KeyGroup { shared, own })
 }
@@ -240,17 +199,11 @@ fn by_parents<'doc>(
 fn key_group<'doc>(
     alloc: Global,
     pass: Pass,
-    schema: &Schema,
-    list: Vec<FieldSelection<'doc>>,
-) -> Result<KeyGroup<'doc>, AllocError>
-    ensures parts { IfOk result (λ group. ArePartsFor pass (judged (schema_tree schema.now)) list.entry.items (parts_of group)) }
-    ensures counted { IfOk result (λ group. compared_in pass group ≤ compared pass list.entry.items) }
-    ensures ordered { IfOk result (λ group. ArePartsOf list.entry.items (lists_in_group group)) }
-    ensures once { IfOk result (λ group. sum (map length (lists_in_group group)) ≡ length list.entry.items) }
-{
+    list: Vec<Member<'doc>>,
+) -> Result<KeyGroup<'doc>, AllocError> {
     match pass {
         Pass::Shapes => Ok(all_shared(alloc, list)),
-        Pass::Selections => by_parents(alloc, schema, &list),
+        Pass::Selections => by_parents(alloc, &list),
     }
 }
 
@@ -259,18 +212,12 @@ fn key_group<'doc>(
 pub fn groups_of<'doc>(
     alloc: Global,
     pass: Pass,
-    schema: &Schema,
-    list: &[FieldSelection<'doc>],
-) -> Result<Vec<KeyGroup<'doc>>, AllocError>
-    ensures groups { IfOk result (λ groups. AreGroups (Together pass (judged (schema_tree schema.now))) (fields_of list.now) (map fields_of (parts_in groups.items))) }
-    ensures counted { IfOk result (λ groups. sum (map (compared_in pass) groups.items) ≤ compared pass list.now) }
-    ensures ordered { IfOk result (λ groups. ArePartsOf list.now (flat_map lists_in_group groups.items)) }
-    ensures once { IfOk result (λ groups. sum (map length (flat_map lists_in_group groups.items)) ≡ length list.now) }
-{
+    list: &[Member<'doc>],
+) -> Result<Vec<KeyGroup<'doc>>, AllocError> {
     let mut groups = Vec::new(alloc);
     let keyed = filed(alloc, Filing::Key, list)?;
     for fields in keyed {
-        groups.push(key_group(alloc, pass, schema, fields)?)?;
+        groups.push(key_group(alloc, pass, fields)?)?;
     }
     Ok(groups)
 }

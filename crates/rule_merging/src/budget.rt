@@ -1,30 +1,51 @@
-//! What lists of sets may cost. What is not paid is examined in pairs of sets: in lists of different sets members would never
-//! come to an end, and pairs are no more than sets times sets.
-ghost use Rattle.std.specs.Prelude.{◌≡◌, ◌≤◌, ◌+◌, IsTrue, IfSome};
-ghost use Rattle.rule_merging.specs.Counted.{most_members};
+//! What the walks over lists of sets may cost. What is not paid is examined in pairs of sets: in lists of different sets members
+//! would never come to an end, and pairs are no more than sets times sets.
 
-/// So many members of lists may be examined for each field that was seen.
+use indexmap::IndexSet;
+use std::alloc::{AllocError, Global};
+
+/// So many steps of walks are paid by each field that was met.
 const FOR_EACH_FIELD: usize = 4;
 
-/// So many may be examined before that.
+/// So many are paid before that.
 const AT_FIRST: usize = 200;
 
-/// Whether so many fields pay for so many members of lists.
-fn is_paid(members: usize, fields: usize) -> bool
-    ensures { IsTrue result → members ≤ most_members fields }
-{
-    let more = members.saturating_sub(AT_FIRST);
-    more <= fields.saturating_mul(FOR_EACH_FIELD)
+/// The fields that were met, by their numbers, and the steps that walks over lists took: at each step these were paid.
+#[derive(Drop)]
+pub(crate) struct Account {
+    met: IndexSet<usize>,
+    spent: usize,
 }
 
-/// What is spent with so many members more, if so many fields pay for all.
-pub(crate) fn spent_with(spent: usize, more: usize, fields: usize) -> Option<usize>
-    ensures { IfSome result (λ all. (all ≡ spent + more) × (all ≤ most_members fields)) }
-{
-    let all = spent.checked_add(more)?;
-    if is_paid(all, fields) {
-        Some(all)
-    } else {
-        None
+impl Account {
+    /// Nothing.
+    pub(crate) fn new(alloc: Global) -> Account {
+        Account {
+            met: IndexSet::new(alloc),
+            spent: 0,
+        }
+    }
+
+    /// How many steps are paid.
+    fn paid(&self) -> usize {
+        self.met
+            .len()
+            .saturating_mul(FOR_EACH_FIELD)
+            .saturating_add(AT_FIRST)
+    }
+
+    /// Spends a step. Whether it is paid is given; where it is not, it is not spent.
+    pub(crate) fn step(&mut self) -> bool {
+        if self.spent >= self.paid() {
+            return false;
+        }
+        self.spent += 1;
+        true
+    }
+
+    /// Meets a field, and spends a step on it. Whether that is paid is given.
+    pub(crate) fn meet(&mut self, field: usize) -> Result<bool, AllocError> {
+        self.met.insert(field)?;
+        Ok(self.step())
     }
 }

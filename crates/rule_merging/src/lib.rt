@@ -1,26 +1,22 @@
 //! Merging of fields: those that may be answered under one key agree (section 5.3.2, "Field Selection Merging").
 //!
-//! Fields are examined in lists: what the set of an operation selects, and then what the sets of each group of a list select,
-//! level by level. How a list is grouped, and what is told of a group, is of `rule_field_groups`. Sets that were looked at
-//! together are not looked at again, nor is a list whose contents were examined before. Where lists are not paid by fields that
-//! are new (`budget.rt`), their sets are looked at in pairs (`pairs.rt`, `twos.rt`), each pair once: own fields of the two are
-//! compared, and a spread is a step in one of the two alone, to the fragment by its name. Where fields go together, lists of their sets are left for the
-//! next level.
+//! The sets of a document have numbers (`rule_field_sets`). Fields are examined in lists: what the set of an operation selects, and
+//! then what the sets of each group of a list select, level by level. How a list is grouped, and what is told of a group, is of
+//! `rule_field_groups`. Sets that were looked at together are not looked at again, nor is a list whose contents were examined before.
+//! Where the walk over a list of sets is not paid by fields that are new (`budget.rt`), they are looked at in pairs (`twos.rt`), each
+//! pair once: fields of the two are compared, and a spread is a step in one of the two alone. Where fields go together, their sets are
+//! left as a pair for the next level.
 //!
-//! For the layers above: a `FieldsInSetCanMerge` tells a list of faults what does not merge in an operation (`MergerTold` of
-//! `specs/Merger.antt`, over `specs/Merged.antt`), and is clean where the fields of all operations merge so far. It calls
-//! `examine_operation`, which adds what does not merge in an operation, and keeps in an `Examined` what was examined
-//! (`ExaminesOperation` of `specs/Verdict.antt`) and how often shapes were compared (`IsCounted` of `specs/Counted.antt`).
-//! `append_breaches` adds breaches to a list of faults.
-//!
-//! Begin with `merging.rt`, then `operation.rt`, `examination.rt` and `remembered.rt`.
+//! Begin with `merging.rt`, then `operation.rt`, `examination.rt`, `groups.rt`, `twos.rt` and `remembered.rt`.
 #![tactic(auto)]
 
 mod budget;
 mod examination;
+mod expansion;
+mod groups;
+mod leftover;
 mod merging;
 mod operation;
-mod pairs;
 mod remembered;
 mod told;
 mod twos;

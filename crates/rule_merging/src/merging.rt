@@ -62,7 +62,7 @@ impl<'doc> FieldsInSetCanMerge<'doc> {
             alloc,
             schema,
             document,
-            examined: Examined::new(alloc),
+            examined: Examined::new(alloc, schema, document),
             is_clean: true,
         }
     }
@@ -106,9 +106,7 @@ impl<'doc> FieldsInSetCanMerge<'doc> {
         let was_clean = self.is_clean;
         self.is_clean = false;
         let mut breaches = Vec::new(self.alloc);
-        let (schema, document) = (self.schema, self.document);
-        let examined = &mut self.examined;
-        let left = examine_operation(schema, document, operation, examined, &mut breaches)?;
+        let left = examine_operation(operation, &mut self.examined, &mut breaches)?;
         let stays = stays_clean(was_clean, &breaches, left);
         append_conflicts(list, operation, breaches, left)?;
         self.is_clean = stays;

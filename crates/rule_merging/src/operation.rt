@@ -1,83 +1,58 @@
 //! The examination of an operation, in both passes.
-ghost use Rattle.std.specs.Prelude.{◌≡◌, List, IfOk, []};
-ghost use Rattle.rule_field_groups.specs.in_schema.SchemaOf.{schema_tree};
-ghost use Rattle.rule_definitions.specs.Judged.{judged};
-ghost use Rattle.graphql_names.specs.Placed.{Place};
-ghost use Rattle.document_meaning.specs.MeantTree.{MeantOperation, MeantDocument};
-ghost use Rattle.rule_field_groups.specs.in_typing.DocumentView.{document_meant, operation_meant};
-ghost use Rattle.rule_definitions.specs.Judged.{Judged};
-ghost use Rattle.rule_merging.specs.Verdict.{comparisons_of, lists_examined, AreBothSettled, IsCounted, StaysCountedIn, OnlyGrow, ExaminesOperation};
 
 use crate::examination::Examination;
 use crate::remembered::Remembered;
 use document_typed_operations::{ExecutableDocument, Operation};
 use graphql_names::Node;
-use rule_field_groups::{Breach, Pass, Schema, SelectedSet};
+use rule_field_groups::{Breach, FieldSets, Pass, Schema};
 use std::alloc::{AllocError, Global};
 
-/// What was examined in each pass, over all operations so far, and how often shapes were compared.
+/// The numbered sets of a document, what was examined in each pass, over all operations so far, and how often shapes were compared.
+#[derive(Drop)]
 pub struct Examined<'doc> {
-    pub(crate) shapes: Remembered<'doc>,
-    pub(crate) selections: Remembered<'doc>,
-}
-
-impl Drop for Examined<'_> {
-    fn drop(self) {
-        let Examined {
-            shapes: _,
-            selections: _,
-        } = self;
-    }
+    sets: FieldSets<'doc>,
+    shapes: Remembered,
+    selections: Remembered,
 }
 
 impl<'doc> Examined<'doc> {
-    /// Nothing.
-    pub fn new(alloc: Global) -> Examined<'doc>
-        ensures settled { (s : Judged) → (d : MeantDocument Place) → AreBothSettled s d result }
-        ensures counted { (d : MeantDocument Place) (os : List (MeantOperation Place)) → IsCounted d os result }
-        ensures none { comparisons_of result ≡ 0 }
-        ensures lists { lists_examined result ≡ [] }
-    {
+    /// Nothing, of a document under a schema.
+    pub fn new(
+        alloc: Global,
+        schema: &'doc Schema,
+        document: &'doc ExecutableDocument,
+    ) -> Examined<'doc> {
         Examined {
+            sets: FieldSets::new(alloc, schema, &document.fragments),
             shapes: Remembered::new(alloc),
             selections: Remembered::new(alloc),
         }
     }
 
     /// How often the shapes of two fields were compared; where this is the greatest number, at least as often.
-    pub fn comparisons(&self) -> u128
-        ensures { result ≡ comparisons_of self.now }
-    {
+    pub fn comparisons(&self) -> u128 {
         self.shapes.comparisons
     }
 }
 
 /// Examines the fields of an operation and all below them, in both passes. Answers whether fields are left below 128 levels.
 pub fn examine_operation<'doc>(
-    schema: &'doc Schema,
-    document: &'doc ExecutableDocument,
     operation: &'doc Node<Operation>,
     examined: &mut Examined<'doc>,
     breaches: &mut Vec<Breach>,
-) -> Result<bool, AllocError>
-    ensures examined { IfOk result (λ left. ExaminesOperation (judged (schema_tree schema.now)) (document_meant document.now) (operation_meant operation.now) examined.old examined.new breaches.old breaches.new left) }
-    ensures counted { StaysCountedIn (document_meant document.now) (operation_meant operation.now) examined.old examined.new }
-    ensures grown { OnlyGrow (lists_examined examined.old) (comparisons_of examined.old) (lists_examined examined.new) (comparisons_of examined.new) }
-{
-    let start = SelectedSet {
-        set: &operation.content().selection_set,
-    };
+) -> Result<bool, AllocError> {
+    let alloc = *breaches.allocator();
+    let start = examined.sets.add_set(&operation.content().selection_set)?;
+    let sets = &examined.sets;
     let by_shape = Examination {
         pass: Pass::Shapes,
-        schema,
-        document,
+        sets,
     };
-    let left = by_shape.examine_all(start, &mut examined.shapes, breaches)?;
+    let left = by_shape.examine_all(alloc, start, &mut examined.shapes, breaches)?;
     let by_selection = Examination {
         pass: Pass::Selections,
-        schema,
-        document,
+        sets,
     };
-    let too = by_selection.examine_all(start, &mut examined.selections, breaches)?;
+    let too = by_selection.examine_all(alloc, start, &mut examined.selections, breaches)?;
     Ok(left || too)
 }

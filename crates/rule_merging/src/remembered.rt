@@ -1,122 +1,119 @@
 //! What was examined.
-ghost use Rattle.std.specs.Prelude.{◌≡◌, ◌∷◌, [], is_some, IfOk, OnErr};
-ghost use Rattle.rule_field_groups.specs.Below.{contents_of};
-ghost use Rattle.rule_field_groups.specs.Own.{source_meant};
-ghost use Rattle.rule_field_groups.specs.Under.{sets_in};
-ghost use Rattle.rule_merging.specs.Counted.{OnlyMeets, Pays, IsPaidIf, no_account};
-ghost use Rattle.rule_merging.specs.Remembered.{kept_of, account_of, beside_of, nothing_kept, plain_sources, Remembers, RemembersPaid, LooksAt};
 
-use crate::budget::spent_with;
-use rule_field_groups::{FieldSelection, SelectedSet, SelectionSource};
-use rule_number_lists::ListMemory;
+use crate::budget::Account;
+use rule_field_groups::{FieldSets, Member};
+use rule_number_lists::{NumberLists, NumberPairs};
 use std::alloc::{AllocError, Global};
 
-/// Two sets or fragments that are looked at together: the fields of the one with those of the other.
+/// Two nodes that are looked at together: the fields of the one with those of the other.
 #[derive(Clone, Copy)]
-pub(crate) struct Pair<'doc> {
-    pub(crate) one: SelectionSource<'doc>,
-    pub(crate) other: SelectionSource<'doc>,
+pub(crate) struct Pair {
+    pub(crate) one: usize,
+    pub(crate) other: usize,
 }
 
-/// The contents of the lists of fields that were examined, each once, and of the lists of sets that were looked at: fields that
-/// these select and that go together are in lists that were examined. A list is known by which contents it has, in whatever
-/// order; so is a pair, in which a fragment is known by its name: many pairs have one large fragment.
+/// What is left to examine: lists of nodes, whose fields are examined together, and pairs of nodes.
 #[derive(Drop)]
-pub(crate) struct Remembered<'doc> {
-    lists: ListMemory<FieldSelection<'doc>>,
+pub(crate) struct Left {
+    pub(crate) lists: Vec<Vec<usize>>,
+    pub(crate) pairs: Vec<Pair>,
+}
+
+impl Left {
+    /// Nothing.
+    pub(crate) fn new(alloc: Global) -> Left {
+        Left {
+            lists: Vec::new(alloc),
+            pairs: Vec::new(alloc),
+        }
+    }
+
+    /// Whether nothing is left.
+    pub(crate) fn is_empty(&self) -> bool {
+        self.lists.is_empty() && self.pairs.is_empty()
+    }
+
+    /// Adds a list of one node.
+    pub(crate) fn push_one(&mut self, node: usize) -> Result<(), AllocError> {
+        let list = Vec::from_slice(*self.lists.allocator(), &[node])?;
+        self.lists.push(list)?;
+        Ok(())
+    }
+}
+
+/// The contents of the lists of fields that were examined, each once, and of the lists and pairs of sets that were looked at: fields
+/// that these select and that go together are in lists that were examined. All by numbers, in whatever order.
+#[derive(Drop)]
+pub(crate) struct Remembered {
+    /// The lists of fields that were examined.
+    lists: NumberLists,
     /// The lists of sets that were looked at.
-    pub(crate) expanded: ListMemory<SelectedSet<'doc>>,
-    /// The pairs that were looked at, or are left.
-    looked: ListMemory<SelectionSource<'doc>>,
-    /// Of these the ones that came last, in turn.
-    pub(crate) pairs: Vec<Pair<'doc>>,
-    /// The lists of sets that are left for the next level.
-    pub(crate) next: Vec<Vec<SelectedSet<'doc>>>,
-    /// How many members of lists were examined.
-    spent: usize,
-    /// Whether a list was not paid.
-    is_spent: bool,
+    expanded: NumberLists,
+    /// The pairs of sets that were looked at, or are left.
+    looked: NumberPairs,
+    /// What walks over lists of sets cost.
+    pub(crate) account: Account,
+    /// What is left for the next level.
+    pub(crate) next: Left,
     /// How often shapes were compared.
     pub(crate) comparisons: u128,
 }
 
-impl<'doc> Remembered<'doc> {
+impl Remembered {
     /// None.
-    pub(crate) fn new(alloc: Global) -> Remembered<'doc>
-        ensures kept { kept_of result ≡ nothing_kept }
-        ensures account { account_of result ≡ no_account }
-    {
+    pub(crate) fn new(alloc: Global) -> Remembered {
         Remembered {
-            lists: ListMemory::new(alloc),
-            expanded: ListMemory::new(alloc),
-            looked: ListMemory::new(alloc),
-            pairs: Vec::new(alloc),
-            next: Vec::new(alloc),
-            spent: 0,
-            is_spent: false,
+            lists: NumberLists::new(alloc),
+            expanded: NumberLists::new(alloc),
+            looked: NumberPairs::new(alloc),
+            account: Account::new(alloc),
+            next: Left::new(alloc),
             comparisons: 0,
         }
     }
 
-    /// Remembers a list of fields. Whether it was not remembered before is given: one with the same contents.
-    pub(crate) fn remember(&mut self, list: &[FieldSelection<'doc>]) -> Result<bool, AllocError>
-        ensures remembers { IfOk result (λ is_new. Remembers (kept_of self.old) (contents_of list.now) is_new (kept_of self.new)) }
-        ensures refused { OnErr result (kept_of self.new ≡ kept_of self.old) }
-        ensures meets { OnlyMeets (contents_of list.now) (account_of self.old) (account_of self.new) }
-        ensures next { sets_in self.new.next ≡ sets_in self.old.next }
-    {
-        self.lists.remember(list)
-    }
-
-    /// Notes that two are looked at together. Whether they were not noted before is given: two with the same contents.
-    pub(crate) fn look(
-        &mut self,
-        one: SelectionSource<'doc>,
-        other: SelectionSource<'doc>,
-    ) -> Result<bool, AllocError>
-        ensures looks { IfOk result (λ is_new. LooksAt (kept_of self.old) (plain_sources (source_meant one.entry ∷ source_meant other.entry ∷ [])) is_new (kept_of self.new)) }
-        ensures beside { beside_of self.new ≡ beside_of self.old }
-    {
-        self.looked.remember(&[one, other])
-    }
-
-    /// No pair is left to look at.
-    pub(crate) fn begin_pairs(&mut self)
-        ensures kept { kept_of self.new ≡ record (kept_of self.old) { pairs = [] } }
-        ensures beside { beside_of self.new ≡ beside_of self.old }
-    {
-        self.pairs.clear();
-    }
-
-    /// Whether sets are looked at in pairs before they are expanded: they are two, and a list was not paid. There may be as many
-    /// lists of two sets as sets times sets.
-    pub(crate) fn skips(&self, sets: &[SelectedSet<'doc>]) -> bool {
-        self.is_spent && sets.len() == 2
-    }
-
-    /// Remembers a list of fields, if it may be examined: what it costs is paid by fields that are new. Whether it was not
-    /// remembered before is given: one with the same contents; or nothing, where it is not paid.
-    pub(crate) fn remember_paid(
-        &mut self,
-        list: &[FieldSelection<'doc>],
-    ) -> Result<Option<bool>, AllocError>
-        ensures remembers { IfOk result (λ is_new. RemembersPaid (kept_of self.old) (contents_of list.now) is_new (kept_of self.new)) }
-        ensures refused { OnErr result (kept_of self.new ≡ kept_of self.old) }
-        ensures pays { Pays (contents_of list.now) (account_of self.old) (account_of self.new) }
-        ensures paid { IfOk result (λ is_new. IsPaidIf (is_some is_new) (contents_of list.now) (account_of self.old) (account_of self.new)) }
-        ensures next { sets_in self.new.next ≡ sets_in self.old.next }
-    {
-        let numbers = self.lists.numbers(list)?;
-        match spent_with(self.spent, list.len(), self.lists.len()) {
-            None => {
-                self.is_spent = true;
-                Ok(None)
-            }
-            Some(spent) => {
-                self.spent = spent;
-                let is_new = self.lists.remember_numbers(numbers)?;
-                Ok(Some(is_new))
-            }
+    /// Remembers a list of fields of different numbers. Whether it was not remembered before is given.
+    pub(crate) fn remember(&mut self, alloc: Global, list: &[Member<'_>]) -> Result<bool, AllocError> {
+        let mut numbers = Vec::with_capacity(alloc, list.len())?;
+        for member in list {
+            numbers.push(member.number)?;
         }
+        self.lists.remember(numbers)
+    }
+
+    /// Remembers a list of two fields, or of one where both have its number. Whether it was not remembered before is given.
+    pub(crate) fn remember_two(
+        &mut self,
+        one: Member<'_>,
+        other: Member<'_>,
+    ) -> Result<bool, AllocError> {
+        self.lists.remember_two(one.number, other.number)
+    }
+
+    /// Notes that nodes are looked at as a list. Whether their sets were not noted before is given.
+    pub(crate) fn note_list(
+        &mut self,
+        alloc: Global,
+        sets: &FieldSets<'_>,
+        nodes: &[usize],
+    ) -> Result<bool, AllocError> {
+        let mut numbers = Vec::with_capacity(alloc, nodes.len())?;
+        for node in nodes {
+            numbers.push(sets.number(*node))?;
+        }
+        self.expanded.remember(numbers)
+    }
+
+    /// Notes that two nodes are looked at together. Whether their sets were not noted before is given.
+    pub(crate) fn note_pair(&mut self, sets: &FieldSets<'_>, pair: Pair) -> Result<bool, AllocError> {
+        self.looked.remember(sets.number(pair.one), sets.number(pair.other))
+    }
+
+    /// Leaves a pair for the next level, unless it was looked at before.
+    pub(crate) fn leave_pair(&mut self, sets: &FieldSets<'_>, pair: Pair) -> Result<(), AllocError> {
+        if self.note_pair(sets, pair)? {
+            self.next.pairs.push(pair)?;
+        }
+        Ok(())
     }
 }

@@ -1,84 +1,60 @@
-//! The examination of two sets or fragments that are looked at together.
-ghost use Rattle.std.specs.Prelude.{◌≡◌, ◌<◌, ◌∷◌, [], length, IsTrue, OnOk, IfOk};
-ghost use Rattle.std.specs.Str.{bytes_eq};
-ghost use Rattle.rule_field_groups.specs.Grouped.{key_of};
-ghost use Rattle.rule_field_groups.specs.Below.{meant_sets};
-ghost use Rattle.rule_merging.specs.Remembered.{two_of};
-ghost use Rattle.rule_merging.specs.Twos.{are_two, are_of, IsListOf, GrowsByTwo};
-ghost use Rattle.rule_merging.specs.Examined.{ExaminesPair, ExaminesPairs, GrowsOver, GrowsOverTwo, GrowsHere};
-ghost use Rattle.rule_merging.specs.OfProgram.{Comes, ExaminesThese, PairsOf};
+//! The examination of two sets that are looked at together.
 
 use crate::examination::Examination;
 use crate::remembered::{Pair, Remembered};
-use rule_field_groups::{Breach, FieldSelection, SelectedSet, own_fields_of, sources_of};
-use std::alloc::{AllocError, Global};
-
-/// Whether two fields are answered under one key.
-fn have_one_key(one: FieldSelection<'_>, other: FieldSelection<'_>) -> bool
-    ensures { result ≡ bytes_eq (key_of one.entry) (key_of other.entry) }
-{
-    one.response_key().as_str() == other.response_key().as_str()
-}
-
-/// Two fields, or one of them where both say the same.
-fn list_of_two<'doc>(
-    alloc: Global,
-    one: FieldSelection<'doc>,
-    other: FieldSelection<'doc>,
-) -> Result<Vec<FieldSelection<'doc>>, AllocError>
-    ensures { IfOk result (λ list. IsListOf one.entry other.entry list.items) }
-{
-    let mut list = Vec::new(alloc);
-    list.push(one)?;
-    if one != other {
-        list.push(other)?;
-    }
-    Ok(list)
-}
+use rule_field_groups::{Breach, Member, check_two_fields, go_together};
+use std::alloc::AllocError;
 
 /// Whether more is told than so many breaches.
-fn is_told(breaches: &[Breach], told: usize) -> bool
-    ensures { IsTrue result → told < length breaches.now }
-{
+fn is_told(breaches: &[Breach], told: usize) -> bool {
     breaches.len() > told
 }
 
-impl<'doc> Examination<'doc> {
-    /// Compares two fields of one key, if they were not compared before, and adds the lists of sets below them.
-    fn examine_two_fields(
+impl<'doc> Examination<'_, 'doc> {
+    /// Leaves the sets of two fields as a pair, if both have selections.
+    fn leave_below_two(
         &self,
-        one: FieldSelection<'doc>,
-        other: FieldSelection<'doc>,
-        examined: &mut Remembered<'doc>,
-        breaches: &mut Vec<Breach>,
-    ) -> Result<(), AllocError>
-        ensures examined { OnOk result (PairsOf self.now (are_two one.entry other.entry) examined.old examined.new breaches.old breaches.new) }
-        ensures counted { GrowsByTwo self.now (are_two one.entry other.entry) examined.old examined.new }
-    {
-        if !have_one_key(one, other) {
-            return Ok(());
+        one: Member<'doc>,
+        other: Member<'doc>,
+        examined: &mut Remembered,
+    ) -> Result<(), AllocError> {
+        match (one.below, other.below) {
+            (Some(one), Some(other)) => examined.leave_pair(self.sets, Pair { one, other }),
+            _ => Ok(()),
         }
-        let list = list_of_two(*breaches.allocator(), one, other)?;
-        if !examined.remember(&list)? {
-            return Ok(());
-        }
-        let comparisons = &mut examined.comparisons;
-        self.examine_list(&list, &mut examined.next, breaches, comparisons)
     }
 
-    /// Compares a field with each of the others.
+    /// Compares two fields that go together, unless they were compared before, and leaves the sets below them.
+    fn examine_two_fields(
+        &self,
+        one: Member<'doc>,
+        other: Member<'doc>,
+        examined: &mut Remembered,
+        breaches: &mut Vec<Breach>,
+    ) -> Result<(), AllocError> {
+        if !examined.remember_two(one, other)? {
+            return Ok(());
+        }
+        if one.number != other.number {
+            let schema = self.sets.schema();
+            let comparisons = &mut examined.comparisons;
+            check_two_fields(self.pass, schema, one, other, breaches, comparisons)?;
+        }
+        self.leave_below_two(one, other, examined)
+    }
+
+    /// Compares a field with each of the others that go together with it.
     fn examine_with_each(
         &self,
-        one: FieldSelection<'doc>,
-        others: &[FieldSelection<'doc>],
-        examined: &mut Remembered<'doc>,
+        one: Member<'doc>,
+        others: &[Member<'doc>],
+        examined: &mut Remembered,
         breaches: &mut Vec<Breach>,
-    ) -> Result<(), AllocError>
-        ensures examined { OnOk result (PairsOf self.now (are_of (one.entry ∷ []) others.now) examined.old examined.new breaches.old breaches.new) }
-        ensures counted { GrowsByTwo self.now (are_of (one.entry ∷ []) others.now) examined.old examined.new }
-    {
+    ) -> Result<(), AllocError> {
         for other in others {
-            self.examine_two_fields(one, *other, examined, breaches)?;
+            if go_together(self.pass, one, *other) {
+                self.examine_two_fields(one, *other, examined, breaches)?;
+            }
         }
         Ok(())
     }
@@ -87,14 +63,11 @@ impl<'doc> Examination<'doc> {
     /// as many as fields times fields.
     fn examine_each(
         &self,
-        ones: &[FieldSelection<'doc>],
-        others: &[FieldSelection<'doc>],
-        examined: &mut Remembered<'doc>,
+        ones: &[Member<'doc>],
+        others: &[Member<'doc>],
+        examined: &mut Remembered,
         breaches: &mut Vec<Breach>,
-    ) -> Result<(), AllocError>
-        ensures examined { OnOk result (PairsOf self.now (are_of ones.now others.now) examined.old examined.new breaches.old breaches.new) }
-        ensures counted { GrowsByTwo self.now (are_of ones.now others.now) examined.old examined.new }
-    {
+    ) -> Result<(), AllocError> {
         let told = breaches.len();
         for one in ones {
             if is_told(breaches, told) {
@@ -105,61 +78,112 @@ impl<'doc> Examination<'doc> {
         Ok(())
     }
 
-    /// Compares the own fields of the two, and looks at what each of them spreads with the other.
-    fn examine_pair(
+    /// Adds a pair to those that are left on this level, unless it was looked at before.
+    fn look_at(
         &self,
-        pair: Pair<'doc>,
-        examined: &mut Remembered<'doc>,
-        breaches: &mut Vec<Breach>,
-    ) -> Result<(), AllocError>
-        ensures examined { OnOk result (Comes (ExaminesPair self.now (two_of pair.entry)) examined.old examined.new breaches.old breaches.new) }
-        ensures counted { GrowsOverTwo self.now (two_of pair.entry) examined.old examined.new }
-    {
-        let alloc = *breaches.allocator();
-        let fragments = &self.document.fragments;
-        let Pair { one, other } = pair;
-        let ones = own_fields_of(alloc, one, fragments)?;
-        let others = own_fields_of(alloc, other, fragments)?;
-        self.examine_each(&ones, &others, examined, breaches)?;
-        let spreads = sources_of(alloc, one, fragments)?;
-        examined.look_at_each(&spreads, other)?;
-        let spreads = sources_of(alloc, other, fragments)?;
-        examined.look_before_each(one, &spreads)
-    }
-
-    /// Examines the pairs, and those that come to them, up to the first that is told of.
-    fn examine_pairs(
-        &self,
-        examined: &mut Remembered<'doc>,
-        breaches: &mut Vec<Breach>,
-    ) -> Result<(), AllocError>
-        ensures examined { OnOk result (Comes (ExaminesPairs self.now) examined.old examined.new breaches.old breaches.new) }
-        ensures counted { GrowsHere self.now examined.old examined.new }
-    {
-        let told = breaches.len();
-        let mut done = 0;
-        while done < examined.pairs.len() {
-            if is_told(breaches, told) {
-                return Ok(());
-            }
-            let pair = examined.pairs[done];
-            self.examine_pair(pair, examined, breaches)?;
-            done += 1;
+        pair: Pair,
+        examined: &mut Remembered,
+        left: &mut Vec<Pair>,
+    ) -> Result<(), AllocError> {
+        if examined.note_pair(self.sets, pair)? {
+            left.push(pair)?;
         }
         Ok(())
     }
 
-    /// Examines what each two of the sets select, and what each of them does.
+    /// Looks at each of these fragments with the other node.
+    fn look_at_each(
+        &self,
+        fragments: &[usize],
+        other: usize,
+        examined: &mut Remembered,
+        left: &mut Vec<Pair>,
+    ) -> Result<(), AllocError> {
+        for fragment in fragments {
+            let one = self.sets.start(*fragment);
+            self.look_at(Pair { one, other }, examined, left)?;
+        }
+        Ok(())
+    }
+
+    /// Looks at the one node with each of these fragments.
+    fn look_before_each(
+        &self,
+        one: usize,
+        fragments: &[usize],
+        examined: &mut Remembered,
+        left: &mut Vec<Pair>,
+    ) -> Result<(), AllocError> {
+        for fragment in fragments {
+            let other = self.sets.start(*fragment);
+            self.look_at(Pair { one, other }, examined, left)?;
+        }
+        Ok(())
+    }
+
+    /// Compares the fields of the two, and looks at what each of them spreads with the other.
+    fn examine_pair(
+        &self,
+        pair: Pair,
+        examined: &mut Remembered,
+        left: &mut Vec<Pair>,
+        breaches: &mut Vec<Breach>,
+    ) -> Result<(), AllocError> {
+        let Pair { one, other } = pair;
+        let sets = self.sets;
+        self.examine_each(sets.members(one), sets.members(other), examined, breaches)?;
+        self.look_at_each(sets.spreads(one), other, examined, left)?;
+        self.look_before_each(one, sets.spreads(other), examined, left)
+    }
+
+    /// Examines the pairs, the last first, and those that come to them, up to the first that is told of.
+    pub(crate) fn examine_pairs(
+        &self,
+        examined: &mut Remembered,
+        left: &mut Vec<Pair>,
+        breaches: &mut Vec<Breach>,
+    ) -> Result<(), AllocError> {
+        let told = breaches.len();
+        while let Some(pair) = left.pop() {
+            self.examine_pair(pair, examined, left, breaches)?;
+            if is_told(breaches, told) {
+                return Ok(());
+            }
+        }
+        Ok(())
+    }
+
+    /// Examines each of these nodes with another one, each pair to its end before the next.
+    fn examine_with(
+        &self,
+        nodes: &[usize],
+        other: usize,
+        examined: &mut Remembered,
+        breaches: &mut Vec<Breach>,
+    ) -> Result<(), AllocError> {
+        let mut left = Vec::new(*breaches.allocator());
+        for one in nodes {
+            let one = *one;
+            self.look_at(Pair { one, other }, examined, &mut left)?;
+            self.examine_pairs(examined, &mut left, breaches)?;
+        }
+        Ok(())
+    }
+
+    /// Examines what each two of the nodes select, and what each of them does.
     pub(crate) fn examine_twos(
         &self,
-        sets: &[SelectedSet<'doc>],
-        examined: &mut Remembered<'doc>,
+        nodes: &[usize],
+        examined: &mut Remembered,
         breaches: &mut Vec<Breach>,
-    ) -> Result<(), AllocError>
-        ensures examined { OnOk result (ExaminesThese self.now sets.now examined.old examined.new breaches.old breaches.new) }
-        ensures counted { GrowsOver self.now (meant_sets sets.now ∷ []) examined.old examined.new }
-    {
-        examined.look_at_twos(sets)?;
-        self.examine_pairs(examined, breaches)
+    ) -> Result<(), AllocError> {
+        let told = breaches.len();
+        for last in 0..nodes.len() {
+            if is_told(breaches, told) {
+                return Ok(());
+            }
+            self.examine_with(&nodes[..=last], nodes[last], examined, breaches)?;
+        }
+        Ok(())
     }
 }

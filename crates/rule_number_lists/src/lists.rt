@@ -1,51 +1,45 @@
 //! Lists of numbers that are remembered.
-ghost use Rattle.std.specs.Prelude.{◌≡◌, ℕ, [], IfOk, OnErr, IsPermutation, Contains, Vec};
-ghost use Rattle.std.specs.Global.{Global};
-ghost use Rattle.std.specs.List.Sorted.{IsNonDecreasing};
-ghost use Rattle.std.proofs.Props.{props};
 
+use crate::pairs::NumberPairs;
 use indexmap::IndexSet;
 use std::alloc::{AllocError, Global};
 
-/// Lists of numbers, remembered by which numbers they have, in whatever order these stand.
+/// Lists of different numbers, remembered by which numbers they have, in whatever order these stand. A list of two is a pair, and a
+/// list of one is a pair of it with itself.
+#[derive(Drop)]
 pub struct NumberLists {
-    lists: IndexSet<Vec<usize>>,
-    ghost ordered: { (v : Vec ℕ Global) → Contains lists.keys v → IsNonDecreasing v.items } by { Prim.hlevel props },
-}
-
-impl Drop for NumberLists {
-    fn drop(self) {
-        let NumberLists { lists: _ } = self;
-    }
+    pairs: NumberPairs,
+    longer: IndexSet<Vec<usize>>,
 }
 
 impl NumberLists {
-    ghost use Rattle.rule_number_lists.specs.NumberLists.{lists_kept, Keeps};
-
     /// None.
-    pub fn new(alloc: Global) -> NumberLists
-        ensures { lists_kept result ≡ [] }
-    {
+    pub fn new(alloc: Global) -> NumberLists {
         NumberLists {
-            lists: IndexSet::new(alloc),
+            pairs: NumberPairs::new(alloc),
+            longer: IndexSet::new(alloc),
         }
     }
 
-    /// Remembers a list. Whether it was not remembered before is given, in whatever order.
-    pub fn remember(&mut self, numbers: Vec<usize>) -> Result<bool, AllocError>
-        ensures keeps { IfOk result (λ is_new. Keeps (lists_kept self.old) numbers.items is_new (lists_kept self.new)) }
-        ensures refused { OnErr result (lists_kept self.new ≡ lists_kept self.old) }
-    {
-        let numbers = in_order(numbers);
-        Ok(self.lists.insert(numbers)?)
+    /// Remembers a list of two numbers, or of one where both are it. Whether it was not remembered before is given.
+    pub fn remember_two(&mut self, one: usize, other: usize) -> Result<bool, AllocError> {
+        self.pairs.remember(one, other)
+    }
+
+    /// Remembers a list of different numbers. Whether it was not remembered before is given, in whatever order. One without numbers
+    /// is remembered from the start.
+    pub fn remember(&mut self, numbers: Vec<usize>) -> Result<bool, AllocError> {
+        match numbers.as_slice() {
+            [] => Ok(false),
+            [one] => self.remember_two(*one, *one),
+            [one, other] => self.remember_two(*one, *other),
+            _ => Ok(self.longer.insert(in_order(numbers))?),
+        }
     }
 }
 
 /// The numbers in ascending order.
-fn in_order(mut numbers: Vec<usize>) -> Vec<usize>
-    ensures same { IsPermutation numbers.items result.items }
-    ensures ordered { IsNonDecreasing result.items }
-{
+fn in_order(mut numbers: Vec<usize>) -> Vec<usize> {
     numbers.sort_unstable();
     numbers
 }

@@ -1,0 +1,124 @@
+//! Numbers of fields and of sets, by what is written.
+
+use crate::found::{FoundField, FoundSet};
+use crate::member::Member;
+use graphql_names::{Name, Node};
+use indexmap::{IndexMap, IndexSet};
+use std::alloc::{AllocError, Global};
+use tree_directives::Argument;
+use tree_literals::Type;
+
+/// What merging reads of a field: its own set by its number.
+#[derive(Clone, Copy, PartialEq, Eq, Hash)]
+struct FieldKey<'doc> {
+    key: usize,
+    parent: usize,
+    set: Option<usize>,
+    name: &'doc Name,
+    ty: &'doc Type,
+    arguments: &'doc Vec<Node<Argument>>,
+}
+
+/// What is written in a set: the fields by their numbers, and the names of fragments.
+#[derive(PartialEq, Eq, Hash)]
+struct SetKey<'doc> {
+    fields: Vec<usize>,
+    spreads: Vec<&'doc Name>,
+}
+
+// Not derived: a derived drop is proved again in each crate that drops one.
+impl Drop for SetKey<'_> {
+    fn drop(self) {
+        let SetKey {
+            fields: _,
+            spreads: _,
+        } = self;
+    }
+}
+
+/// The contents that have numbers: each number is a place here. Of a field there is also the newest node that has it.
+#[derive(Drop)]
+pub(crate) struct Numbers<'doc> {
+    keys: IndexSet<&'doc Name>,
+    fields: IndexMap<FieldKey<'doc>, usize>,
+    sets: IndexSet<SetKey<'doc>>,
+}
+
+/// The members of a set that gets its number, and the numbers of all its fields as they are written.
+#[derive(Drop)]
+pub(crate) struct Numbered<'doc> {
+    pub(crate) members: Vec<Member<'doc>>,
+    pub(crate) written: Vec<usize>,
+}
+
+impl<'doc> Numbers<'doc> {
+    /// None.
+    pub(crate) fn new(alloc: Global) -> Numbers<'doc> {
+        Numbers {
+            keys: IndexSet::new(alloc),
+            fields: IndexMap::new(alloc),
+            sets: IndexSet::new(alloc),
+        }
+    }
+
+    /// The number of a response key.
+    fn key_number(&mut self, key: &'doc Name) -> Result<usize, AllocError> {
+        let (number, _) = self.keys.insert_full(key)?;
+        Ok(number)
+    }
+
+    /// The number of a field of a node, and whether the node has it already.
+    fn field_number(
+        &mut self,
+        field: FieldKey<'doc>,
+        node: usize,
+    ) -> Result<(usize, bool), AllocError> {
+        let (number, before) = self.fields.insert_full(field, node)?;
+        Ok((number, before == Some(node)))
+    }
+
+    /// Adds a field to a node, unless that has it. The node of its own set, and the number of that, are given.
+    pub(crate) fn add_field(
+        &mut self,
+        found: FoundField<'doc>,
+        node: usize,
+        below: Option<(usize, usize)>,
+        numbered: &mut Numbered<'doc>,
+    ) -> Result<(), AllocError> {
+        let selection = found.selection;
+        let field = selection.field.content();
+        let key = self.key_number(selection.response_key())?;
+        let written = FieldKey {
+            key,
+            parent: found.parent.number,
+            set: below.map(|(_, set)| set),
+            name: &field.name,
+            ty: field.ty(),
+            arguments: &field.arguments,
+        };
+        let (number, is_repeated) = self.field_number(written, node)?;
+        numbered.written.push(number)?;
+        if is_repeated {
+            return Ok(());
+        }
+        numbered.members.push(Member {
+            selection,
+            number,
+            key,
+            parent: found.parent.number,
+            is_shared: found.parent.is_abstract,
+            below: below.map(|(node, _)| node),
+        })?;
+        Ok(())
+    }
+
+    /// The number of a set of which these are the fields and spreads.
+    pub(crate) fn set_number(
+        &mut self,
+        fields: Vec<usize>,
+        spreads: Vec<&'doc Name>,
+    ) -> Result<usize, AllocError> {
+        let (number, _) = self.sets.insert_full(SetKey { fields, spreads })?;
+        Ok(number)
+    }
+}
