@@ -2,6 +2,7 @@
 //! would never come to an end, and pairs are no more than sets times sets.
 
 use indexmap::IndexSet;
+use rule_field_groups::Member;
 use std::alloc::{AllocError, Global};
 
 /// So many steps of walks are paid by each field that was met.
@@ -41,6 +42,16 @@ impl Account {
         }
         self.spent += 1;
         true
+    }
+
+    /// Meets fields, and spends a step on each. Whether all are paid is given.
+    pub(crate) fn meet_all(&mut self, fields: &[Member<'_>]) -> Result<bool, AllocError> {
+        for field in fields {
+            if !self.meet(field.number)? {
+                return Ok(false);
+            }
+        }
+        Ok(true)
     }
 
     /// Meets a field, and spends a step on it. Whether that is paid is given.

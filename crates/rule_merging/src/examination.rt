@@ -2,7 +2,7 @@
 
 use crate::expansion::expand;
 use crate::remembered::{Left, Remembered};
-use rule_field_groups::{Breach, FieldSets, Pass};
+use rule_field_groups::{Breach, FieldSets, Member, Pass};
 use std::alloc::{AllocError, Global};
 use std::mem::replace;
 
@@ -16,7 +16,20 @@ pub(crate) struct Examination<'a, 'doc> {
     pub(crate) sets: &'a FieldSets<'doc>,
 }
 
-impl Examination<'_, '_> {
+impl<'doc> Examination<'_, 'doc> {
+    /// Examines a list of fields, unless one with the same contents was examined before.
+    fn examine_new(
+        &self,
+        list: &[Member<'doc>],
+        examined: &mut Remembered,
+        breaches: &mut Vec<Breach>,
+    ) -> Result<(), AllocError> {
+        if !examined.remember(*breaches.allocator(), list)? {
+            return Ok(());
+        }
+        self.examine_list(list, examined, breaches)
+    }
+
     /// Examines what some sets select: all of it, unless a list with the same contents was examined before; or where the walk over
     /// them is not paid, what each two of them select.
     fn examine_paid(
@@ -29,10 +42,37 @@ impl Examination<'_, '_> {
         let Some(list) = expand(alloc, self.sets, nodes, &mut examined.account)? else {
             return self.examine_twos(nodes, examined, breaches);
         };
-        if !examined.remember(alloc, &list)? {
+        self.examine_new(&list, examined, breaches)
+    }
+
+    /// Examines what a set selects, unless it was looked at before. One without spreads is a list as it stands.
+    fn examine_one(
+        &self,
+        node: usize,
+        examined: &mut Remembered,
+        breaches: &mut Vec<Breach>,
+    ) -> Result<(), AllocError> {
+        if !examined.note_one(self.sets, node)? {
             return Ok(());
         }
-        self.examine_list(&list, examined, breaches)
+        let members = self.sets.members(node);
+        if self.sets.spreads(node).is_empty() && examined.account.meet_all(members)? {
+            return self.examine_new(members, examined, breaches);
+        }
+        self.examine_paid(&[node], examined, breaches)
+    }
+
+    /// Examines what each of these sets selects.
+    fn examine_ones(
+        &self,
+        nodes: &[usize],
+        examined: &mut Remembered,
+        breaches: &mut Vec<Breach>,
+    ) -> Result<(), AllocError> {
+        for node in nodes {
+            self.examine_one(*node, examined, breaches)?;
+        }
+        Ok(())
     }
 
     /// Examines what some sets select, unless these were looked at before.
@@ -68,7 +108,12 @@ impl Examination<'_, '_> {
         examined: &mut Remembered,
         breaches: &mut Vec<Breach>,
     ) -> Result<Left, AllocError> {
-        let Left { lists, mut pairs } = level;
+        let Left {
+            ones,
+            lists,
+            mut pairs,
+        } = level;
+        self.examine_ones(&ones, examined, breaches)?;
         self.examine_lists(&lists, examined, breaches)?;
         self.examine_pairs(examined, &mut pairs, breaches)?;
         Ok(replace(
@@ -86,7 +131,7 @@ impl Examination<'_, '_> {
         breaches: &mut Vec<Breach>,
     ) -> Result<bool, AllocError> {
         let mut level = Left::new(alloc);
-        level.push_one(start)?;
+        level.ones.push(start)?;
         let mut length = 0;
         while length < CHAIN_BOUND && !level.is_empty() {
             level = self.examine_level(level, examined, breaches)?;

@@ -38,7 +38,7 @@ impl<'doc> Examination<'_, 'doc> {
     ) -> Result<(), AllocError> {
         match member.below {
             None => Ok(()),
-            Some(node) => examined.next.push_one(node),
+            Some(node) => Ok(examined.next.ones.push(node)?),
         }
     }
 

@@ -28,12 +28,18 @@ impl Examination<'_, '_> {
         Ok(false)
     }
 
+    /// Adds nodes.
+    fn add_ones(ones: &[usize], nodes: &mut IndexSet<usize>) -> Result<(), AllocError> {
+        for node in ones {
+            nodes.insert(*node)?;
+        }
+        Ok(())
+    }
+
     /// Adds the nodes of lists.
     fn add_lists(lists: &[Vec<usize>], nodes: &mut IndexSet<usize>) -> Result<(), AllocError> {
         for list in lists {
-            for node in list {
-                nodes.insert(*node)?;
-            }
+            Self::add_ones(list, nodes)?;
         }
         Ok(())
     }
@@ -50,6 +56,7 @@ impl Examination<'_, '_> {
     /// Whether what is left selects a field.
     pub(crate) fn have_fields(&self, alloc: Global, left: &Left) -> Result<bool, AllocError> {
         let mut nodes = IndexSet::new(alloc);
+        Self::add_ones(&left.ones, &mut nodes)?;
         Self::add_lists(&left.lists, &mut nodes)?;
         Self::add_pairs(&left.pairs, &mut nodes)?;
         self.select_fields(&mut nodes)

@@ -49,6 +49,10 @@ pub fn examine_operation<'doc>(
         sets,
     };
     let left = by_shape.examine_all(alloc, start, &mut examined.shapes, breaches)?;
+    if examined.shapes.comparisons == 0 {
+        // No two different fields of one key were met so far: none differ in name or arguments.
+        return Ok(left);
+    }
     let by_selection = Examination {
         pass: Pass::Selections,
         sets,

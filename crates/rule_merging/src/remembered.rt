@@ -12,9 +12,10 @@ pub(crate) struct Pair {
     pub(crate) other: usize,
 }
 
-/// What is left to examine: lists of nodes, whose fields are examined together, and pairs of nodes.
+/// What is left to examine: single nodes, lists of nodes, whose fields are examined together, and pairs of nodes.
 #[derive(Drop)]
 pub(crate) struct Left {
+    pub(crate) ones: Vec<usize>,
     pub(crate) lists: Vec<Vec<usize>>,
     pub(crate) pairs: Vec<Pair>,
 }
@@ -23,6 +24,7 @@ impl Left {
     /// Nothing.
     pub(crate) fn new(alloc: Global) -> Left {
         Left {
+            ones: Vec::new(alloc),
             lists: Vec::new(alloc),
             pairs: Vec::new(alloc),
         }
@@ -30,14 +32,7 @@ impl Left {
 
     /// Whether nothing is left.
     pub(crate) fn is_empty(&self) -> bool {
-        self.lists.is_empty() && self.pairs.is_empty()
-    }
-
-    /// Adds a list of one node.
-    pub(crate) fn push_one(&mut self, node: usize) -> Result<(), AllocError> {
-        let list = Vec::from_slice(*self.lists.allocator(), &[node])?;
-        self.lists.push(list)?;
-        Ok(())
+        self.ones.is_empty() && self.lists.is_empty() && self.pairs.is_empty()
     }
 }
 
@@ -88,6 +83,12 @@ impl Remembered {
         other: Member<'_>,
     ) -> Result<bool, AllocError> {
         self.lists.remember_two(one.number, other.number)
+    }
+
+    /// Notes that a node is looked at. Whether its set was not noted before is given.
+    pub(crate) fn note_one(&mut self, sets: &FieldSets<'_>, node: usize) -> Result<bool, AllocError> {
+        let number = sets.number(node);
+        self.expanded.remember_two(number, number)
     }
 
     /// Notes that nodes are looked at as a list. Whether their sets were not noted before is given.

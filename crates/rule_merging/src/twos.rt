@@ -153,6 +153,21 @@ impl<'doc> Examination<'_, 'doc> {
         Ok(())
     }
 
+    /// Examines a pair and those that come to it, to the end, unless it was looked at before.
+    fn examine_two(
+        &self,
+        pair: Pair,
+        examined: &mut Remembered,
+        left: &mut Vec<Pair>,
+        breaches: &mut Vec<Breach>,
+    ) -> Result<(), AllocError> {
+        if !examined.note_pair(self.sets, pair)? {
+            return Ok(());
+        }
+        self.examine_pair(pair, examined, left, breaches)?;
+        self.examine_pairs(examined, left, breaches)
+    }
+
     /// Examines each of these nodes with another one, each pair to its end before the next.
     fn examine_with(
         &self,
@@ -164,8 +179,7 @@ impl<'doc> Examination<'_, 'doc> {
         let mut left = Vec::new(*breaches.allocator());
         for one in nodes {
             let one = *one;
-            self.look_at(Pair { one, other }, examined, &mut left)?;
-            self.examine_pairs(examined, &mut left, breaches)?;
+            self.examine_two(Pair { one, other }, examined, &mut left, breaches)?;
         }
         Ok(())
     }
