@@ -7,6 +7,7 @@ use graphql_names::SourceSpan;
 use std::alloc::AllocError;
 
 /// What breaks a rule, and where: None where there is no place.
+#[derive(PartialEq, Eq, Hash)]
 pub struct Fault {
     pub location: Option<SourceSpan>,
     pub data: DiagnosticData,
@@ -40,19 +41,5 @@ impl Fault {
             location: self.location,
             data,
         })
-    }
-}
-
-/// Adds the fault at the end, if there is one. After a refusal the list is as it was.
-pub fn tell(faults: &mut Vec<Fault>, fault: Option<Fault>) -> Result<(), AllocError>
-    ensures told { OnOk result (faults_of faults.new ≡ faults_of faults.old ++ map fault_of (option_to_list fault)) }
-    ensures kept { OnErr result (faults_of faults.new ≡ faults_of faults.old) }
-{
-    match fault {
-        None => Ok(()),
-        Some(fault) => {
-            faults.push(fault)?;
-            Ok(())
-        }
     }
 }

@@ -11,13 +11,15 @@ mod coordinate_copies;
 mod copy;
 mod diagnostic_data;
 mod fault;
+mod faults;
 mod message;
 mod schema_copies;
 mod template;
 mod use_copies;
 
 pub use diagnostic_data::DiagnosticData;
-pub use fault::{Fault, tell};
+pub use fault::Fault;
+pub use faults::{Faults, tell};
 pub use schema_coordinates::{
     DirectiveArgumentCoordinate, DirectiveCoordinate, FieldArgumentCoordinate, SchemaCoordinate,
     TypeAttributeCoordinate,

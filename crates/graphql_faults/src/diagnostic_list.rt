@@ -8,7 +8,7 @@ ghost use Rattle.graphql_faults.specs.DetailsTree.{of_rule, of_folding, of_typin
 ghost use Rattle.graphql_faults.specs.DetailsView.{details_at, diagnostics_of, BeginsAs};
 
 use crate::details::Details;
-use fault_data::Fault;
+use fault_data::{Fault, Faults};
 use fault_document_data::BuildError as DocumentError;
 use graphql_names::SourceSpan;
 use schema_fold::BuildError as SchemaError;
@@ -65,11 +65,11 @@ impl DiagnosticList {
     }
 
     /// Moves what breaks rules to the end, in order. After a refusal the list begins as before.
-    pub fn append_faults(&mut self, faults: Vec<Fault>) -> Result<(), AllocError>
+    pub fn append_faults(&mut self, faults: Faults) -> Result<(), AllocError>
         ensures added { OnOk result (diagnostics_of self.new ≡ diagnostics_of self.old ++ map of_rule (faults_of faults)) }
         ensures begins { OnErr result (BeginsAs (diagnostics_of self.old) (diagnostics_of self.new)) }
     {
-        for fault in faults {
+        for fault in faults.into_inner() {
             self.push_fault(fault)?;
         }
         Ok(())

@@ -58,8 +58,23 @@ impl Hash for Name {
     ghost respects_eq = { Prim.search (hashing, rules) };
 
     fn hash<H: Hasher>(&self, state: &mut H) {
-        self.as_str().hash(state);
+        hash_pieces(self.as_str().as_bytes(), state);
     }
+}
+
+/// The greatest length of a piece of a name that is hashed at once. In a longer one two halves are multiplied, so that the one can
+/// make the other count for nothing.
+const PIECE: usize = 8;
+
+/// Hashes bytes piece by piece.
+fn hash_pieces<H: Hasher>(bytes: &[u8], state: &mut H) {
+    let mut left = bytes;
+    while left.len() > PIECE {
+        let (piece, rest) = left.split_at(PIECE);
+        state.write(piece);
+        left = rest;
+    }
+    state.write(left);
 }
 
 impl fmt::Display for Name {

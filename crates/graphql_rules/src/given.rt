@@ -8,6 +8,7 @@ ghost use Rattle.graphql_faults.specs.DetailsView.{diagnostics_of, BeginsAs};
 ghost use Rattle.graphql_rules.specs.Appends.{Appends};
 ghost use Rattle.graphql_rules.specs.Given.{Each, LeadsToDirective, UsesTold, UsageTold};
 
+use fault_data::Faults;
 use graphql_faults::DiagnosticList;
 use graphql_names::Node;
 use rule_cycles::Schema;
@@ -50,7 +51,7 @@ pub fn validate_directives<D: Deref<Target = Node<Directive>> + Drop, I: IntoIte
 {
     // The rules take a slice, so what the iterator gives is gathered, shared.
     let nodes = nodes_of(alloc, directives)?;
-    let mut faults = Vec::new(alloc);
+    let mut faults = Faults::new(alloc);
     let variables = DefinedVariables::new(alloc, variables)?;
     check_directives(schema, &nodes, location, &variables, &mut faults)?;
     list.append_faults(faults)
@@ -66,7 +67,7 @@ pub fn validate_arguments(
     ensures told { OnOk result (Appends (diagnostics_of list.old) (diagnostics_of list.new) (ArgumentsBreak (arguments_of arguments.now))) }
     ensures begins { OnErr result (BeginsAs (diagnostics_of list.old) (diagnostics_of list.new)) }
 {
-    let mut faults = Vec::new(alloc);
+    let mut faults = Faults::new(alloc);
     check_arguments_alone(arguments, &mut faults)?;
     list.append_faults(faults)
 }

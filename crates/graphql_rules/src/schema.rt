@@ -11,7 +11,7 @@ ghost use Rattle.rule_schema_laws.specs.Implementing.{ImplementsInOrder};
 ghost use Rattle.graphql_rules.specs.SchemaTold.{TellsSchema, SchemaTold, ValidSchemaMeansSilence, SilenceGivesLiterals};
 
 use crate::kept::kept_types;
-use fault_data::Fault;
+use fault_data::Faults;
 use graphql_faults::DiagnosticList;
 use rule_cycles::laws::names_differ;
 use rule_cycles::{Schema, check_cycles};
@@ -56,11 +56,11 @@ pub fn validate_schema(
 }
 
 /// What breaks the rules on schemas.
-fn schema_faults(alloc: Global, schema: &Schema) -> Result<Vec<Fault>, AllocError>
+fn schema_faults(alloc: Global, schema: &Schema) -> Result<Faults, AllocError>
     requires { AreAllDistinct (schema_tree schema.now) }
     ensures { IfOk result (λ faults. TellsSchema (schema_tree schema.now) (faults_of faults)) }
 {
-    let mut faults = Vec::new(alloc);
+    let mut faults = Faults::new(alloc);
     check_types(alloc, schema, &mut faults)?;
     check_interfaces(alloc, schema, &mut faults)?;
     check_cycles(alloc, schema, &mut faults)?;

@@ -4,6 +4,7 @@ ghost use Rattle.rule_cycles.specs.in_schema.SchemaOf.{schema_tree};
 ghost use Rattle.graphql_faults.specs.DetailsView.{diagnostics_of, BeginsAs};
 ghost use Rattle.graphql_rules.specs.ValueTold.{ValueTold, TypeAccepts};
 
+use fault_data::Faults;
 use graphql_faults::DiagnosticList;
 use graphql_names::Node;
 use rule_cycles::Schema;
@@ -27,7 +28,7 @@ pub fn value_of_correct_type(
     ensures silent { OnOk result ((diagnostics_of list.new ≡ diagnostics_of list.old) ↔ TypeAccepts (schema_tree schema.now) variables.now ty.now value.now) }
     ensures begins { OnErr result (BeginsAs (diagnostics_of list.old) (diagnostics_of list.new)) }
 {
-    let mut faults = Vec::new(alloc);
+    let mut faults = Faults::new(alloc);
     let variables = DefinedVariables::new(alloc, variables)?;
     check_value(schema, ty, value, &variables, &mut faults)?;
     list.append_faults(faults)

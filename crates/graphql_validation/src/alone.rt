@@ -7,7 +7,7 @@ ghost use Rattle.graphql_validation.specs.Steps.{FindsAlone, NotesReached, Finds
 
 use crate::found::{Found, check_fragments, note_fragments};
 use document_typed_operations::{ExecutableDocument, Operation};
-use fault_data::Fault;
+use fault_data::Faults;
 use graphql_names::Node;
 use rule_fragments::{check_spreads, reach};
 use rule_selections::check_selections_alone;
@@ -38,6 +38,9 @@ fn check_operations(document: &ExecutableDocument, found: &mut Found) -> Result<
     ensures noted { OnOk result (NotesAllReached (document_meant document.now) found.old found.new) }
 {
     for operation in document.operations.iter() {
+        if found.faults.is_full() {
+            return Ok(());
+        }
         check_operation(document, operation, found)?;
     }
     Ok(())
@@ -47,7 +50,7 @@ fn check_operations(document: &ExecutableDocument, found: &mut Found) -> Result<
 pub(crate) fn faults_alone(
     alloc: Global,
     document: &ExecutableDocument,
-) -> Result<Vec<Fault>, AllocError>
+) -> Result<Faults, AllocError>
     ensures { IfOk result (λ r. TellsAlone (document_meant document.now) (faults_of r)) }
 {
     let mut found = Found::new(alloc);

@@ -13,7 +13,7 @@ use crate::found::fragments_differ;
 use crate::told::append_all;
 use crate::under_schema::faults_under;
 use document_typed_operations::ExecutableDocument;
-use fault_data::Fault;
+use fault_data::Faults;
 use graphql_faults::DiagnosticList;
 use rule_fragments::Schema;
 use rule_merging::{Breach, FieldsInSetCanMerge};
@@ -21,11 +21,14 @@ use rule_subscriptions::{document_breaches, passes_path_bound};
 use std::alloc::{AllocError, Global};
 
 /// Whether there is nothing to tell.
-fn is_nothing(faults: &Vec<Fault>, breaches: &Vec<Breach>, is_passed: bool) -> bool
+fn is_nothing(faults: &Faults, breaches: &Vec<Breach>, is_passed: bool) -> bool
     ensures { IsTrue result ↔ ((faults_of faults.now ≡ []) × ((brokens_of breaches.now ≡ []) × (is_passed ≡ false))) }
 {
     faults.is_empty() && breaches.is_empty() && !is_passed
 }
+
+/// Where so many faults are told, no further operation is merged.
+const MOST_CONFLICTS: usize = 1_000;
 
 /// Adds what does not merge in each operation.
 fn merge_operations(
@@ -40,6 +43,9 @@ fn merge_operations(
 {
     let mut merger = FieldsInSetCanMerge::new(alloc, schema, document);
     for operation in document.operations.iter() {
+        if list.len() >= MOST_CONFLICTS {
+            return Ok(());
+        }
         merger.validate_operation(operation, list)?;
     }
     Ok(())

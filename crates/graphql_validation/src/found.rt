@@ -11,7 +11,7 @@ ghost use Rattle.graphql_validation.specs.Operations.{with_fragments};
 ghost use Rattle.graphql_validation.specs.Steps.{TellsFragments};
 
 use document_typed_operations::ExecutableDocument;
-use fault_data::Fault;
+use fault_data::Faults;
 use graphql_names::Name;
 use indexmap::IndexSet;
 use rule_fragments::{Reach, check_cycles, check_unused, note_name};
@@ -20,7 +20,7 @@ use std::alloc::{AllocError, Global};
 /// The faults that were found so far, and the names of the fragments that the operations so far reach.
 #[derive(Drop)]
 pub(crate) struct Found {
-    pub(crate) faults: Vec<Fault>,
+    pub(crate) faults: Faults,
     pub(crate) used: IndexSet<Name>,
 }
 
@@ -31,7 +31,7 @@ impl Found {
         ensures used { result.used.keys ≡ [] }
     {
         Found {
-            faults: Vec::new(alloc),
+            faults: Faults::new(alloc),
             used: IndexSet::new(alloc),
         }
     }
@@ -63,7 +63,7 @@ pub(crate) fn fragments_differ(document: &ExecutableDocument)
 pub(crate) fn check_fragments(
     document: &ExecutableDocument,
     found: Found,
-) -> Result<Vec<Fault>, AllocError>
+) -> Result<Faults, AllocError>
     ensures { IfOk result (λ r. TellsFragments (document_meant document.now) found (faults_of r)) }
 {
     let Found { mut faults, used } = found;

@@ -7,7 +7,7 @@ ghost use Rattle.rule_fragments.specs.in_ground.Broken.{brokens_of};
 ghost use Rattle.graphql_validation.specs.Operations.{bound_told, all_told};
 ghost use Rattle.graphql_validation.specs.Steps.{AddsDetails};
 
-use fault_data::Fault;
+use fault_data::Faults;
 use graphql_faults::{Details, DiagnosticList};
 use rule_merging::{Breach, append_breaches};
 use std::alloc::AllocError;
@@ -27,7 +27,7 @@ fn append_bound(list: &mut DiagnosticList, is_passed: bool) -> Result<(), AllocE
 /// before.
 pub(crate) fn append_all(
     list: &mut DiagnosticList,
-    faults: Vec<Fault>,
+    faults: Faults,
     breaches: Vec<Breach>,
     is_passed: bool,
 ) -> Result<(), AllocError>

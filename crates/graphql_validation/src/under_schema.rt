@@ -9,7 +9,7 @@ ghost use Rattle.graphql_validation.specs.Steps.{FindsUnder, NotesUnder, StayPos
 
 use crate::found::{Found, check_fragments, note_fragments};
 use document_typed_operations::{ExecutableDocument, FragmentMap, Operation};
-use fault_data::Fault;
+use fault_data::Faults;
 use graphql_names::Node;
 use rule_fragments::{PossibleTypes, Schema, check_applications, check_spreads, reach};
 use rule_selections::{check_selections, settled_fragments};
@@ -54,6 +54,9 @@ fn check_operations(
     ensures right { OnOk result (StayPossible (schema_tree schema.now) possible.old possible.new) }
 {
     for operation in document.operations.iter() {
+        if found.faults.is_full() {
+            return Ok(());
+        }
         check_operation(schema, possible, fragments, operation, found)?;
     }
     Ok(())
@@ -66,7 +69,7 @@ pub(crate) fn faults_under(
     alloc: Global,
     schema: &Schema,
     document: &ExecutableDocument,
-) -> Result<Vec<Fault>, AllocError>
+) -> Result<Faults, AllocError>
     ensures { IfOk result (λ r. TellsUnder (schema_tree schema.now) (document_meant document.now) (faults_of r)) }
 {
     let mut possible = None;

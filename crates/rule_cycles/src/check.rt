@@ -8,7 +8,7 @@ ghost use Rattle.rule_cycles.specs.Told.{CyclesTold};
 use crate::check_directives::check_directive_cycles;
 use crate::check_inputs::check_input_cycles;
 use crate::judging::Judging;
-use fault_data::Fault;
+use fault_data::Faults;
 use graphql_schema::Schema;
 use std::alloc::{AllocError, Global};
 
@@ -17,7 +17,7 @@ use std::alloc::{AllocError, Global};
 pub fn check_cycles(
     alloc: Global,
     schema: &Schema,
-    faults: &mut Vec<Fault>,
+    faults: &mut Faults,
 ) -> Result<(), AllocError>
     requires { AreAllDistinct (schema_tree schema.now) }
     ensures { OnOk result (CyclesTold (schema_tree schema.now) (faults_of faults.old) (faults_of faults.new)) }

@@ -8,7 +8,7 @@ ghost use Rattle.rule_cycles.specs.Told.{DirectivesTold};
 use crate::directive_faults::{deeply_nested_directive, recursive_directive_definition};
 use crate::judging::Judging;
 use crate::uses::references_of_definitions;
-use fault_data::Fault;
+use fault_data::Faults;
 use rule_cycle_search::{Found, ways_back};
 use std::alloc::AllocError;
 
@@ -16,7 +16,7 @@ use std::alloc::AllocError;
 /// 3.13), or that such ways are too long.
 pub(crate) fn check_directive_cycles(
     judging: &Judging<'_>,
-    faults: &mut Vec<Fault>,
+    faults: &mut Faults,
 ) -> Result<(), AllocError>
     requires { AreAllDistinct (schema_of judging.now) }
     ensures { OnOk result (DirectivesTold (schema_of judging.now) (faults_of faults.old) (faults_of faults.new)) }
@@ -24,6 +24,9 @@ pub(crate) fn check_directive_cycles(
     let references = references_of_definitions(judging.alloc, judging.schema)?;
     let all = ways_back(judging.alloc, &references.graph)?;
     for (root, found) in all.iter().enumerate() {
+        if faults.is_full() {
+            return Ok(());
+        }
         match found {
             Found::Nothing => {}
             Found::WayBack(path) => {

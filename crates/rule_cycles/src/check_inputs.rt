@@ -8,7 +8,7 @@ ghost use Rattle.rule_cycles.specs.Told.{InputsTold};
 use crate::input_faults::{deeply_nested_input_object, recursive_input_object_definition};
 use crate::inputs::references_of_types;
 use crate::judging::Judging;
-use fault_data::Fault;
+use fault_data::Faults;
 use rule_cycle_search::{Found, ways_back};
 use std::alloc::AllocError;
 
@@ -16,7 +16,7 @@ use std::alloc::AllocError;
 /// too long.
 pub(crate) fn check_input_cycles(
     judging: &Judging<'_>,
-    faults: &mut Vec<Fault>,
+    faults: &mut Faults,
 ) -> Result<(), AllocError>
     requires { AreAllDistinct (schema_of judging.now) }
     ensures { OnOk result (InputsTold (schema_of judging.now) (faults_of faults.old) (faults_of faults.new)) }
@@ -24,6 +24,9 @@ pub(crate) fn check_input_cycles(
     let references = references_of_types(judging.alloc, judging.schema)?;
     let all = ways_back(judging.alloc, &references.graph)?;
     for (root, found) in all.iter().enumerate() {
+        if faults.is_full() {
+            return Ok(());
+        }
         match found {
             Found::Nothing => {}
             Found::WayBack(path) => {

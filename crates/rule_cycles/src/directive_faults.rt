@@ -12,7 +12,7 @@ ghost use Rattle.rule_cycles.specs.DirectiveFaults.{directives_of, TellsDirectiv
 
 use crate::judging::Judging;
 use crate::uses::UseReferences;
-use fault_data::{DiagnosticData, Fault, tell};
+use fault_data::{DiagnosticData, Fault, Faults, tell};
 use graphql_names::{Node, SourceSpan};
 use std::alloc::{AllocError, Global};
 use tree_directives::{Directive, DirectiveDefinition};
@@ -68,7 +68,7 @@ pub(crate) fn recursive_directive_definition(
     references: &UseReferences,
     root: usize,
     path: &[usize],
-    faults: &mut Vec<Fault>,
+    faults: &mut Faults,
 ) -> Result<(), AllocError>
     requires { AreUseReferences (schema_of judging.now) references.now }
     ensures { OnOk result (AddsSuch faults.old faults.new (TellsDirective (schema_of judging.now) root path.now)) }
@@ -94,7 +94,7 @@ pub(crate) fn recursive_directive_definition(
 pub(crate) fn deeply_nested_directive(
     judging: &Judging<'_>,
     root: usize,
-    faults: &mut Vec<Fault>,
+    faults: &mut Faults,
 ) -> Result<(), AllocError>
     ensures { OnOk result (AddsSuch faults.old faults.new (TellsDeepDirective (schema_of judging.now) root)) }
 {

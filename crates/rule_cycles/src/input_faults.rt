@@ -11,7 +11,7 @@ ghost use Rattle.rule_cycles.specs.FaultLists.{TellsInput, TellsDeepInput};
 
 use crate::inputs::InputReferences;
 use crate::judging::Judging;
-use fault_data::{DiagnosticData, Fault, tell};
+use fault_data::{DiagnosticData, Fault, Faults, tell};
 use graphql_names::Node;
 use std::alloc::{AllocError, Global};
 use tree_directives::InputValueDefinition;
@@ -60,7 +60,7 @@ pub(crate) fn recursive_input_object_definition(
     references: &InputReferences,
     root: usize,
     path: &[usize],
-    faults: &mut Vec<Fault>,
+    faults: &mut Faults,
 ) -> Result<(), AllocError>
     requires { AreInputReferences (schema_of judging.now) references.now }
     ensures { OnOk result (AddsSuch faults.old faults.new (TellsInput (schema_of judging.now) root path.now)) }
@@ -86,7 +86,7 @@ pub(crate) fn recursive_input_object_definition(
 pub(crate) fn deeply_nested_input_object(
     judging: &Judging<'_>,
     root: usize,
-    faults: &mut Vec<Fault>,
+    faults: &mut Faults,
 ) -> Result<(), AllocError>
     ensures { OnOk result (AddsSuch faults.old faults.new (TellsDeepInput (schema_of judging.now) root)) }
 {

@@ -21,7 +21,7 @@ use crate::possible_types::PossibleTypes;
 use crate::targets::check_targets;
 use document_typed_operations::FragmentMap;
 use document_typed_selections::{FragmentSpread, InlineFragment, Selection};
-use fault_data::{DiagnosticData, Fault, tell};
+use fault_data::{DiagnosticData, Fault, Faults, tell};
 use graphql_names::{Name, Node, SourceSpan};
 use rule_cycles::Schema;
 use rule_document_ground::Reach;
@@ -124,14 +124,14 @@ fn type_location(schema: &Schema, name: &Name) -> Option<SourceSpan>
 /// `parent`.
 fn invalid_fragment_spread(
     schema: &Schema,
-    possible: &PossibleTypes,
+    possible: &mut PossibleTypes,
     parent: &Name,
     application: &Application<'_>,
-    faults: &mut Vec<Fault>,
+    faults: &mut Faults,
 ) -> Result<(), AllocError>
     ensures { OnOk result (AddsThese faults.old faults.new (invalid_spread (schema_tree schema.now) possible.now parent.now application.now)) }
 {
-    if possible.may_apply(parent, application.condition) {
+    if possible.may_apply(parent, application.condition)? {
         return Ok(());
     }
     let data = DiagnosticData::InvalidFragmentSpread {
@@ -148,14 +148,17 @@ fn invalid_fragment_spread(
 /// Adds InvalidFragmentSpread for each selection that applies a fragment.
 fn check_fragment_spreads<'doc>(
     schema: &Schema,
-    possible: &PossibleTypes,
+    possible: &mut PossibleTypes,
     fragments: &'doc FragmentMap,
     reach: &Reach<'doc>,
-    faults: &mut Vec<Fault>,
+    faults: &mut Faults,
 ) -> Result<(), AllocError>
     ensures { OnOk result (AddsThese faults.old faults.new (invalid_spreads (schema_tree schema.now) possible.now fragments.now reach.now)) }
 {
     for (parent, selection) in &reach.selections {
+        if faults.is_full() {
+            return Ok(());
+        }
         if let Some(application) = application_of(selection, fragments) {
             invalid_fragment_spread(schema, possible, parent, &application, faults)?;
         }
@@ -187,7 +190,7 @@ pub fn check_applications(
     possible: &mut Option<PossibleTypes>,
     fragments: &FragmentMap,
     reach: &Reach<'_>,
-    faults: &mut Vec<Fault>,
+    faults: &mut Faults,
 ) -> Result<(), AllocError>
     ensures told { OnOk result ((d : MeantDocument Place) (o : MeantOperation Place) → IsReachOf d o reach.now → d.fragments ≡ meant_fragments fragments.now → ArePossibleIfFound (judged (schema_tree schema.now)) possible.old → Adds faults.old faults.new (λ f. InvalidFragmentTargetAt (judged (schema_tree schema.now)) d o f ⊎ InvalidFragmentSpreadAt (judged (schema_tree schema.now)) d o f (places_in (schema_tree schema.now)))) }
     ensures right { OnOk result (ArePossibleIfFound (judged (schema_tree schema.now)) possible.old → ArePossibleIfFound (judged (schema_tree schema.now)) possible.new) }
@@ -198,8 +201,8 @@ pub fn check_applications(
     if all_stand_on_their_types(fragments, reach) {
         return Ok(());
     }
-    let types = found_or_new(*faults.allocator(), schema, possible.take())?;
-    check_fragment_spreads(schema, &types, fragments, reach, faults)?;
+    let mut types = found_or_new(*faults.allocator(), schema, possible.take())?;
+    check_fragment_spreads(schema, &mut types, fragments, reach, faults)?;
     *possible = Some(types);
     Ok(())
 }

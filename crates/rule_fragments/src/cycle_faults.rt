@@ -7,7 +7,7 @@ ghost use Rattle.rule_fragments.specs.CycleFaults.{spread_trace, IsRecursiveFaul
 use crate::spread_graph::SpreadReferences;
 use document_typed_operations::Fragment;
 use document_typed_selections::FragmentSpread;
-use fault_data::{DiagnosticData, Fault, tell};
+use fault_data::{DiagnosticData, Fault, Faults, tell};
 use graphql_names::{Node, SourceSpan};
 use std::alloc::{AllocError, Global};
 
@@ -62,7 +62,7 @@ pub(crate) fn recursive_fragment_definition(
     references: &SpreadReferences,
     root: usize,
     path: &[usize],
-    faults: &mut Vec<Fault>,
+    faults: &mut Faults,
 ) -> Result<(), AllocError>
     ensures { OnOk result (AddsOne (IsRecursiveFault (spread_trace references.now root path.now)) (fragment_meant fragment.now) faults.old faults.new) }
 {
@@ -81,7 +81,7 @@ pub(crate) fn recursive_fragment_definition(
 /// path from this one does.
 pub(crate) fn deeply_nested_fragment(
     fragment: &Node<Fragment>,
-    faults: &mut Vec<Fault>,
+    faults: &mut Faults,
 ) -> Result<(), AllocError>
     ensures { OnOk result (AddsOne IsDeepFault (fragment_meant fragment.now) faults.old faults.new) }
 {

@@ -14,7 +14,7 @@ ghost use Rattle.rule_fragments.specs.Told.{TellsFragmentCycles};
 use crate::cycle_faults::{deeply_nested_fragment, recursive_fragment_definition};
 use crate::spread_graph::{SpreadReferences, references_of_fragments};
 use document_typed_operations::{Fragment, FragmentMap};
-use fault_data::Fault;
+use fault_data::Faults;
 use graphql_names::{Name, Node};
 use indexmap::IndexSet;
 use rule_cycle_search::{Found, ways_back};
@@ -43,7 +43,7 @@ fn tell_found(
     references: &SpreadReferences,
     root: usize,
     found: &Found,
-    faults: &mut Vec<Fault>,
+    faults: &mut Faults,
 ) -> Result<(), AllocError>
     ensures { OnOk result (AddsFound references.now (lent_at fragment.entry) root found.now faults.old faults.new) }
 {
@@ -65,12 +65,15 @@ fn tell_cycles(
     used: &IndexSet<Name>,
     references: &SpreadReferences,
     all: &[Found],
-    faults: &mut Vec<Fault>,
+    faults: &mut Faults,
 ) -> Result<(), AllocError>
     requires { AreFound references.now.graph all.now }
     ensures { OnOk result (TellsSpreads references.now (fragment_entries fragments.now) (noted_names used.now) (faults_of faults.old) (faults_of faults.new)) }
 {
     for (root, found) in all.iter().enumerate() {
+        if faults.is_full() {
+            return Ok(());
+        }
         let fragment = used_fragment(fragments, used, root);
         tell_found(fragment, references, root, found, faults)?;
     }
@@ -84,7 +87,7 @@ pub fn check_cycles(
     alloc: Global,
     fragments: &FragmentMap,
     used: &IndexSet<Name>,
-    faults: &mut Vec<Fault>,
+    faults: &mut Faults,
 ) -> Result<(), AllocError>
     ensures { OnOk result ((d : MeantDocument Place) → d.fragments ≡ meant_fragments fragments.now → AreUnderOwnNames d → AreUsed d (noted_names used.now) → TellsFragmentCycles d (faults_of faults.old) (faults_of faults.new)) }
 {

@@ -20,6 +20,8 @@ use std::alloc::{AllocError, Global};
 #[derive(Drop)]
 pub struct PossibleTypes {
     objects: IndexMap<Name, IndexSet<Name>>,
+    /// Whether two types have an object in common, of those that were asked for.
+    shared: IndexMap<(Name, Name), bool>,
 }
 
 impl PossibleTypes {
@@ -33,17 +35,14 @@ impl PossibleTypes {
         for (name, ty) in &schema.types {
             note_type(schema, &mut objects, name, ty)?;
         }
-        Ok(PossibleTypes { objects })
+        Ok(PossibleTypes {
+            objects,
+            shared: IndexMap::new(alloc),
+        })
     }
 
-    /// Whether a fragment on the type `condition` can apply where the type is `parent`: they are the same, or have an object in
-    /// common.
-    pub(crate) fn may_apply(&self, parent: &Name, condition: &Name) -> bool
-        ensures { result ≡ may_apply self.now parent.now.text condition.now.text }
-    {
-        if *condition == *parent {
-            return true;
-        }
+    /// Whether the two types have an object in common.
+    fn share(&self, parent: &Name, condition: &Name) -> bool {
         let Some(here) = self.objects.get(parent) else {
             return false;
         };
@@ -51,6 +50,26 @@ impl PossibleTypes {
             None => false,
             Some(there) => share_one(here, there),
         }
+    }
+
+    /// The same, found once for each two.
+    fn share_known(&mut self, parent: &Name, condition: &Name) -> Result<bool, AllocError> {
+        let two = (parent.clone()?, condition.clone()?);
+        if let Some(known) = self.shared.get(&two) {
+            return Ok(*known);
+        }
+        let is_shared = self.share(parent, condition);
+        self.shared.insert(two, is_shared)?;
+        Ok(is_shared)
+    }
+
+    /// Whether a fragment on the type `condition` can apply where the type is `parent`: they are the same, or have an object in
+    /// common.
+    pub(crate) fn may_apply(&mut self, parent: &Name, condition: &Name) -> Result<bool, AllocError> {
+        if *condition == *parent {
+            return Ok(true);
+        }
+        self.share_known(parent, condition)
     }
 }
 

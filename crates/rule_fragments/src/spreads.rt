@@ -9,7 +9,7 @@ ghost use Rattle.rule_fragments.specs.Telling.{AddsThese, undefined_spread};
 
 use document_typed_operations::FragmentMap;
 use document_typed_selections::Selection;
-use fault_data::{DiagnosticData, Fault, tell};
+use fault_data::{DiagnosticData, Fault, Faults, tell};
 use rule_document_ground::Reach;
 use std::alloc::AllocError;
 
@@ -17,7 +17,7 @@ use std::alloc::AllocError;
 fn undefined_fragment(
     fragments: &FragmentMap,
     selection: &Selection,
-    faults: &mut Vec<Fault>,
+    faults: &mut Faults,
 ) -> Result<(), AllocError>
     ensures { OnOk result (AddsThese faults.old faults.new (undefined_spread fragments.now selection.now)) }
 {
@@ -38,11 +38,14 @@ fn undefined_fragment(
 pub fn check_spreads(
     fragments: &FragmentMap,
     reach: &Reach<'_>,
-    faults: &mut Vec<Fault>,
+    faults: &mut Faults,
 ) -> Result<(), AllocError>
     ensures { OnOk result ((d : MeantDocument Place) (o : MeantOperation Place) → IsReachOf d o reach.now → d.fragments ≡ meant_fragments fragments.now → Adds faults.old faults.new (λ f. UndefinedFragmentAt d f o)) }
 {
     for (_, selection) in &reach.selections {
+        if faults.is_full() {
+            return Ok(());
+        }
         undefined_fragment(fragments, selection, faults)?;
     }
     Ok(())

@@ -9,7 +9,7 @@ ghost use Rattle.rule_fragments.specs.SpreadViews.{fragment_meant};
 use crate::names::copied_name;
 use document_typed_operations::Fragment;
 use document_typed_selections::Selection;
-use fault_data::{DiagnosticData, Fault, tell};
+use fault_data::{DiagnosticData, Fault, Faults, tell};
 use graphql_names::{Name, Node, SourceSpan};
 use rule_cycles::Schema;
 use rule_document_ground::Reach;
@@ -32,7 +32,7 @@ fn invalid_fragment_target(
     location: Option<SourceSpan>,
     name: Option<&Name>,
     condition: &Name,
-    faults: &mut Vec<Fault>,
+    faults: &mut Faults,
 ) -> Result<(), AllocError>
     ensures { OnOk result (AddsThese faults.old faults.new (invalid_target (schema_tree schema.now) location name.entry condition.now)) }
 {
@@ -49,7 +49,7 @@ fn invalid_fragment_target(
 fn fragment_target(
     schema: &Schema,
     fragment: &Node<Fragment>,
-    faults: &mut Vec<Fault>,
+    faults: &mut Faults,
 ) -> Result<(), AllocError>
     ensures { OnOk result (AddsThese faults.old faults.new (fragment_target (schema_tree schema.now) (fragment_meant fragment.now))) }
 {
@@ -67,7 +67,7 @@ fn fragment_target(
 fn inline_target(
     schema: &Schema,
     selection: &Selection,
-    faults: &mut Vec<Fault>,
+    faults: &mut Faults,
 ) -> Result<(), AllocError>
     ensures { OnOk result (AddsThese faults.old faults.new (inline_target (schema_tree schema.now) (meant_selection selection.now))) }
 {
@@ -85,11 +85,14 @@ fn inline_target(
 fn check_fragment_targets(
     schema: &Schema,
     reach: &Reach<'_>,
-    faults: &mut Vec<Fault>,
+    faults: &mut Faults,
 ) -> Result<(), AllocError>
     ensures { OnOk result (AddsThese faults.old faults.new (flat_map (fragment_target (schema_tree schema.now)) (reached_fragments_of reach.now))) }
 {
     for index in 0..reach.fragments.len() {
+        if faults.is_full() {
+            return Ok(());
+        }
         fragment_target(schema, reach.fragments[index], faults)?;
     }
     Ok(())
@@ -99,11 +102,14 @@ fn check_fragment_targets(
 fn check_inline_targets(
     schema: &Schema,
     reach: &Reach<'_>,
-    faults: &mut Vec<Fault>,
+    faults: &mut Faults,
 ) -> Result<(), AllocError>
     ensures { OnOk result (AddsThese faults.old faults.new (inline_targets (schema_tree schema.now) reach.now)) }
 {
     for (_, selection) in &reach.selections {
+        if faults.is_full() {
+            return Ok(());
+        }
         inline_target(schema, selection, faults)?;
     }
     Ok(())
@@ -114,7 +120,7 @@ fn check_inline_targets(
 pub(crate) fn check_targets(
     schema: &Schema,
     reach: &Reach<'_>,
-    faults: &mut Vec<Fault>,
+    faults: &mut Faults,
 ) -> Result<(), AllocError>
     ensures { OnOk result (AddsTargets (schema_tree schema.now) reach.now faults.old faults.new) }
 {

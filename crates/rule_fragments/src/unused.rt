@@ -12,7 +12,7 @@ ghost use Rattle.rule_fragments.specs.SpreadViews.{fragment_meant};
 ghost use Rattle.rule_fragments.specs.Telling.{AddsThese, unused_fragments};
 
 use document_typed_operations::{Fragment, FragmentMap};
-use fault_data::{DiagnosticData, Fault, tell};
+use fault_data::{DiagnosticData, Fault, Faults, tell};
 use graphql_names::{Name, Node};
 use indexmap::IndexSet;
 use rule_document_ground::has_name;
@@ -23,7 +23,7 @@ use std::alloc::AllocError;
 fn unused_fragment(
     used: &IndexSet<Name>,
     fragment: &Node<Fragment>,
-    faults: &mut Vec<Fault>,
+    faults: &mut Faults,
 ) -> Result<(), AllocError>
     ensures { OnOk result (AddsThese faults.old faults.new (unused_fragment (noted_names used.now) (fragment_meant fragment.now))) }
 {
@@ -41,11 +41,14 @@ fn unused_fragment(
 fn tell_unused(
     fragments: &FragmentMap,
     used: &IndexSet<Name>,
-    faults: &mut Vec<Fault>,
+    faults: &mut Faults,
 ) -> Result<(), AllocError>
     ensures { OnOk result (AddsThese faults.old faults.new (unused_fragments (noted_names used.now) fragments.now)) }
 {
     for (_, fragment) in fragments {
+        if faults.is_full() {
+            return Ok(());
+        }
         unused_fragment(used, fragment, faults)?;
     }
     Ok(())
@@ -56,7 +59,7 @@ fn tell_unused(
 pub fn check_unused(
     fragments: &FragmentMap,
     used: &IndexSet<Name>,
-    faults: &mut Vec<Fault>,
+    faults: &mut Faults,
 ) -> Result<(), AllocError>
     ensures { OnOk result ((d : MeantDocument Place) → d.fragments ≡ meant_fragments fragments.now → AreUnderOwnNames d → AreUsed d (noted_names used.now) → Adds faults.old faults.new (λ f. UnusedFragmentAt d f)) }
 {

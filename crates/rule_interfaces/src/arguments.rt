@@ -10,7 +10,7 @@ ghost use Rattle.rule_interfaces.specs.Trees.{input_tree, of_implementation, of_
 use crate::copies::copy_arguments;
 use crate::implementation::Implementation;
 use crate::judging::Judging;
-use fault_data::{DiagnosticData, Fault, tell};
+use fault_data::{DiagnosticData, Fault, Faults, tell};
 use graphql_names::{Name, Node};
 use indexmap::IndexMap;
 use std::alloc::{AllocError, Global};
@@ -25,7 +25,7 @@ type Firsts = IndexMap<Name, Node<InputValueDefinition>>;
 pub(crate) fn check_arguments(
     judging: &Judging<'_>,
     implementation: &Implementation<'_>,
-    faults: &mut Vec<Fault>,
+    faults: &mut Faults,
 ) -> Result<(), AllocError>
     ensures { OnOk result (AddsThese faults.old faults.new (of_implementation arguments_faults implementation.now)) }
 {
@@ -38,7 +38,7 @@ pub(crate) fn check_arguments(
 fn check_wanted(
     judging: &Judging<'_>,
     implementation: &Implementation<'_>,
-    faults: &mut Vec<Fault>,
+    faults: &mut Faults,
 ) -> Result<(), AllocError>
     ensures { OnOk result (AddsThese faults.old faults.new (of_implementation wanted_faults implementation.now)) }
 {
@@ -50,7 +50,7 @@ fn check_wanted(
 fn check_own(
     judging: &Judging<'_>,
     implementation: &Implementation<'_>,
-    faults: &mut Vec<Fault>,
+    faults: &mut Faults,
 ) -> Result<(), AllocError>
     ensures { OnOk result (AddsThese faults.old faults.new (of_implementation own_faults implementation.now)) }
 {
@@ -94,11 +94,14 @@ fn first_like<'a>(
 fn check_wanted_arguments(
     implementation: &Implementation<'_>,
     own: &Firsts,
-    faults: &mut Vec<Fault>,
+    faults: &mut Faults,
 ) -> Result<(), AllocError>
     ensures { (vs : _) → AreFirsts own.now vs → OnOk result (AddsThese faults.old faults.new (of_implementation wanted_faults_over implementation.now vs)) }
 {
     for argument in &implementation.wanted.content().arguments {
+        if faults.is_full() {
+            return Ok(());
+        }
         check_wanted_argument(implementation, own, argument, faults)?;
     }
     Ok(())
@@ -109,7 +112,7 @@ fn check_wanted_argument(
     implementation: &Implementation<'_>,
     own: &Firsts,
     argument: &Node<InputValueDefinition>,
-    faults: &mut Vec<Fault>,
+    faults: &mut Faults,
 ) -> Result<(), AllocError>
     ensures { (vs : _) → AreFirsts own.now vs → OnOk result (AddsThese faults.old faults.new (of_argument wanted_fault implementation.now vs argument.now)) }
 {
@@ -125,11 +128,14 @@ fn check_wanted_argument(
 fn check_own_arguments(
     implementation: &Implementation<'_>,
     of_interface: &Firsts,
-    faults: &mut Vec<Fault>,
+    faults: &mut Faults,
 ) -> Result<(), AllocError>
     ensures { (vs : _) → AreFirsts of_interface.now vs → OnOk result (AddsThese faults.old faults.new (of_implementation own_faults_over implementation.now vs)) }
 {
     for argument in &implementation.field.content().arguments {
+        if faults.is_full() {
+            return Ok(());
+        }
         check_own_argument(implementation, of_interface, argument, faults)?;
     }
     Ok(())
@@ -140,7 +146,7 @@ fn check_own_argument(
     implementation: &Implementation<'_>,
     wanted: &Firsts,
     argument: &Node<InputValueDefinition>,
-    faults: &mut Vec<Fault>,
+    faults: &mut Faults,
 ) -> Result<(), AllocError>
     ensures { (ws : _) → AreFirsts wanted.now ws → OnOk result (AddsThese faults.old faults.new (of_argument own_fault implementation.now ws argument.now)) }
 {
@@ -155,7 +161,7 @@ fn check_own_argument(
 fn missing_interface_field_argument(
     implementation: &Implementation<'_>,
     argument: &Node<InputValueDefinition>,
-    faults: &mut Vec<Fault>,
+    faults: &mut Faults,
 ) -> Result<(), AllocError>
     ensures { OnOk result (AddsThese faults.old faults.new (of_implementation missing_interface_field_argument implementation.now (input_tree argument.now))) }
 {
@@ -183,7 +189,7 @@ fn invalid_implementation_field_argument_type(
     implementation: &Implementation<'_>,
     wanted: &Node<InputValueDefinition>,
     given: &Node<InputValueDefinition>,
-    faults: &mut Vec<Fault>,
+    faults: &mut Faults,
 ) -> Result<(), AllocError>
     ensures { OnOk result (AddsThese faults.old faults.new (of_arguments invalid_implementation_field_argument_type implementation.now wanted.now given.now)) }
 {
@@ -226,7 +232,7 @@ fn same_type(a: &Type, b: &Type) -> bool
 fn extra_required_implementation_field_argument(
     implementation: &Implementation<'_>,
     argument: &Node<InputValueDefinition>,
-    faults: &mut Vec<Fault>,
+    faults: &mut Faults,
 ) -> Result<(), AllocError>
     ensures { OnOk result (AddsThese faults.old faults.new (of_implementation extra_required_argument implementation.now (input_tree argument.now))) }
 {

@@ -15,7 +15,7 @@ use crate::implementation::Implementer;
 use crate::interfaces::{check_transitive, recursive_interface_definition, undefined_interface};
 use crate::judging::Judging;
 use crate::look_ups::interfaces_of;
-use fault_data::Fault;
+use fault_data::Faults;
 use graphql_names::{Name, Node};
 use graphql_schema::Schema;
 use schema_types::{ExtendedType, InterfaceType};
@@ -25,7 +25,7 @@ use std::alloc::{AllocError, Global};
 pub fn check_interfaces(
     alloc: Global,
     schema: &Schema,
-    faults: &mut Vec<Fault>,
+    faults: &mut Faults,
 ) -> Result<(), AllocError>
     requires distinct { AreAllDistinct (schema_tree schema.now) }
     ensures { OnOk result (Adds faults.old faults.new (Told (schema_tree schema.now) InterfacesBreak)) }
@@ -35,10 +35,13 @@ pub fn check_interfaces(
 }
 
 /// Tells the faults of each type.
-fn check_each_type(judging: &Judging<'_>, faults: &mut Vec<Fault>) -> Result<(), AllocError>
+fn check_each_type(judging: &Judging<'_>, faults: &mut Faults) -> Result<(), AllocError>
     ensures { OnOk result (AddsThese faults.old faults.new (types_faults (schema_of judging.now) judging.now.schema.now.types.entries)) }
 {
     for (name, ty) in &judging.schema.types {
+        if faults.is_full() {
+            return Ok(());
+        }
         check_type(judging, name, ty, faults)?;
     }
     Ok(())
@@ -49,11 +52,14 @@ fn check_type(
     judging: &Judging<'_>,
     name: &Name,
     ty: &ExtendedType,
-    faults: &mut Vec<Fault>,
+    faults: &mut Faults,
 ) -> Result<(), AllocError>
     ensures { OnOk result (AddsThese faults.old faults.new (type_faults (schema_of judging.now) name.now.text (extended_type ty.now))) }
 {
     for interface in interfaces_of(ty) {
+        if faults.is_full() {
+            return Ok(());
+        }
         let implementer = Implementer {
             name,
             ty,
@@ -68,7 +74,7 @@ fn check_type(
 fn check_interface(
     judging: &Judging<'_>,
     implementer: &Implementer<'_>,
-    faults: &mut Vec<Fault>,
+    faults: &mut Faults,
 ) -> Result<(), AllocError>
     ensures { OnOk result (AddsThese faults.old faults.new (of_implementer (named_faults (schema_of judging.now)) implementer.now)) }
 {
@@ -80,7 +86,7 @@ fn check_interface(
 fn check_listed(
     judging: &Judging<'_>,
     implementer: &Implementer<'_>,
-    faults: &mut Vec<Fault>,
+    faults: &mut Faults,
 ) -> Result<(), AllocError>
     ensures { OnOk result (AddsThese faults.old faults.new (of_implementer (listed_faults (schema_of judging.now)) implementer.now)) }
 {
@@ -96,7 +102,7 @@ fn check_over(
     judging: &Judging<'_>,
     implementer: &Implementer<'_>,
     over: &Node<InterfaceType>,
-    faults: &mut Vec<Fault>,
+    faults: &mut Faults,
 ) -> Result<(), AllocError>
     ensures { OnOk result (AddsThese faults.old faults.new (of_implementer (over_faults (schema_of judging.now)) implementer.now (interface_tree over.now))) }
 {

@@ -10,7 +10,7 @@ use crate::implementation::{Implementation, Implementer};
 use crate::judging::Judging;
 use crate::look_ups::own_field;
 use crate::valid_types::is_valid_implementation_field_type;
-use fault_data::{DiagnosticData, Fault, tell};
+use fault_data::{DiagnosticData, Fault, Faults, tell};
 use graphql_names::{Name, Node};
 use indexmap::IndexMap;
 use schema_components::Component;
@@ -22,11 +22,14 @@ pub(crate) fn check_each_field(
     judging: &Judging<'_>,
     implementer: &Implementer<'_>,
     fields: &IndexMap<Name, Component<FieldDefinition>>,
-    faults: &mut Vec<Fault>,
+    faults: &mut Faults,
 ) -> Result<(), AllocError>
     ensures { OnOk result (AddsThese faults.old faults.new (of_implementer (each_field_faults (schema_of judging.now)) implementer.now fields.now.entries)) }
 {
     for (field_name, wanted) in fields {
+        if faults.is_full() {
+            return Ok(());
+        }
         check_field(judging, implementer, field_name, &wanted.node, faults)?;
     }
     Ok(())
@@ -38,7 +41,7 @@ fn check_field(
     implementer: &Implementer<'_>,
     field_name: &Name,
     wanted: &Node<FieldDefinition>,
-    faults: &mut Vec<Fault>,
+    faults: &mut Faults,
 ) -> Result<(), AllocError>
     ensures { OnOk result (AddsThese faults.old faults.new (of_field (field_faults (schema_of judging.now)) implementer.now field_name.now wanted.now)) }
 {
@@ -61,7 +64,7 @@ fn check_field(
 fn check_implementation(
     judging: &Judging<'_>,
     implementation: &Implementation<'_>,
-    faults: &mut Vec<Fault>,
+    faults: &mut Faults,
 ) -> Result<(), AllocError>
     ensures { OnOk result (AddsThese faults.old faults.new (of_implementation (implementation_faults (schema_of judging.now)) implementation.now)) }
 {
@@ -75,7 +78,7 @@ fn missing_interface_field(
     implementer: &Implementer<'_>,
     field_name: &Name,
     wanted: &Node<FieldDefinition>,
-    faults: &mut Vec<Fault>,
+    faults: &mut Faults,
 ) -> Result<(), AllocError>
     ensures { OnOk result (AddsThese faults.old faults.new (of_field missing_interface_field implementer.now field_name.now wanted.now)) }
 {
@@ -102,7 +105,7 @@ fn missing_interface_field(
 fn invalid_implementation_field_type(
     judging: &Judging<'_>,
     implementation: &Implementation<'_>,
-    faults: &mut Vec<Fault>,
+    faults: &mut Faults,
 ) -> Result<(), AllocError>
     ensures { OnOk result (AddsThese faults.old faults.new (of_implementation invalid_implementation_field_type implementation.now (schema_of judging.now))) }
 {

@@ -7,7 +7,7 @@ ghost use Rattle.rule_interfaces.specs.Trees.{of_implementer};
 
 use crate::implementation::Implementer;
 use crate::look_ups::implements;
-use fault_data::{DiagnosticData, Fault, tell};
+use fault_data::{DiagnosticData, Fault, Faults, tell};
 use graphql_names::Name;
 use schema_components::ComponentName;
 use std::alloc::AllocError;
@@ -16,7 +16,7 @@ use std::alloc::AllocError;
 /// 3.7). Told of one that is not.
 pub(crate) fn undefined_interface(
     interface: &Name,
-    faults: &mut Vec<Fault>,
+    faults: &mut Faults,
 ) -> Result<(), AllocError>
     ensures { OnOk result (AddsThese faults.old faults.new (undefined_interface (name_tree interface.now))) }
 {
@@ -34,7 +34,7 @@ pub(crate) fn undefined_interface(
 /// RecursiveInterfaceDefinition: an interface type is valid only if it does not implement itself (section 3.7).
 pub(crate) fn recursive_interface_definition(
     implementer: &Implementer<'_>,
-    faults: &mut Vec<Fault>,
+    faults: &mut Faults,
 ) -> Result<(), AllocError>
     ensures { OnOk result (AddsThese faults.old faults.new (of_implementer recursive_interface_definition implementer.now)) }
 {
@@ -63,11 +63,14 @@ pub(crate) fn recursive_interface_definition(
 pub(crate) fn check_transitive(
     implementer: &Implementer<'_>,
     listed: &[ComponentName],
-    faults: &mut Vec<Fault>,
+    faults: &mut Faults,
 ) -> Result<(), AllocError>
     ensures { OnOk result (AddsThese faults.old faults.new (of_implementer each_transitive_faults implementer.now listed.now)) }
 {
     for missing in listed {
+        if faults.is_full() {
+            return Ok(());
+        }
         transitive_implemented_interfaces(implementer, missing, faults)?;
     }
     Ok(())
@@ -78,7 +81,7 @@ pub(crate) fn check_transitive(
 fn transitive_implemented_interfaces(
     implementer: &Implementer<'_>,
     missing: &ComponentName,
-    faults: &mut Vec<Fault>,
+    faults: &mut Faults,
 ) -> Result<(), AllocError>
     ensures { OnOk result (AddsThese faults.old faults.new (of_implementer transitive_implemented_interfaces implementer.now (name_tree missing.now.name))) }
 {

@@ -6,7 +6,7 @@ ghost use Rattle.fault_data.specs.DiagnosticView.{diagnostic_of};
 ghost use Rattle.fault_data.specs.FaultView.{faults_of};
 ghost use Rattle.rule_lasting.specs.Lasts.{data_lasts, fault_lasts, breach_lasts};
 
-use fault_data::{DiagnosticData, Fault};
+use fault_data::{DiagnosticData, Faults};
 use fault_document_data::BuildError;
 use graphql_names::SourceSpan;
 
@@ -39,7 +39,7 @@ fn breach_lasts(error: &BuildError) -> bool
 
 /// Keeps the faults that last, in order. It takes no memory.
 // Told apart by their data, after the rules ran: so no rule is written a second time for what typing left.
-pub fn keep_lasting_faults(faults: &mut Vec<Fault>)
+pub fn keep_lasting_faults(faults: &mut Faults)
     ensures { faults_of faults.new ≡ filter fault_lasts (faults_of faults.old) }
 {
     faults.retain(|fault| data_lasts(&fault.data));

@@ -20,25 +20,28 @@ use document_typed_operations::{Fragment, Operation};
 use document_typed_selections::Selection;
 use graphql_names::Node;
 use rule_document_ground::Reach;
-use rule_uses::{Fault, check_arguments_alone, check_directives_alone};
+use rule_uses::{Faults, check_arguments_alone, check_directives_alone};
 use std::alloc::AllocError;
 use tree_operations::VariableDefinition;
 
 /// Adds the faults of the directives of each variable.
 fn check_variables_alone(
     variables: &[Node<VariableDefinition>],
-    faults: &mut Vec<Fault>,
+    faults: &mut Faults,
 ) -> Result<(), AllocError>
     ensures { OnOk result (Adds faults.old faults.new (λ f. AtSomeIndex (variables_of variables.now) (λ i x. DirectivesAloneBreak x.it.directives f))) }
 {
     for variable in variables {
+        if faults.is_full() {
+            return Ok(());
+        }
         check_directives_alone(&variable.content().directives.0, faults)?;
     }
     Ok(())
 }
 
 /// Adds the faults of a selection: of its directives, and of the arguments of a field.
-fn check_selection_alone(selection: &Selection, faults: &mut Vec<Fault>) -> Result<(), AllocError>
+fn check_selection_alone(selection: &Selection, faults: &mut Faults) -> Result<(), AllocError>
     ensures { OnOk result ((parent : NameValue) → Adds faults.old faults.new (SelectionAloneBreaks (parent.text, meant (typed_selection_tree selection.now)))) }
 {
     check_directives_alone(&selection.directives().0, faults)?;
@@ -49,10 +52,13 @@ fn check_selection_alone(selection: &Selection, faults: &mut Vec<Fault>) -> Resu
 }
 
 /// Adds the faults of each selection.
-fn check_each_selection_alone(reach: &Reach<'_>, faults: &mut Vec<Fault>) -> Result<(), AllocError>
+fn check_each_selection_alone(reach: &Reach<'_>, faults: &mut Faults) -> Result<(), AllocError>
     ensures { OnOk result (Adds faults.old faults.new (λ f. AtSomeIndex (reached_members reach.now) (λ i e. SelectionAloneBreaks e f))) }
 {
     for (_, selection) in &reach.selections {
+        if faults.is_full() {
+            return Ok(());
+        }
         check_selection_alone(selection, faults)?;
     }
     Ok(())
@@ -61,7 +67,7 @@ fn check_each_selection_alone(reach: &Reach<'_>, faults: &mut Vec<Fault>) -> Res
 /// Adds the faults of the directives of a fragment.
 fn check_fragment_alone(
     fragment: &Node<Fragment>,
-    faults: &mut Vec<Fault>,
+    faults: &mut Faults,
 ) -> Result<(), AllocError>
     ensures { OnOk result (Adds faults.old faults.new (DirectivesAloneBreak (typed_fragment_tree (content fragment.now)).directives)) }
 {
@@ -69,10 +75,13 @@ fn check_fragment_alone(
 }
 
 /// Adds the faults of the directives of each fragment.
-fn check_fragments_alone(reach: &Reach<'_>, faults: &mut Vec<Fault>) -> Result<(), AllocError>
+fn check_fragments_alone(reach: &Reach<'_>, faults: &mut Faults) -> Result<(), AllocError>
     ensures { OnOk result (Adds faults.old faults.new (λ f. AtSomeIndex (reached_fragments_of reach.now) (λ i x. DirectivesAloneBreak x.directives f))) }
 {
     for index in 0..reach.fragments.len() {
+        if faults.is_full() {
+            return Ok(());
+        }
         check_fragment_alone(reach.fragments[index], faults)?;
     }
     Ok(())
@@ -83,7 +92,7 @@ fn check_fragments_alone(reach: &Reach<'_>, faults: &mut Vec<Fault>) -> Result<(
 pub fn check_selections_alone(
     operation: &Node<Operation>,
     reach: &Reach<'_>,
-    faults: &mut Vec<Fault>,
+    faults: &mut Faults,
 ) -> Result<(), AllocError>
     ensures { OnOk result ((d : MeantDocument Place) → IsReachOf d (meant_by_operation (node_tree typed_operation_tree operation.now)) reach.now → Adds faults.old faults.new (λ fault. GivenInBreaks places_alone d fault (meant_by_operation (node_tree typed_operation_tree operation.now)))) }
 {

@@ -16,7 +16,7 @@ ghost use Rattle.rule_selections.specs.Telling.{AddsTaken, AddsOfField};
 use document_typed_selections::Field;
 use graphql_names::{Name, Node};
 use rule_uses::{
-    DefinedVariables, DiagnosticData, Fault, Schema, Taker, TakerName, TypeAttributeCoordinate,
+    DefinedVariables, DiagnosticData, Fault, Faults, Schema, Taker, TakerName, TypeAttributeCoordinate,
     check_given, check_taken, tell,
 };
 use schema_types::TypeKind;
@@ -44,7 +44,7 @@ fn missing_subselection(
     schema: &Schema,
     parent: &Name,
     field: &Node<Field>,
-    faults: &mut Vec<Fault>,
+    faults: &mut Faults,
 ) -> Result<(), AllocError>
     ensures { OnOk result (Tells faults.old faults.new (missing_subselection (judged (schema_tree schema.now)) (standing_field parent.now field.now))) }
 {
@@ -98,7 +98,7 @@ fn check_defined(
     parent: &Name,
     field: &Node<Field>,
     variables: &DefinedVariables<'_>,
-    faults: &mut Vec<Fault>,
+    faults: &mut Faults,
 ) -> Result<(), AllocError>
     ensures { OnOk result (AddsTaken (schema_tree schema.now) (variables_of variables.now) (standing_field parent.now field.now) faults.old faults.new) }
 {
@@ -125,7 +125,7 @@ pub(crate) fn check_field(
     parent: &Name,
     field: &Node<Field>,
     variables: &DefinedVariables<'_>,
-    faults: &mut Vec<Fault>,
+    faults: &mut Faults,
 ) -> Result<(), AllocError>
     ensures { OnOk result (AddsOfField (schema_tree schema.now) (variables_of variables.now) (standing_field parent.now field.now) faults.old faults.new) }
 {

@@ -16,6 +16,7 @@ mod fields;
 mod quiet;
 mod selections;
 mod settled;
+mod thinned;
 
 pub use alone::check_selections_alone;
 pub use selections::check_selections;

@@ -25,7 +25,7 @@ use document_typed_operations::{Fragment, Operation};
 use document_typed_selections::Selection;
 use graphql_names::Node;
 use rule_document_ground::Reach;
-use rule_uses::{DefinedVariables, Fault, Schema, check_uses};
+use rule_uses::{DefinedVariables, Faults, Schema, check_uses};
 use std::alloc::AllocError;
 use tree_directives::DirectiveLocation;
 use tree_literals::NamedType;
@@ -43,12 +43,12 @@ fn location_of(selection: &Selection) -> DirectiveLocation
 }
 
 /// Adds the faults of a selection: of its directives, and of a field by itself.
-fn check_selection(
+pub(crate) fn check_selection(
     schema: &Schema,
     parent: &NamedType,
     selection: &Selection,
     variables: &DefinedVariables<'_>,
-    faults: &mut Vec<Fault>,
+    faults: &mut Faults,
 ) -> Result<(), AllocError>
     ensures { OnOk result (AddsOfSelection (schema_tree schema.now) (variables_of variables.now) (member_there parent.now selection.now) faults.old faults.new) }
 {
@@ -67,15 +67,18 @@ fn check_selection(
 }
 
 /// Adds the faults of each selection.
-pub(crate) fn check_each_selection(
+fn check_each_selection(
     schema: &Schema,
     reach: &Reach<'_>,
     variables: &DefinedVariables<'_>,
-    faults: &mut Vec<Fault>,
+    faults: &mut Faults,
 ) -> Result<(), AllocError>
     ensures { OnOk result (AddsOfSelections (schema_tree schema.now) (variables_of variables.now) (reached_members reach.now) faults.old faults.new) }
 {
     for (parent, selection) in &reach.selections {
+        if faults.is_full() {
+            return Ok(());
+        }
         check_selection(schema, parent, selection, variables, faults)?;
     }
     Ok(())
@@ -86,7 +89,7 @@ fn check_fragment(
     schema: &Schema,
     fragment: &Node<Fragment>,
     variables: &DefinedVariables<'_>,
-    faults: &mut Vec<Fault>,
+    faults: &mut Faults,
 ) -> Result<(), AllocError>
     ensures { OnOk result (AddsOfFragment (schema_tree schema.now) (variables_of variables.now) fragment.now faults.old faults.new) }
 {
@@ -105,11 +108,14 @@ fn check_fragments(
     schema: &Schema,
     reach: &Reach<'_>,
     variables: &DefinedVariables<'_>,
-    faults: &mut Vec<Fault>,
+    faults: &mut Faults,
 ) -> Result<(), AllocError>
     ensures { OnOk result (AddsOfFragments (schema_tree schema.now) (variables_of variables.now) (reached_fragments_of reach.now) faults.old faults.new) }
 {
     for index in 0..reach.fragments.len() {
+        if faults.is_full() {
+            return Ok(());
+        }
         check_fragment(schema, reach.fragments[index], variables, faults)?;
     }
     Ok(())
@@ -121,7 +127,7 @@ pub fn check_selections(
     schema: &Schema,
     operation: &Node<Operation>,
     reach: &Reach<'_>,
-    faults: &mut Vec<Fault>,
+    faults: &mut Faults,
 ) -> Result<(), AllocError>
     ensures { OnOk result ((d : MeantDocument Place) → IsReachOf d (meant_by_operation (node_tree typed_operation_tree operation.now)) reach.now → ReachesTyped (meanings (plain (schema_tree schema.now))) d (meant_by_operation (node_tree typed_operation_tree operation.now)) → Adds faults.old faults.new (λ fault. SelectionsBreak (places_in (schema_tree schema.now)) (judged (schema_tree schema.now)) d (meant_by_operation (node_tree typed_operation_tree operation.now)) fault)) }
 {

@@ -7,43 +7,14 @@ ghost use Rattle.rule_document_ground.specs.Reach.{meant_fragments};
 ghost use Rattle.rule_selections.specs.Settled.{fragment_meant, LeavesOf, StandsInFor, StandIn};
 ghost use Rattle.rule_selections.specs.Telling.{KeepsSelection, StillStandIn};
 
-use crate::quiet::is_quiet;
+use crate::thinned::thinned;
 use document_typed_operations::{ExecutableDocument, Fragment, FragmentMap};
-use document_typed_selections::{Selection, SelectionSet};
 use graphql_names::{Name, Node};
 use rule_uses::Schema;
 use std::alloc::{AllocError, Global};
-use tree_literals::NamedType;
-
-/// Puts a selection of a set on that type last, unless nothing is told of it.
-fn keep_unless_quiet(
-    alloc: Global,
-    schema: &Schema,
-    ty: &NamedType,
-    selection: &Selection,
-    kept: &mut SelectionSet,
-) -> Result<(), AllocError>
-    ensures { OnOk result (KeepsSelection (schema_tree schema.now) ty.now selection.now kept.old kept.new) }
-{
-    if !is_quiet(alloc, schema, ty, selection)? {
-        kept.push(selection.clone()?)?;
-    }
-    Ok(())
-}
-
-/// The set without those of its selections of which nothing is told.
-fn unsettled(alloc: Global, schema: &Schema, set: &SelectionSet) -> Result<SelectionSet, AllocError>
-    ensures { IfOk result (λ r. LeavesOf (schema_tree schema.now) (typed_set_tree set.now) (typed_set_tree r)) }
-{
-    let mut kept = SelectionSet::new(alloc, set.ty.clone()?);
-    for selection in &set.selections {
-        keep_unless_quiet(alloc, schema, &set.ty, selection, &mut kept)?;
-    }
-    Ok(kept)
-}
 
 /// The fragment without those of its selections, where it stands.
-fn thinned(
+fn settled(
     alloc: Global,
     schema: &Schema,
     fragment: &Node<Fragment>,
@@ -53,7 +24,7 @@ fn thinned(
     let own = fragment.content();
     let name = own.name.clone()?;
     let directives = own.directives.clone()?;
-    let selection_set = unsettled(alloc, schema, &own.selection_set)?;
+    let selection_set = thinned(alloc, schema, &own.selection_set)?;
     let thin = Fragment {
         name,
         directives,
@@ -76,7 +47,7 @@ fn settle(
     };
     let alloc = *instead.allocator();
     let name = name.clone()?;
-    instead.insert(name, thinned(alloc, schema, fragment)?)?;
+    instead.insert(name, settled(alloc, schema, fragment)?)?;
     Ok(())
 }
 

@@ -11,7 +11,7 @@ use crate::judging::Judging;
 use crate::look_ups::kind_inside;
 use crate::reserved::{Named, reserved_name};
 use crate::types_used::{input_type, undefined_type};
-use fault_data::{DiagnosticData, Fault, tell};
+use fault_data::{DiagnosticData, Fault, Faults, tell};
 use graphql_names::{Name, Node, SourceSpan};
 use indexmap::IndexMap;
 use std::alloc::AllocError;
@@ -21,7 +21,7 @@ use tree_directives::InputValueDefinition;
 pub(crate) fn check_arguments(
     judging: &Judging<'_>,
     arguments: &[Node<InputValueDefinition>],
-    faults: &mut Vec<Fault>,
+    faults: &mut Faults,
 ) -> Result<(), AllocError>
     ensures { OnOk result (AddsThese faults.old faults.new (arguments_faults (schema_of judging.now) (input_trees arguments.now))) }
 {
@@ -33,11 +33,14 @@ pub(crate) fn check_arguments(
 fn check_each_argument(
     judging: &Judging<'_>,
     arguments: &[Node<InputValueDefinition>],
-    faults: &mut Vec<Fault>,
+    faults: &mut Faults,
 ) -> Result<(), AllocError>
     ensures { OnOk result (AddsThese faults.old faults.new (flat_map (argument_faults (schema_of judging.now)) (input_trees arguments.now))) }
 {
     for argument in arguments {
+        if faults.is_full() {
+            return Ok(());
+        }
         check_argument(judging, argument, faults)?;
     }
     Ok(())
@@ -47,7 +50,7 @@ fn check_each_argument(
 fn check_argument(
     judging: &Judging<'_>,
     argument: &Node<InputValueDefinition>,
-    faults: &mut Vec<Fault>,
+    faults: &mut Faults,
 ) -> Result<(), AllocError>
     ensures { OnOk result (AddsThese faults.old faults.new (argument_faults (schema_of judging.now) (input_tree argument.now))) }
 {
@@ -61,7 +64,7 @@ pub(crate) fn check_input_value(
     name: &Name,
     input: &Node<InputValueDefinition>,
     named: Named,
-    faults: &mut Vec<Fault>,
+    faults: &mut Faults,
 ) -> Result<(), AllocError>
     ensures { OnOk result (AddsThese faults.old faults.new (input_value_faults (schema_of judging.now) name.now.text (named_words named) (input_tree input.now))) }
 {
@@ -85,12 +88,15 @@ pub(crate) fn check_input_value(
 fn check_repeats(
     judging: &Judging<'_>,
     arguments: &[Node<InputValueDefinition>],
-    faults: &mut Vec<Fault>,
+    faults: &mut Faults,
 ) -> Result<(), AllocError>
     ensures { OnOk result (AddsThese faults.old faults.new (each_place unique_input_value (input_trees arguments.now))) }
 {
     let mut seen = IndexMap::new(judging.alloc);
     for argument in arguments {
+        if faults.is_full() {
+            return Ok(());
+        }
         unique_input_value(&seen, argument, faults)?;
         see(&mut seen, argument)?;
     }
@@ -102,7 +108,7 @@ fn check_repeats(
 fn unique_input_value(
     seen: &IndexMap<Name, Option<SourceSpan>>,
     argument: &Node<InputValueDefinition>,
-    faults: &mut Vec<Fault>,
+    faults: &mut Faults,
 ) -> Result<(), AllocError>
     ensures { (before : _) → AreSeen seen.now before → OnOk result (AddsThese faults.old faults.new (unique_input_value before (input_tree argument.now))) }
 {

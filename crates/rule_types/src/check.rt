@@ -14,7 +14,7 @@ use crate::judging::Judging;
 use crate::members::{check_fields, check_input_fields, check_members, check_values};
 use crate::reserved::{Named, reserved_name};
 use crate::roots::check_roots;
-use fault_data::Fault;
+use fault_data::Faults;
 use graphql_names::{Name, Node};
 use graphql_schema::Schema;
 use schema_types::ExtendedType;
@@ -26,7 +26,7 @@ use tree_directives::DirectiveDefinition;
 pub fn check_types(
     alloc: Global,
     schema: &Schema,
-    faults: &mut Vec<Fault>,
+    faults: &mut Faults,
 ) -> Result<(), AllocError>
     requires distinct { AreAllDistinct (schema_tree schema.now) }
     ensures { OnOk result (Adds faults.old faults.new (Told (schema_tree schema.now) TypesBreak)) }
@@ -36,7 +36,7 @@ pub fn check_types(
 }
 
 /// Tells the faults of the roots, then those of each type, then those of each directive definition.
-fn check_all(judging: &Judging<'_>, faults: &mut Vec<Fault>) -> Result<(), AllocError>
+fn check_all(judging: &Judging<'_>, faults: &mut Faults) -> Result<(), AllocError>
     ensures { OnOk result (AddsThese faults.old faults.new (faults_in judging.now.schema.now)) }
 {
     check_roots(judging, faults)?;
@@ -45,10 +45,13 @@ fn check_all(judging: &Judging<'_>, faults: &mut Vec<Fault>) -> Result<(), Alloc
 }
 
 /// Tells the faults of each type.
-fn check_each_type(judging: &Judging<'_>, faults: &mut Vec<Fault>) -> Result<(), AllocError>
+fn check_each_type(judging: &Judging<'_>, faults: &mut Faults) -> Result<(), AllocError>
     ensures { OnOk result (AddsThese faults.old faults.new (types_faults (schema_of judging.now) judging.now.schema.now.types.entries)) }
 {
     for (name, ty) in &judging.schema.types {
+        if faults.is_full() {
+            return Ok(());
+        }
         check_type(judging, name, ty, faults)?;
     }
     Ok(())
@@ -59,7 +62,7 @@ fn check_type(
     judging: &Judging<'_>,
     name: &Name,
     ty: &ExtendedType,
-    faults: &mut Vec<Fault>,
+    faults: &mut Faults,
 ) -> Result<(), AllocError>
     ensures { OnOk result (AddsThese faults.old faults.new (type_faults (schema_of judging.now) name.now.text ty.now)) }
 {
@@ -73,7 +76,7 @@ fn check_parts(
     judging: &Judging<'_>,
     name: &Name,
     ty: &ExtendedType,
-    faults: &mut Vec<Fault>,
+    faults: &mut Faults,
 ) -> Result<(), AllocError>
     ensures { OnOk result (AddsThese faults.old faults.new (parts_faults (schema_of judging.now) name.now.text ty.now)) }
 {
@@ -96,10 +99,13 @@ fn check_parts(
 }
 
 /// Tells the faults of each directive definition.
-fn check_each_directive(judging: &Judging<'_>, faults: &mut Vec<Fault>) -> Result<(), AllocError>
+fn check_each_directive(judging: &Judging<'_>, faults: &mut Faults) -> Result<(), AllocError>
     ensures { OnOk result (AddsThese faults.old faults.new (directives_faults (schema_of judging.now) judging.now.schema.now.directive_definitions.entries)) }
 {
     for (name, directive) in &judging.schema.directive_definitions {
+        if faults.is_full() {
+            return Ok(());
+        }
         check_directive(judging, name, directive, faults)?;
     }
     Ok(())
@@ -110,7 +116,7 @@ fn check_directive(
     judging: &Judging<'_>,
     name: &Name,
     directive: &Node<DirectiveDefinition>,
-    faults: &mut Vec<Fault>,
+    faults: &mut Faults,
 ) -> Result<(), AllocError>
     ensures { OnOk result (AddsThese faults.old faults.new (directive_faults (schema_of judging.now) name.now.text (directive_tree directive.now))) }
 {

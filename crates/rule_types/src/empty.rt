@@ -7,7 +7,7 @@ ghost use Rattle.schema_components.specs.Given.{place_of};
 ghost use Rattle.rule_types.specs.FaultLists.{empty_field_set, empty_member_set, empty_value_set, empty_input_value_set};
 
 use crate::judging::Judging;
-use fault_data::{DiagnosticData, Fault, tell};
+use fault_data::{DiagnosticData, Fault, Faults, tell};
 use graphql_names::{Name, SourceSpan};
 use indexmap::{IndexMap, IndexSet};
 use schema_components::{Component, ComponentName, ExtensionId};
@@ -22,7 +22,7 @@ pub(crate) fn empty_field_set(
     name: &Name,
     ty: &ExtendedType,
     fields: &IndexMap<Name, Component<FieldDefinition>>,
-    faults: &mut Vec<Fault>,
+    faults: &mut Faults,
 ) -> Result<(), AllocError>
     ensures { OnOk result (AddsThese faults.old faults.new (empty_field_set name.now.text (extended_type ty.now) fields.now.entries)) }
 {
@@ -50,7 +50,7 @@ pub(crate) fn empty_member_set(
     name: &Name,
     ty: &ExtendedType,
     members: &IndexSet<ComponentName>,
-    faults: &mut Vec<Fault>,
+    faults: &mut Faults,
 ) -> Result<(), AllocError>
     ensures { OnOk result (AddsThese faults.old faults.new (empty_member_set name.now.text (extended_type ty.now) members.now.keys)) }
 {
@@ -78,7 +78,7 @@ pub(crate) fn empty_value_set(
     name: &Name,
     ty: &ExtendedType,
     values: &IndexMap<Name, Component<EnumValueDefinition>>,
-    faults: &mut Vec<Fault>,
+    faults: &mut Faults,
 ) -> Result<(), AllocError>
     ensures { OnOk result (AddsThese faults.old faults.new (empty_value_set name.now.text (extended_type ty.now) values.now.entries)) }
 {
@@ -106,7 +106,7 @@ pub(crate) fn empty_input_value_set(
     name: &Name,
     ty: &ExtendedType,
     fields: &IndexMap<Name, Component<InputValueDefinition>>,
-    faults: &mut Vec<Fault>,
+    faults: &mut Faults,
 ) -> Result<(), AllocError>
     ensures { OnOk result (AddsThese faults.old faults.new (empty_input_value_set name.now.text (extended_type ty.now) fields.now.entries)) }
 {

@@ -13,7 +13,7 @@ use crate::judging::Judging;
 use crate::look_ups::{kind_inside, kind_named};
 use crate::reserved::{Named, reserved_name};
 use crate::types_used::{output_type, undefined_name, undefined_type, union_member_object_type};
-use fault_data::Fault;
+use fault_data::Faults;
 use graphql_names::{Name, Node};
 use indexmap::{IndexMap, IndexSet};
 use schema_components::{Component, ComponentName};
@@ -28,12 +28,15 @@ pub(crate) fn check_fields(
     name: &Name,
     ty: &ExtendedType,
     fields: &IndexMap<Name, Component<FieldDefinition>>,
-    faults: &mut Vec<Fault>,
+    faults: &mut Faults,
 ) -> Result<(), AllocError>
     ensures { OnOk result (AddsThese faults.old faults.new (fields_faults (schema_of judging.now) name.now.text (extended_type ty.now) fields.now.entries)) }
 {
     empty_field_set(judging, name, ty, fields, faults)?;
     for (field_name, field) in fields {
+        if faults.is_full() {
+            return Ok(());
+        }
         check_field(judging, field_name, &field.node, faults)?;
     }
     Ok(())
@@ -44,7 +47,7 @@ fn check_field(
     judging: &Judging<'_>,
     name: &Name,
     field: &Node<FieldDefinition>,
-    faults: &mut Vec<Fault>,
+    faults: &mut Faults,
 ) -> Result<(), AllocError>
     ensures { OnOk result (AddsThese faults.old faults.new (field_faults (schema_of judging.now) name.now.text (field_tree field.now))) }
 {
@@ -57,7 +60,7 @@ fn check_field_type(
     judging: &Judging<'_>,
     name: &Name,
     field: &Node<FieldDefinition>,
-    faults: &mut Vec<Fault>,
+    faults: &mut Faults,
 ) -> Result<(), AllocError>
     ensures { OnOk result (AddsThese faults.old faults.new (field_type_faults (schema_of judging.now) name.now.text (field_tree field.now))) }
 {
@@ -81,12 +84,15 @@ pub(crate) fn check_members(
     name: &Name,
     ty: &ExtendedType,
     members: &IndexSet<ComponentName>,
-    faults: &mut Vec<Fault>,
+    faults: &mut Faults,
 ) -> Result<(), AllocError>
     ensures { OnOk result (AddsThese faults.old faults.new (union_faults (schema_of judging.now) name.now.text (extended_type ty.now) members.now.keys)) }
 {
     empty_member_set(judging, name, ty, members, faults)?;
     for member in members.as_slice() {
+        if faults.is_full() {
+            return Ok(());
+        }
         check_member(judging, &member.name, faults)?;
     }
     Ok(())
@@ -96,7 +102,7 @@ pub(crate) fn check_members(
 fn check_member(
     judging: &Judging<'_>,
     member: &Name,
-    faults: &mut Vec<Fault>,
+    faults: &mut Faults,
 ) -> Result<(), AllocError>
     ensures { OnOk result (AddsThese faults.old faults.new (member_faults (schema_of judging.now) (name_tree member.now))) }
 {
@@ -111,12 +117,15 @@ pub(crate) fn check_values(
     name: &Name,
     ty: &ExtendedType,
     values: &IndexMap<Name, Component<EnumValueDefinition>>,
-    faults: &mut Vec<Fault>,
+    faults: &mut Faults,
 ) -> Result<(), AllocError>
     ensures { OnOk result (AddsThese faults.old faults.new (values_faults name.now.text (extended_type ty.now) values.now.entries)) }
 {
     empty_value_set(judging, name, ty, values, faults)?;
     for (value_name, value) in values {
+        if faults.is_full() {
+            return Ok(());
+        }
         check_value(value_name, &value.node, faults)?;
     }
     Ok(())
@@ -126,7 +135,7 @@ pub(crate) fn check_values(
 fn check_value(
     name: &Name,
     value: &Node<EnumValueDefinition>,
-    faults: &mut Vec<Fault>,
+    faults: &mut Faults,
 ) -> Result<(), AllocError>
     ensures { OnOk result (AddsThese faults.old faults.new (value_faults name.now.text (node_tree enum_value_tree value.now))) }
 {
@@ -146,7 +155,7 @@ pub(crate) fn check_input_fields(
     name: &Name,
     ty: &ExtendedType,
     fields: &IndexMap<Name, Component<InputValueDefinition>>,
-    faults: &mut Vec<Fault>,
+    faults: &mut Faults,
 ) -> Result<(), AllocError>
     ensures { OnOk result (AddsThese faults.old faults.new (inputs_faults (schema_of judging.now) name.now.text (extended_type ty.now) fields.now.entries)) }
 {
@@ -158,11 +167,14 @@ pub(crate) fn check_input_fields(
 fn check_each_input_field(
     judging: &Judging<'_>,
     fields: &IndexMap<Name, Component<InputValueDefinition>>,
-    faults: &mut Vec<Fault>,
+    faults: &mut Faults,
 ) -> Result<(), AllocError>
     ensures { OnOk result (AddsThese faults.old faults.new (each_input_faults (schema_of judging.now) fields.now.entries)) }
 {
     for (field_name, field) in fields {
+        if faults.is_full() {
+            return Ok(());
+        }
         check_input_field(judging, field_name, &field.node, faults)?;
     }
     Ok(())
@@ -173,7 +185,7 @@ fn check_input_field(
     judging: &Judging<'_>,
     name: &Name,
     field: &Node<InputValueDefinition>,
-    faults: &mut Vec<Fault>,
+    faults: &mut Faults,
 ) -> Result<(), AllocError>
     ensures { OnOk result (AddsThese faults.old faults.new (input_faults (schema_of judging.now) name.now.text (input_tree field.now))) }
 {

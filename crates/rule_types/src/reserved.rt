@@ -5,7 +5,7 @@ ghost use Rattle.fault_data.specs.in_rule_definitions.Names.{is_reserved};
 ghost use Rattle.rule_types.specs.NamedWords.{named_words};
 ghost use Rattle.rule_types.specs.FaultLists.{reserved_name};
 
-use fault_data::{DiagnosticData, Fault, tell};
+use fault_data::{DiagnosticData, Fault, Faults, tell};
 use graphql_names::{Name, SourceSpan};
 use std::alloc::AllocError;
 
@@ -41,7 +41,7 @@ pub(crate) fn reserved_name(
     name: &Name,
     location: Option<SourceSpan>,
     describe: &'static str,
-    faults: &mut Vec<Fault>,
+    faults: &mut Faults,
 ) -> Result<(), AllocError>
     ensures { OnOk result (AddsThese faults.old faults.new (reserved_name built_in name.now.text location describe.now)) }
 {

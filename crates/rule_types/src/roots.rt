@@ -9,7 +9,7 @@ ghost use Rattle.rule_types.specs.Trees.{schema_of, root_tree};
 use crate::judging::Judging;
 use crate::look_ups::kind_named;
 use crate::types_used::undefined_name;
-use fault_data::{DiagnosticData, Fault, tell};
+use fault_data::{DiagnosticData, Fault, Faults, tell};
 use graphql_names::{Name, Node};
 use schema_components::ComponentName;
 use schema_types::{SchemaDefinition, TypeKind};
@@ -17,7 +17,7 @@ use std::alloc::AllocError;
 use tree_operations::OperationType;
 
 /// Tells the faults of the roots.
-pub(crate) fn check_roots(judging: &Judging<'_>, faults: &mut Vec<Fault>) -> Result<(), AllocError>
+pub(crate) fn check_roots(judging: &Judging<'_>, faults: &mut Faults) -> Result<(), AllocError>
     ensures { OnOk result (AddsThese faults.old faults.new (roots_faults (schema_of judging.now))) }
 {
     let definition = &judging.schema.schema_definition;
@@ -33,7 +33,7 @@ pub(crate) fn check_roots(judging: &Judging<'_>, faults: &mut Vec<Fault>) -> Res
 fn check_root(
     judging: &Judging<'_>,
     root: &Option<ComponentName>,
-    faults: &mut Vec<Fault>,
+    faults: &mut Faults,
 ) -> Result<(), AllocError>
     ensures { OnOk result (AddsThese faults.old faults.new (root_faults (schema_of judging.now) (root_tree root.now))) }
 {
@@ -50,7 +50,7 @@ fn check_root(
 /// Tells each root of which an earlier one is the same type.
 fn check_repeats(
     definition: &Node<SchemaDefinition>,
-    faults: &mut Vec<Fault>,
+    faults: &mut Faults,
 ) -> Result<(), AllocError>
     ensures { OnOk result (AddsThese faults.old faults.new (repeated_roots (schema_roots definition.now))) }
 {
@@ -68,7 +68,7 @@ fn check_repeats(
 /// QueryRootOperationType: a schema is valid only if it has a root for queries (section 3.3.1).
 fn query_root_operation_type(
     definition: &Node<SchemaDefinition>,
-    faults: &mut Vec<Fault>,
+    faults: &mut Faults,
 ) -> Result<(), AllocError>
     ensures { OnOk result (AddsThese faults.old faults.new (query_root_operation_type (schema_roots definition.now))) }
 {
@@ -88,7 +88,7 @@ fn query_root_operation_type(
 fn root_operation_object_type(
     root: &Name,
     kind: Option<TypeKind>,
-    faults: &mut Vec<Fault>,
+    faults: &mut Faults,
 ) -> Result<(), AllocError>
     ensures { OnOk result (AddsThese faults.old faults.new (root_operation_object_type (name_tree root.now) kind)) }
 {
@@ -119,7 +119,7 @@ fn duplicate_root_operation_type(
     original: &Option<ComponentName>,
     redefined_operation: OperationType,
     redefined: &Option<ComponentName>,
-    faults: &mut Vec<Fault>,
+    faults: &mut Faults,
 ) -> Result<(), AllocError>
     ensures { OnOk result (AddsThese faults.old faults.new (duplicate_root_operation_type original_operation original.now redefined_operation redefined.now)) }
 {
@@ -150,7 +150,7 @@ fn duplicate_root_operation_type(
 /// Tells the root of subscriptions, where that of queries or else that of mutations is the same type.
 fn check_subscription(
     definition: &Node<SchemaDefinition>,
-    faults: &mut Vec<Fault>,
+    faults: &mut Faults,
 ) -> Result<(), AllocError>
     ensures { OnOk result (AddsThese faults.old faults.new (subscription_again (schema_roots definition.now))) }
 {

@@ -8,7 +8,7 @@ ghost use Rattle.fault_data.specs.in_rule_definitions.Names.{scalar_names};
 ghost use Rattle.rule_types.specs.FaultLists.{undefined_name, undefined_type, output_type, input_type, union_member_object_type};
 ghost use Rattle.rule_types.specs.Trees.{input_tree, field_tree};
 
-use fault_data::{DiagnosticData, Fault, tell};
+use fault_data::{DiagnosticData, Fault, Faults, tell};
 use graphql_names::{Name, Node};
 use schema_types::TypeKind;
 use std::alloc::AllocError;
@@ -21,7 +21,7 @@ use tree_type_members::FieldDefinition;
 pub(crate) fn undefined_name(
     name: &Name,
     kind: Option<TypeKind>,
-    faults: &mut Vec<Fault>,
+    faults: &mut Faults,
 ) -> Result<(), AllocError>
     ensures { OnOk result (AddsThese faults.old faults.new (undefined_name (name_tree name.now) kind)) }
 {
@@ -44,7 +44,7 @@ pub(crate) fn undefined_name(
 pub(crate) fn undefined_type(
     ty: &Type,
     kind: Option<TypeKind>,
-    faults: &mut Vec<Fault>,
+    faults: &mut Faults,
 ) -> Result<(), AllocError>
     ensures { OnOk result (AddsThese faults.old faults.new (undefined_type (type_tree ty.now) kind)) }
 {
@@ -73,7 +73,7 @@ pub(crate) fn output_type(
     name: &Name,
     field: &Node<FieldDefinition>,
     kind: Option<TypeKind>,
-    faults: &mut Vec<Fault>,
+    faults: &mut Faults,
 ) -> Result<(), AllocError>
     ensures { OnOk result (AddsThese faults.old faults.new (output_type name.now.text (field_tree field.now) kind)) }
 {
@@ -102,7 +102,7 @@ pub(crate) fn output_type(
 pub(crate) fn input_type(
     input: &Node<InputValueDefinition>,
     kind: Option<TypeKind>,
-    faults: &mut Vec<Fault>,
+    faults: &mut Faults,
 ) -> Result<(), AllocError>
     ensures { OnOk result (AddsThese faults.old faults.new (input_type (input_tree input.now) kind)) }
 {
@@ -131,7 +131,7 @@ pub(crate) fn input_type(
 pub(crate) fn union_member_object_type(
     member: &Name,
     kind: Option<TypeKind>,
-    faults: &mut Vec<Fault>,
+    faults: &mut Faults,
 ) -> Result<(), AllocError>
     ensures { OnOk result (AddsThese faults.old faults.new (union_member_object_type (name_tree member.now) kind)) }
 {

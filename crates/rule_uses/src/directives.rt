@@ -24,7 +24,7 @@ use crate::taken::check_taken;
 use crate::taker::{Taker, TakerName};
 use graphql_names::{Name, Node, SourceSpan};
 use indexmap::IndexMap;
-use rule_values::{DefinedVariables, DiagnosticData, Fault, Schema, note_first, tell};
+use rule_values::{DefinedVariables, DiagnosticData, Fault, Faults, Schema, note_first, tell};
 use std::alloc::AllocError;
 use tree_directives::{Directive, DirectiveDefinition, DirectiveLocation};
 
@@ -38,7 +38,7 @@ fn find_definition<'a>(schema: &'a Schema, name: &Name) -> Option<&'a Node<Direc
 /// UndefinedDirective: a use of a directive is valid only if the directive is defined (section 5.7.1). This one is not.
 fn undefined_directive(
     directive: &Node<Directive>,
-    faults: &mut Vec<Fault>,
+    faults: &mut Faults,
 ) -> Result<(), AllocError>
     ensures { OnOk result (Tells faults.old faults.new (undefined_directive (node_tree directive_tree directive.now) ∷ [])) }
 {
@@ -60,7 +60,7 @@ fn unsupported_location(
     directive: &Node<Directive>,
     definition: &Node<DirectiveDefinition>,
     location: DirectiveLocation,
-    faults: &mut Vec<Fault>,
+    faults: &mut Faults,
 ) -> Result<(), AllocError>
     ensures { OnOk result (AddsUnsupported definition.now location directive.now faults.old faults.new) }
 {
@@ -89,7 +89,7 @@ fn unique_directive(
     schema: &Schema,
     first: Option<Option<SourceSpan>>,
     later: &Node<Directive>,
-    faults: &mut Vec<Fault>,
+    faults: &mut Faults,
 ) -> Result<(), AllocError>
     ensures { OnOk result (Tells faults.old faults.new (directive_used_again schema.now first later.now)) }
 {
@@ -115,7 +115,7 @@ fn unique_directive(
 fn tell_repeated_directives(
     schema: &Schema,
     directives: &[Node<Directive>],
-    faults: &mut Vec<Fault>,
+    faults: &mut Faults,
 ) -> Result<(), AllocError>
     ensures { OnOk result (Tells faults.old faults.new (repeated_directives_of schema.now directives.now)) }
 {
@@ -131,12 +131,15 @@ fn tell_directives_again(
     schema: &Schema,
     directives: &[Node<Directive>],
     places: &mut IndexMap<Name, Option<SourceSpan>>,
-    faults: &mut Vec<Fault>,
+    faults: &mut Faults,
 ) -> Result<(), AllocError>
     requires { AreFirsts directive_name (λ i a. a.place) places.old (directives_of []) }
     ensures { OnOk result (Tells faults.old faults.new (repeated_directives_of schema.now directives.now)) }
 {
     for directive in directives {
+        if faults.is_full() {
+            return Ok(());
+        }
         let name = &directive.content().name;
         let first = note_first(places, name, directive.location())?;
         unique_directive(schema, first, directive, faults)?;
@@ -150,7 +153,7 @@ fn check_defined_use(
     directive: &Node<Directive>,
     definition: &Node<DirectiveDefinition>,
     location: DirectiveLocation,
-    faults: &mut Vec<Fault>,
+    faults: &mut Faults,
 ) -> Result<(), AllocError>
     requires { directive_definition_at (schema_of judging.now) (content directive.now).name.text ≡ Some (node_tree directive_definition_tree definition.now) }
     ensures { OnOk result (Adds faults.old faults.new (BreaksItsDefinition judging.now location directive.now definition.now)) }
@@ -173,7 +176,7 @@ fn check_use(
     judging: &Judging<'_>,
     directive: &Node<Directive>,
     location: DirectiveLocation,
-    faults: &mut Vec<Fault>,
+    faults: &mut Faults,
 ) -> Result<(), AllocError>
     ensures { OnOk result (Adds faults.old faults.new (OneUseBreaks judging.now location directive.now)) }
 {
@@ -190,11 +193,14 @@ fn check_each_use(
     judging: &Judging<'_>,
     directives: &[Node<Directive>],
     location: DirectiveLocation,
-    faults: &mut Vec<Fault>,
+    faults: &mut Faults,
 ) -> Result<(), AllocError>
     ensures { OnOk result (Adds faults.old faults.new (SomeUseBreaks judging.now location directives.now)) }
 {
     for directive in directives {
+        if faults.is_full() {
+            return Ok(());
+        }
         check_use(judging, directive, location, faults)?;
     }
     Ok(())
@@ -207,7 +213,7 @@ pub fn check_uses(
     directives: &[Node<Directive>],
     location: DirectiveLocation,
     variables: &DefinedVariables<'_>,
-    faults: &mut Vec<Fault>,
+    faults: &mut Faults,
 ) -> Result<(), AllocError>
     ensures { OnOk result (AddsUsesFaults (schema_tree schema.now) (variables_of variables.now) location (directives_of directives.now) faults.old faults.new) }
 {
@@ -219,7 +225,7 @@ pub fn check_uses(
 /// Adds the faults of the use of a directive where none is defined, without variables.
 fn check_directive_alone(
     directive: &Node<Directive>,
-    faults: &mut Vec<Fault>,
+    faults: &mut Faults,
 ) -> Result<(), AllocError>
     ensures { OnOk result (Adds faults.old faults.new (DirectiveAloneBreaks (node_tree directive_tree directive.now))) }
 {
@@ -231,11 +237,14 @@ fn check_directive_alone(
 /// UndefinedDirective of each, and of its arguments those of `check_arguments_alone`.
 pub fn check_directives_alone(
     directives: &[Node<Directive>],
-    faults: &mut Vec<Fault>,
+    faults: &mut Faults,
 ) -> Result<(), AllocError>
     ensures { OnOk result (Adds faults.old faults.new (DirectivesAloneBreak (directives_of directives.now))) }
 {
     for directive in directives {
+        if faults.is_full() {
+            return Ok(());
+        }
         check_directive_alone(directive, faults)?;
     }
     Ok(())
@@ -245,7 +254,7 @@ pub fn check_directives_alone(
 fn check_undefined_use(
     directive: &Node<Directive>,
     variables: &DefinedVariables<'_>,
-    faults: &mut Vec<Fault>,
+    faults: &mut Faults,
 ) -> Result<(), AllocError>
     ensures { OnOk result ((location : DirectiveLocation) → Adds faults.old faults.new (UndefinedUseBreaks variables.now location directive.now)) }
 {
@@ -257,11 +266,14 @@ fn check_undefined_use(
 fn check_undefined_uses(
     directives: &[Node<Directive>],
     variables: &DefinedVariables<'_>,
-    faults: &mut Vec<Fault>,
+    faults: &mut Faults,
 ) -> Result<(), AllocError>
     ensures { OnOk result (AddsUndefinedUses variables.now directives.now faults.old faults.new) }
 {
     for directive in directives {
+        if faults.is_full() {
+            return Ok(());
+        }
         check_undefined_use(directive, variables, faults)?;
     }
     Ok(())
@@ -273,7 +285,7 @@ pub fn check_directives(
     directives: &[Node<Directive>],
     location: DirectiveLocation,
     variables: &DefinedVariables<'_>,
-    faults: &mut Vec<Fault>,
+    faults: &mut Faults,
 ) -> Result<(), AllocError>
     ensures { OnOk result (AddsUsesFaults (tree_of schema.entry) (variables_of variables.now) location (directives_of directives.now) faults.old faults.new) }
 {

@@ -20,7 +20,7 @@ ghost use Rattle.rule_uses.specs.Steps.{VariablesGivenBreak};
 use graphql_names::{Name, Node, SourceSpan};
 use indexmap::IndexMap;
 use rule_values::{
-    DefinedVariables, DiagnosticData, Fault, note_first, tell, undefined_variables,
+    DefinedVariables, DiagnosticData, Fault, Faults, note_first, tell, undefined_variables,
     unique_input_values,
 };
 use std::alloc::{AllocError, Global};
@@ -60,7 +60,7 @@ pub(crate) fn find_argument<'a>(
 fn unique_argument(
     first: Option<Option<SourceSpan>>,
     later: &Node<Argument>,
-    faults: &mut Vec<Fault>,
+    faults: &mut Faults,
 ) -> Result<(), AllocError>
     ensures { OnOk result (Tells faults.old faults.new (argument_again first (node_tree argument_tree later.now))) }
 {
@@ -79,7 +79,7 @@ fn unique_argument(
 /// Adds a fault for each argument that is given before.
 fn tell_repeated_arguments(
     given: &[Node<Argument>],
-    faults: &mut Vec<Fault>,
+    faults: &mut Faults,
 ) -> Result<(), AllocError>
     ensures { OnOk result (faults_of faults.new ≡ faults_of faults.old ++ each_place repeated_argument (arguments_of given.now)) }
 {
@@ -94,12 +94,15 @@ fn tell_repeated_arguments(
 fn tell_arguments_again(
     given: &[Node<Argument>],
     places: &mut IndexMap<Name, Option<SourceSpan>>,
-    faults: &mut Vec<Fault>,
+    faults: &mut Faults,
 ) -> Result<(), AllocError>
     requires { AreFirsts argument_name (λ i a. a.place) places.old (arguments_of []) }
     ensures { OnOk result (faults_of faults.new ≡ faults_of faults.old ++ each_place repeated_argument (arguments_of given.now)) }
 {
     for argument in given {
+        if faults.is_full() {
+            return Ok(());
+        }
         let name = &argument.content().name;
         let first = note_first(places, name, argument.location())?;
         unique_argument(first, argument, faults)?;
@@ -108,10 +111,13 @@ fn tell_arguments_again(
 }
 
 /// Adds the faults of the keys in the value of each argument.
-fn check_keys_given(given: &[Node<Argument>], faults: &mut Vec<Fault>) -> Result<(), AllocError>
+fn check_keys_given(given: &[Node<Argument>], faults: &mut Faults) -> Result<(), AllocError>
     ensures { OnOk result (Adds faults.old faults.new (KeysBreak (arguments_of given.now))) }
 {
     for argument in given {
+        if faults.is_full() {
+            return Ok(());
+        }
         unique_input_values(&argument.content().value, faults)?;
     }
     Ok(())
@@ -121,7 +127,7 @@ fn check_keys_given(given: &[Node<Argument>], faults: &mut Vec<Fault>) -> Result
 /// UniqueArgument, and of the value of each UniqueInputValue.
 pub fn check_arguments_alone(
     given: &[Node<Argument>],
-    faults: &mut Vec<Fault>,
+    faults: &mut Faults,
 ) -> Result<(), AllocError>
     ensures { OnOk result (Adds faults.old faults.new (ArgumentsBreak (arguments_of given.now))) }
 {
@@ -133,11 +139,14 @@ pub fn check_arguments_alone(
 pub(crate) fn check_variables_given(
     given: &[Node<Argument>],
     variables: &DefinedVariables<'_>,
-    faults: &mut Vec<Fault>,
+    faults: &mut Faults,
 ) -> Result<(), AllocError>
     ensures { OnOk result (Adds faults.old faults.new (VariablesGivenBreak (variables_of variables.now) (arguments_of given.now))) }
 {
     for argument in given {
+        if faults.is_full() {
+            return Ok(());
+        }
         undefined_variables(&argument.content().value, variables, faults)?;
     }
     Ok(())
@@ -148,7 +157,7 @@ pub(crate) fn check_variables_given(
 pub fn check_given(
     given: &[Node<Argument>],
     variables: &DefinedVariables<'_>,
-    faults: &mut Vec<Fault>,
+    faults: &mut Faults,
 ) -> Result<(), AllocError>
     ensures { OnOk result (AddsGivenFaults (variables_of variables.now) (arguments_of given.now) faults.old faults.new) }
 {

@@ -22,7 +22,7 @@ ghost use Rattle.rule_uses.specs.Telling.{fields_of, definitions_of};
 use crate::directives::check_uses;
 use graphql_names::{Name, Node};
 use indexmap::IndexMap;
-use rule_values::{DefinedVariables, Fault, Schema};
+use rule_values::{DefinedVariables, Faults, Schema};
 use schema_components::{Component, DirectiveList};
 use schema_types::{ExtendedType, TypeKind};
 use std::alloc::{AllocError, Global};
@@ -59,7 +59,7 @@ fn check_at(
     schema: &Schema,
     directives: &[Node<Directive>],
     location: DirectiveLocation,
-    faults: &mut Vec<Fault>,
+    faults: &mut Faults,
 ) -> Result<(), AllocError>
     ensures { OnOk result (Adds faults.old faults.new (UsesAt (schema_tree schema.now) location (directives_of directives.now))) }
 {
@@ -72,7 +72,7 @@ fn check_applied(
     schema: &Schema,
     list: &DirectiveList,
     location: DirectiveLocation,
-    faults: &mut Vec<Fault>,
+    faults: &mut Faults,
 ) -> Result<(), AllocError>
     ensures { OnOk result (Adds faults.old faults.new (UsesAt (schema_tree schema.now) location (applied (schema_tree schema.now) (applied_tree list.now)))) }
 {
@@ -84,11 +84,14 @@ fn check_applied(
 fn check_arguments(
     schema: &Schema,
     definitions: &[Node<InputValueDefinition>],
-    faults: &mut Vec<Fault>,
+    faults: &mut Faults,
 ) -> Result<(), AllocError>
     ensures { OnOk result (Adds faults.old faults.new (ArgumentUses (schema_tree schema.now) (input_value_trees definitions.now))) }
 {
     for definition in definitions {
+        if faults.is_full() {
+            return Ok(());
+        }
         check_at(
             schema,
             &definition.content().directives.0,
@@ -103,7 +106,7 @@ fn check_arguments(
 fn check_field(
     schema: &Schema,
     field: &FieldDefinition,
-    faults: &mut Vec<Fault>,
+    faults: &mut Faults,
 ) -> Result<(), AllocError>
     ensures { OnOk result (Adds faults.old faults.new (FieldUses (schema_tree schema.now) (field_definition_tree field.now))) }
 {
@@ -120,11 +123,14 @@ fn check_field(
 fn check_fields(
     schema: &Schema,
     fields: &IndexMap<Name, Component<FieldDefinition>>,
-    faults: &mut Vec<Fault>,
+    faults: &mut Faults,
 ) -> Result<(), AllocError>
     ensures { OnOk result (Adds faults.old faults.new (FieldsUses (schema_tree schema.now) (fields_of fields.now))) }
 {
     for (_, field) in fields {
+        if faults.is_full() {
+            return Ok(());
+        }
         check_field(schema, field.node.content(), faults)?;
     }
     Ok(())
@@ -134,11 +140,14 @@ fn check_fields(
 fn check_values(
     schema: &Schema,
     values: &IndexMap<Name, Component<EnumValueDefinition>>,
-    faults: &mut Vec<Fault>,
+    faults: &mut Faults,
 ) -> Result<(), AllocError>
     ensures { OnOk result (Adds faults.old faults.new (ValuesUses (schema_tree schema.now) (entries_of name_text (component_tree enum_value_tree) values.now))) }
 {
     for (_, value) in values {
+        if faults.is_full() {
+            return Ok(());
+        }
         check_at(
             schema,
             &value.node.content().directives.0,
@@ -153,11 +162,14 @@ fn check_values(
 fn check_inputs(
     schema: &Schema,
     fields: &IndexMap<Name, Component<InputValueDefinition>>,
-    faults: &mut Vec<Fault>,
+    faults: &mut Faults,
 ) -> Result<(), AllocError>
     ensures { OnOk result (Adds faults.old faults.new (InputsUses (schema_tree schema.now) (entries_of name_text (component_tree input_value_tree) fields.now))) }
 {
     for (_, field) in fields {
+        if faults.is_full() {
+            return Ok(());
+        }
         check_at(
             schema,
             &field.node.content().directives.0,
@@ -169,7 +181,7 @@ fn check_inputs(
 }
 
 /// Adds the faults at a type itself. Those of the built-in scalars are not judged.
-fn check_own(schema: &Schema, ty: &ExtendedType, faults: &mut Vec<Fault>) -> Result<(), AllocError>
+fn check_own(schema: &Schema, ty: &ExtendedType, faults: &mut Faults) -> Result<(), AllocError>
     ensures { OnOk result (Adds faults.old faults.new (OwnUses (schema_tree schema.now) (extended_type ty.now))) }
 {
     if ty.is_scalar() && ty.is_built_in() {
@@ -182,7 +194,7 @@ fn check_own(schema: &Schema, ty: &ExtendedType, faults: &mut Vec<Fault>) -> Res
 fn check_parts(
     schema: &Schema,
     ty: &ExtendedType,
-    faults: &mut Vec<Fault>,
+    faults: &mut Faults,
 ) -> Result<(), AllocError>
     ensures { OnOk result (Adds faults.old faults.new (PartsUses (schema_tree schema.now) (extended_type ty.now))) }
 {
@@ -199,11 +211,14 @@ fn check_parts(
 fn check_types(
     schema: &Schema,
     types: &IndexMap<Name, ExtendedType>,
-    faults: &mut Vec<Fault>,
+    faults: &mut Faults,
 ) -> Result<(), AllocError>
     ensures { OnOk result (Adds faults.old faults.new (TypesUses (schema_tree schema.now) (entries_of name_text extended_type types.now))) }
 {
     for (_, ty) in types {
+        if faults.is_full() {
+            return Ok(());
+        }
         check_own(schema, ty, faults)?;
         check_parts(schema, ty, faults)?;
     }
@@ -214,7 +229,7 @@ fn check_types(
 fn check_own_definition(
     schema: &Schema,
     definition: &Node<DirectiveDefinition>,
-    faults: &mut Vec<Fault>,
+    faults: &mut Faults,
 ) -> Result<(), AllocError>
     ensures { OnOk result (Adds faults.old faults.new (OwnDefinitionUses (schema_tree schema.now) (node_tree directive_definition_tree definition.now))) }
 {
@@ -233,11 +248,14 @@ fn check_own_definition(
 fn check_definitions(
     schema: &Schema,
     definitions: &IndexMap<Name, Node<DirectiveDefinition>>,
-    faults: &mut Vec<Fault>,
+    faults: &mut Faults,
 ) -> Result<(), AllocError>
     ensures { OnOk result (Adds faults.old faults.new (DefinitionsUses (schema_tree schema.now) (definitions_of definitions.now))) }
 {
     for (_, definition) in definitions {
+        if faults.is_full() {
+            return Ok(());
+        }
         check_own_definition(schema, definition, faults)?;
         check_arguments(schema, &definition.content().arguments, faults)?;
     }
@@ -247,7 +265,7 @@ fn check_definitions(
 /// Adds the faults of the directives that are used in the schema: at its definition, at types but built-in scalars, at
 /// fields, arguments, values and input fields, and at definitions of directives but built-in ones. In it no two things of
 /// one kind have one name, as in every map.
-pub fn check_schema_directives(schema: &Schema, faults: &mut Vec<Fault>) -> Result<(), AllocError>
+pub fn check_schema_directives(schema: &Schema, faults: &mut Faults) -> Result<(), AllocError>
     requires { AreAllDistinct (schema_tree schema.now) }
     ensures { OnOk result (Adds faults.old faults.new (Told (schema_tree schema.now) SchemaUsesBreak)) }
 {

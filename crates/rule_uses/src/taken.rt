@@ -26,7 +26,7 @@ use crate::taker::Taker;
 use crate::usage::disallowed_variable_usage;
 use graphql_names::{Name, Node};
 use indexmap::IndexMap;
-use rule_values::{DefinedVariables, DiagnosticData, Fault, Schema, note_first, tell, type_breaks};
+use rule_values::{DefinedVariables, DiagnosticData, Fault, Faults, Schema, note_first, tell, type_breaks};
 use std::alloc::{AllocError, Global};
 use tree_directives::{Argument, InputValueDefinition};
 
@@ -64,7 +64,7 @@ fn undefined_argument(
     taker: &Taker<'_>,
     defined: &IndexMap<Name, usize>,
     argument: &Node<Argument>,
-    faults: &mut Vec<Fault>,
+    faults: &mut Faults,
 ) -> Result<(), AllocError>
     requires { AreNumbers input_name defined.now (input_value_trees taker.now.definitions.now) }
     ensures { OnOk result (Tells faults.old faults.new (undefined_argument_of taker.now argument.now)) }
@@ -87,12 +87,15 @@ fn undefined_argument(
 fn tell_undefined_arguments(
     taker: &Taker<'_>,
     defined: &IndexMap<Name, usize>,
-    faults: &mut Vec<Fault>,
+    faults: &mut Faults,
 ) -> Result<(), AllocError>
     requires { AreNumbers input_name defined.now (input_value_trees taker.now.definitions.now) }
     ensures { OnOk result (Tells faults.old faults.new (undefined_arguments_of taker.now)) }
 {
     for argument in taker.given {
+        if faults.is_full() {
+            return Ok(());
+        }
         undefined_argument(taker, defined, argument, faults)?;
     }
     Ok(())
@@ -115,7 +118,7 @@ fn required_argument(
     taker: &Taker<'_>,
     given: &IndexMap<Name, usize>,
     definition: &Node<InputValueDefinition>,
-    faults: &mut Vec<Fault>,
+    faults: &mut Faults,
 ) -> Result<(), AllocError>
     requires { AreNumbers argument_name given.now (arguments_of taker.now.given.now) }
     ensures { OnOk result (Tells faults.old faults.new (required_argument (taker_of taker.now) (node_tree input_value_tree definition.now))) }
@@ -140,12 +143,15 @@ fn required_argument(
 fn tell_required_arguments(
     taker: &Taker<'_>,
     given: &IndexMap<Name, usize>,
-    faults: &mut Vec<Fault>,
+    faults: &mut Faults,
 ) -> Result<(), AllocError>
     requires { AreNumbers argument_name given.now (arguments_of taker.now.given.now) }
     ensures { OnOk result (Tells faults.old faults.new (required_arguments_of taker.now)) }
 {
     for definition in taker.definitions {
+        if faults.is_full() {
+            return Ok(());
+        }
         required_argument(taker, given, definition, faults)?;
     }
     Ok(())
@@ -156,7 +162,7 @@ fn check_argument(
     judging: &Judging<'_>,
     argument: &Node<Argument>,
     definition: &Node<InputValueDefinition>,
-    faults: &mut Vec<Fault>,
+    faults: &mut Faults,
 ) -> Result<(), AllocError>
     ensures { OnOk result (Adds faults.old faults.new (BreaksDefinition judging.now definition.now argument.now)) }
 {
@@ -178,7 +184,7 @@ fn check_if_defined(
     taker: &Taker<'_>,
     defined: &IndexMap<Name, usize>,
     argument: &Node<Argument>,
-    faults: &mut Vec<Fault>,
+    faults: &mut Faults,
 ) -> Result<(), AllocError>
     requires { AreNumbers input_name defined.now (input_value_trees taker.now.definitions.now) }
     ensures { OnOk result (Adds faults.old faults.new (BreaksIfDefined judging.now taker.now argument.now)) }
@@ -206,13 +212,16 @@ fn check_arguments(
     taker: &Taker<'_>,
     defined: &IndexMap<Name, usize>,
     given: &IndexMap<Name, usize>,
-    faults: &mut Vec<Fault>,
+    faults: &mut Faults,
 ) -> Result<(), AllocError>
     requires defined { AreNumbers input_name defined.now (input_value_trees taker.now.definitions.now) }
     requires given { AreNumbers argument_name given.now (arguments_of taker.now.given.now) }
     ensures { OnOk result (Adds faults.old faults.new (SomeGivenBreaks judging.now taker.now)) }
 {
     for index in 0..taker.given.len() {
+        if faults.is_full() {
+            return Ok(());
+        }
         let argument = &taker.given[index];
         if has_number(given, &argument.content().name, index) {
             check_if_defined(judging, taker, defined, argument, faults)?;
@@ -228,7 +237,7 @@ pub fn check_taken(
     schema: &Schema,
     taker: &Taker<'_>,
     variables: &DefinedVariables<'_>,
-    faults: &mut Vec<Fault>,
+    faults: &mut Faults,
 ) -> Result<(), AllocError>
     ensures { OnOk result (AddsTakerFaults (schema_tree schema.now) (variables_of variables.now) taker.now faults.old faults.new) }
 {
@@ -246,7 +255,7 @@ fn check_some_taken(
     judging: &Judging<'_>,
     taker: &Taker<'_>,
     given: &IndexMap<Name, usize>,
-    faults: &mut Vec<Fault>,
+    faults: &mut Faults,
 ) -> Result<(), AllocError>
     requires { AreNumbers argument_name given.now (arguments_of taker.now.given.now) }
     ensures { OnOk result (AddsTakerFaults (schema_of judging.now) (variables_in judging.now) taker.now faults.old faults.new) }

@@ -15,7 +15,7 @@ ghost use Rattle.rule_uses.specs.Telling.{told_usage, variables_in};
 
 use crate::judging::Judging;
 use graphql_names::{Name, Node};
-use rule_values::{DefinedVariables, DiagnosticData, Fault, tell};
+use rule_values::{DefinedVariables, DiagnosticData, Fault, Faults, tell};
 use std::alloc::AllocError;
 use tree_directives::{Argument, InputValueDefinition};
 use tree_literals::Type;
@@ -129,7 +129,7 @@ pub(crate) fn disallowed_variable_usage(
     judging: &Judging<'_>,
     argument: &Node<Argument>,
     definition: &InputValueDefinition,
-    faults: &mut Vec<Fault>,
+    faults: &mut Faults,
 ) -> Result<(), AllocError>
     ensures { OnOk result (Adds faults.old faults.new (DisallowedUsage (variables_in judging.now) (input_value_tree definition.now) (node_tree argument_tree argument.now))) }
 {

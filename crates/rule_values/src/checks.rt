@@ -13,7 +13,7 @@ use crate::defined::DefinedVariables;
 use crate::keys::tell_key_faults;
 use crate::types::tell_type_faults;
 use crate::variables::tell_variable_faults;
-use fault_data::Fault;
+use fault_data::Faults;
 use graphql_names::Node;
 use graphql_schema::Schema;
 use std::alloc::AllocError;
@@ -25,7 +25,7 @@ pub fn check_value(
     ty: &Node<Type>,
     value: &Node<Value>,
     variables: &DefinedVariables<'_>,
-    faults: &mut Vec<Fault>,
+    faults: &mut Faults,
 ) -> Result<(), AllocError>
     ensures { OnOk result (Adds faults.old faults.new (ValueBreaks (place_at (schema_tree schema.now)) (judged (schema_tree schema.now)) (variables_of variables.now) (wanted_type ty.now) (place value.now) (value_tree (content value.now)))) }
 {
@@ -40,7 +40,7 @@ pub fn type_breaks(
     ty: &Node<Type>,
     value: &Node<Value>,
     variables: &DefinedVariables<'_>,
-    faults: &mut Vec<Fault>,
+    faults: &mut Faults,
 ) -> Result<(), AllocError>
     ensures { OnOk result (Adds faults.old faults.new (TypeBreaks (place_at (schema_tree schema.now)) (judged (schema_tree schema.now)) (variables_of variables.now) (wanted_type ty.now) (place value.now) (value_tree (content value.now)))) }
 {
@@ -51,7 +51,7 @@ pub fn type_breaks(
 pub fn undefined_variables(
     value: &Node<Value>,
     variables: &DefinedVariables<'_>,
-    faults: &mut Vec<Fault>,
+    faults: &mut Faults,
 ) -> Result<(), AllocError>
     ensures { OnOk result (Adds faults.old faults.new (UndefinedVariableIn (variables_of variables.now) (place value.now) (value_tree (content value.now)))) }
 {
@@ -59,7 +59,7 @@ pub fn undefined_variables(
 }
 
 /// Adds a fault for each key of an object in a value, at any depth, that the object has before (section 5.6.3).
-pub fn unique_input_values(value: &Node<Value>, faults: &mut Vec<Fault>) -> Result<(), AllocError>
+pub fn unique_input_values(value: &Node<Value>, faults: &mut Faults) -> Result<(), AllocError>
     ensures { OnOk result (Adds faults.old faults.new (UniqueInputValueIn (value_tree (content value.now)))) }
 {
     tell_key_faults(value, faults)

@@ -16,7 +16,7 @@ ghost use Rattle.rule_values.specs.Telling.{Tells, unsupported_of, integer_fault
 use crate::defined::DefinedVariables;
 use crate::find::find_value;
 use crate::wanted::Wanted;
-use fault_data::{DiagnosticData, Fault, tell};
+use fault_data::{DiagnosticData, Fault, Faults, tell};
 use graphql_names::{Name, Node, SourceSpan};
 use schema_types::ExtendedType;
 use std::alloc::{AllocError, Global};
@@ -129,7 +129,7 @@ pub(crate) fn unsupported_value_type(
     found: &ExtendedType,
     value: &Node<Value>,
     variables: &DefinedVariables<'_>,
-    faults: &mut Vec<Fault>,
+    faults: &mut Faults,
 ) -> Result<(), AllocError>
     ensures { OnOk result (Tells faults.old faults.new (unsupported_of variables.now wanted.now found.now value.now)) }
 {
@@ -170,7 +170,7 @@ pub(crate) fn int_coercion_error(
     found: &ExtendedType,
     value: &Value,
     location: Option<SourceSpan>,
-    faults: &mut Vec<Fault>,
+    faults: &mut Faults,
 ) -> Result<(), AllocError>
     ensures { OnOk result (Tells faults.old faults.new (integer_faults_of name.now found.now location value.now)) }
 {
@@ -194,7 +194,7 @@ pub(crate) fn undefined_enum_value(
     found: &ExtendedType,
     value: &Value,
     location: Option<SourceSpan>,
-    faults: &mut Vec<Fault>,
+    faults: &mut Faults,
 ) -> Result<(), AllocError>
     ensures { OnOk result (Tells faults.old faults.new (enum_faults_of name.now found.now location value.now)) }
 {

@@ -7,7 +7,7 @@ ghost use Rattle.fault_data.specs.FaultView.{faults_of};
 ghost use Rattle.rule_values.specs.KeyFaults.{key_again, repeated_keys, key_faults, key_faults_items, key_faults_object, key_faults_entries};
 
 use crate::firsts::note_first;
-use fault_data::{DiagnosticData, Fault, tell};
+use fault_data::{DiagnosticData, Fault, Faults, tell};
 use graphql_names::{Name, Node, SourceSpan};
 use indexmap::IndexMap;
 use std::alloc::AllocError;
@@ -18,7 +18,7 @@ use tree_literals::Value;
 fn unique_input_value(
     first: Option<Option<SourceSpan>>,
     key: &Name,
-    faults: &mut Vec<Fault>,
+    faults: &mut Faults,
 ) -> Result<(), AllocError>
     ensures { OnOk result (faults_of faults.new ≡ faults_of faults.old ++ key_again first (name_tree key.now)) }
 {
@@ -39,12 +39,15 @@ fn unique_input_value(
 #[inline(never)]
 fn tell_repeated_keys(
     entries: &[(Name, Node<Value>)],
-    faults: &mut Vec<Fault>,
+    faults: &mut Faults,
 ) -> Result<(), AllocError>
     ensures { OnOk result (faults_of faults.new ≡ faults_of faults.old ++ repeated_keys [] (entry_trees value_tree entries.now)) }
 {
     let mut places = IndexMap::new(*faults.allocator());
     for entry in entries {
+        if faults.is_full() {
+            return Ok(());
+        }
         let first = note_first(&mut places, &entry.0, entry.0.location())?;
         unique_input_value(first, &entry.0, faults)?;
     }
@@ -54,7 +57,7 @@ fn tell_repeated_keys(
 /// Adds the faults of the keys in a value.
 pub(crate) fn tell_key_faults(
     value: &Node<Value>,
-    faults: &mut Vec<Fault>,
+    faults: &mut Faults,
 ) -> Result<(), AllocError>
     ensures { OnOk result (faults_of faults.new ≡ faults_of faults.old ++ key_faults (value_tree (content value.now))) }
 {
@@ -64,7 +67,7 @@ pub(crate) fn tell_key_faults(
 /// Adds the faults of the keys in a value, at any depth.
 #[cycle(keys)]
 #[tactic(auto, using(tree_literals::proofs::Trees::value_tree_rules))]
-fn tell_keys(value: &Value, faults: &mut Vec<Fault>) -> Result<(), AllocError>
+fn tell_keys(value: &Value, faults: &mut Faults) -> Result<(), AllocError>
     ensures { OnOk result (faults_of faults.new ≡ faults_of faults.old ++ key_faults (value_tree value.now)) }
 {
     match value {
@@ -81,10 +84,13 @@ fn tell_keys(value: &Value, faults: &mut Vec<Fault>) -> Result<(), AllocError>
 }
 
 #[cycle(keys)]
-fn tell_keys_of_items(items: &[Node<Value>], faults: &mut Vec<Fault>) -> Result<(), AllocError>
+fn tell_keys_of_items(items: &[Node<Value>], faults: &mut Faults) -> Result<(), AllocError>
     ensures { OnOk result (faults_of faults.new ≡ faults_of faults.old ++ key_faults_items (item_trees value_tree items.now)) }
 {
     for item in items {
+        if faults.is_full() {
+            return Ok(());
+        }
         tell_keys(item.content(), faults)?;
     }
     Ok(())
@@ -93,7 +99,7 @@ fn tell_keys_of_items(items: &[Node<Value>], faults: &mut Vec<Fault>) -> Result<
 #[cycle(keys)]
 fn tell_keys_of_object(
     entries: &[(Name, Node<Value>)],
-    faults: &mut Vec<Fault>,
+    faults: &mut Faults,
 ) -> Result<(), AllocError>
     ensures { OnOk result (faults_of faults.new ≡ faults_of faults.old ++ key_faults_object (entry_trees value_tree entries.now)) }
 {
@@ -104,11 +110,14 @@ fn tell_keys_of_object(
 #[cycle(keys)]
 fn tell_keys_of_entries(
     entries: &[(Name, Node<Value>)],
-    faults: &mut Vec<Fault>,
+    faults: &mut Faults,
 ) -> Result<(), AllocError>
     ensures { OnOk result (faults_of faults.new ≡ faults_of faults.old ++ key_faults_entries (entry_trees value_tree entries.now)) }
 {
     for entry in entries {
+        if faults.is_full() {
+            return Ok(());
+        }
         tell_keys(entry.1.content(), faults)?;
     }
     Ok(())

@@ -22,7 +22,7 @@ mod wanted;
 pub use checks::{check_value, type_breaks, undefined_variables, unique_input_values};
 pub use defined::DefinedVariables;
 pub use fault_data::{
-    DiagnosticData, DirectiveArgumentCoordinate, DirectiveCoordinate, Fault,
+    DiagnosticData, DirectiveArgumentCoordinate, DirectiveCoordinate, Fault, Faults,
     FieldArgumentCoordinate, SchemaCoordinate, TypeAttributeCoordinate, tell,
 };
 pub use firsts::note_first;

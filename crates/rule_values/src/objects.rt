@@ -11,7 +11,7 @@ ghost use Rattle.rule_values.specs.Telling.{Tells, undefined_key_of, told_key, r
 
 use crate::find::find_input;
 use crate::firsts::note_first;
-use fault_data::{DiagnosticData, Fault, TypeAttributeCoordinate, tell};
+use fault_data::{DiagnosticData, Fault, Faults, TypeAttributeCoordinate, tell};
 use graphql_names::{Name, Node, SourceSpan};
 use indexmap::IndexMap;
 use schema_components::Component;
@@ -26,7 +26,7 @@ pub(crate) fn undefined_input_value(
     name: &Name,
     found: &ExtendedType,
     value: &Value,
-    faults: &mut Vec<Fault>,
+    faults: &mut Faults,
 ) -> Result<(), AllocError>
     ensures { OnOk result (Tells faults.old faults.new (undefined_input_value name.now.text (extended_type found.now) (value_tree value.now))) }
 {
@@ -44,11 +44,14 @@ fn undefined_key(
     name: &Name,
     found: &ExtendedType,
     entries: &[(Name, Node<Value>)],
-    faults: &mut Vec<Fault>,
+    faults: &mut Faults,
 ) -> Result<(), AllocError>
     ensures { OnOk result (Tells faults.old faults.new (undefined_key_of name.now found.now entries.now)) }
 {
     for entry in entries {
+        if faults.is_full() {
+            return Ok(());
+        }
         if find_input(found, &entry.0).is_none() {
             return told_key(name, found, entry, faults);
         }
@@ -61,7 +64,7 @@ fn told_key(
     name: &Name,
     found: &ExtendedType,
     entry: &(Name, Node<Value>),
-    faults: &mut Vec<Fault>,
+    faults: &mut Faults,
 ) -> Result<(), AllocError>
     ensures { OnOk result (Tells faults.old faults.new (told_key name.now found.now entry.now)) }
 {
@@ -119,7 +122,7 @@ fn required_field(
     given: &GivenObject<'_>,
     field_name: &Name,
     field: &Component<InputValueDefinition>,
-    faults: &mut Vec<Fault>,
+    faults: &mut Faults,
 ) -> Result<(), AllocError>
     ensures { OnOk result (Tells faults.old faults.new (required_of_given given.now field_name.now field.now)) }
 {
@@ -156,7 +159,7 @@ pub(crate) fn tell_required_fields(
     found: &ExtendedType,
     value: &Value,
     location: Option<SourceSpan>,
-    faults: &mut Vec<Fault>,
+    faults: &mut Faults,
 ) -> Result<(), AllocError>
     ensures { OnOk result (Tells faults.old faults.new (required_fields_of name.now found.now location value.now)) }
 {
@@ -175,7 +178,7 @@ fn tell_required(
     location: Option<SourceSpan>,
     entries: &[(Name, Node<Value>)],
     fields: &IndexMap<Name, Component<InputValueDefinition>>,
-    faults: &mut Vec<Fault>,
+    faults: &mut Faults,
 ) -> Result<(), AllocError>
     ensures { OnOk result (Tells faults.old faults.new (required_among_entries name.now location entries.now fields.now)) }
 {
@@ -195,11 +198,14 @@ fn tell_required(
 fn tell_each_required(
     given: &GivenObject<'_>,
     fields: &IndexMap<Name, Component<InputValueDefinition>>,
-    faults: &mut Vec<Fault>,
+    faults: &mut Faults,
 ) -> Result<(), AllocError>
     ensures { OnOk result (Tells faults.old faults.new (required_by_given given.now fields.now.entries)) }
 {
     for (field_name, field) in fields {
+        if faults.is_full() {
+            return Ok(());
+        }
         required_field(given, field_name, field, faults)?;
     }
     Ok(())

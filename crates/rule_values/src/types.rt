@@ -11,7 +11,7 @@ use crate::forms::{
 use crate::judging::Judging;
 use crate::objects::{tell_required_fields, undefined_input_value};
 use crate::wanted::Wanted;
-use fault_data::Fault;
+use fault_data::Faults;
 use graphql_names::{Name, Node};
 use graphql_schema::Schema;
 use indexmap::IndexMap;
@@ -25,7 +25,7 @@ pub(crate) fn tell_type_faults(
     ty: &Node<Type>,
     value: &Node<Value>,
     variables: &DefinedVariables<'_>,
-    faults: &mut Vec<Fault>,
+    faults: &mut Faults,
 ) -> Result<(), AllocError>
     ensures { OnOk result (Tells faults.old faults.new (faults_for schema.now variables.now ty.now value.now)) }
 {
@@ -46,7 +46,7 @@ fn tell_form(
     found: &ExtendedType,
     value: &Node<Value>,
     variables: &DefinedVariables<'_>,
-    faults: &mut Vec<Fault>,
+    faults: &mut Faults,
 ) -> Result<(), AllocError>
     ensures { OnOk result (Tells faults.old faults.new (form_faults_of variables.now wanted.now found.now value.now)) }
 {
@@ -66,7 +66,7 @@ fn tell_type(
     judging: &Judging<'_>,
     value: &Node<Value>,
     wanted: &Wanted<'_>,
-    faults: &mut Vec<Fault>,
+    faults: &mut Faults,
 ) -> Result<(), AllocError>
     ensures { OnOk result (Tells faults.old faults.new (faults_against judging.now wanted.now value.now)) }
 {
@@ -87,7 +87,7 @@ fn tell_inside(
     value: &Value,
     wanted: &Wanted<'_>,
     found: &ExtendedType,
-    faults: &mut Vec<Fault>,
+    faults: &mut Faults,
 ) -> Result<(), AllocError>
     ensures { OnOk result (Tells faults.old faults.new (faults_inside judging.now wanted.now found.now value.now)) }
 {
@@ -124,11 +124,14 @@ fn tell_items(
     judging: &Judging<'_>,
     items: &[Node<Value>],
     wanted: &Wanted<'_>,
-    faults: &mut Vec<Fault>,
+    faults: &mut Faults,
 ) -> Result<(), AllocError>
     ensures { OnOk result (Tells faults.old faults.new (faults_of_items judging.now wanted.now items.now)) }
 {
     for item in items {
+        if faults.is_full() {
+            return Ok(());
+        }
         tell_type(judging, item, wanted, faults)?;
     }
     Ok(())
@@ -140,12 +143,15 @@ fn tell_entries(
     judging: &Judging<'_>,
     entries: &[(Name, Node<Value>)],
     found: &ExtendedType,
-    faults: &mut Vec<Fault>,
+    faults: &mut Faults,
 ) -> Result<(), AllocError>
     ensures { OnOk result (Tells faults.old faults.new (faults_of_entries judging.now found.now entries.now)) }
 {
     let mut keys = IndexMap::new(*faults.allocator());
     for entry in entries {
+        if faults.is_full() {
+            return Ok(());
+        }
         let first = note_first(&mut keys, &entry.0, entry.0.location())?;
         if first.is_none() {
             tell_entry(judging, entry, found, faults)?;
@@ -160,7 +166,7 @@ fn tell_entry(
     judging: &Judging<'_>,
     entry: &(Name, Node<Value>),
     found: &ExtendedType,
-    faults: &mut Vec<Fault>,
+    faults: &mut Faults,
 ) -> Result<(), AllocError>
     ensures { OnOk result (Tells faults.old faults.new (faults_of_entry judging.now found.now entry.now)) }
 {

@@ -9,7 +9,7 @@ ghost use Rattle.rule_values.specs.VariableFaults.{undefined_variable, variable_
 ghost use Rattle.rule_values.specs.Telling.{Tells, variable_faults_of, variable_faults_among};
 
 use crate::defined::DefinedVariables;
-use fault_data::{DiagnosticData, Fault, tell};
+use fault_data::{DiagnosticData, Fault, Faults, tell};
 use graphql_names::{Name, Node, SourceSpan};
 use std::alloc::AllocError;
 use tree_literals::Value;
@@ -20,7 +20,7 @@ fn undefined_variable(
     location: Option<SourceSpan>,
     name: &Name,
     variables: &DefinedVariables<'_>,
-    faults: &mut Vec<Fault>,
+    faults: &mut Faults,
 ) -> Result<(), AllocError>
     ensures { OnOk result (faults_of faults.new ≡ faults_of faults.old ++ undefined_variable (variables_of variables.now) location (name_tree name.now)) }
 {
@@ -38,7 +38,7 @@ fn undefined_variable(
 pub(crate) fn tell_variable_faults(
     value: &Node<Value>,
     variables: &DefinedVariables<'_>,
-    faults: &mut Vec<Fault>,
+    faults: &mut Faults,
 ) -> Result<(), AllocError>
     ensures { OnOk result (Tells faults.old faults.new (variable_faults_of variables.now value.now)) }
 {
@@ -52,7 +52,7 @@ fn tell_variables(
     value: &Value,
     location: Option<SourceSpan>,
     variables: &DefinedVariables<'_>,
-    faults: &mut Vec<Fault>,
+    faults: &mut Faults,
 ) -> Result<(), AllocError>
     ensures { OnOk result (faults_of faults.new ≡ faults_of faults.old ++ variable_faults (variables_of variables.now) location (value_tree value.now)) }
 {
@@ -73,11 +73,14 @@ fn tell_variables(
 fn tell_variables_of_items(
     items: &[Node<Value>],
     variables: &DefinedVariables<'_>,
-    faults: &mut Vec<Fault>,
+    faults: &mut Faults,
 ) -> Result<(), AllocError>
     ensures { OnOk result (faults_of faults.new ≡ faults_of faults.old ++ variable_faults_items (variables_of variables.now) (item_trees value_tree items.now)) }
 {
     for item in items {
+        if faults.is_full() {
+            return Ok(());
+        }
         tell_variables(item.content(), item.location(), variables, faults)?;
     }
     Ok(())
@@ -87,11 +90,14 @@ fn tell_variables_of_items(
 fn tell_variables_of_entries(
     entries: &[(Name, Node<Value>)],
     variables: &DefinedVariables<'_>,
-    faults: &mut Vec<Fault>,
+    faults: &mut Faults,
 ) -> Result<(), AllocError>
     ensures { OnOk result (Tells faults.old faults.new (variable_faults_among variables.now entries.now)) }
 {
     for entry in entries {
+        if faults.is_full() {
+            return Ok(());
+        }
         tell_variables(entry.1.content(), entry.1.location(), variables, faults)?;
     }
     Ok(())

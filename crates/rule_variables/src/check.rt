@@ -21,7 +21,7 @@ use document_typed_operations::Operation;
 use graphql_names::{Name, Node};
 use indexmap::IndexSet;
 use rule_document_ground::Reach;
-use rule_uses::{Fault, Schema};
+use rule_uses::{Faults, Schema};
 use std::alloc::AllocError;
 use tree_operations::VariableDefinition;
 
@@ -31,7 +31,7 @@ use tree_operations::VariableDefinition;
 pub fn check_variables(
     schema: &Schema,
     operation: &Node<Operation>,
-    faults: &mut Vec<Fault>,
+    faults: &mut Faults,
 ) -> Result<(), AllocError>
     ensures { OnOk result (Adds faults.old faults.new (VariablesBreakUnder (schema_tree schema.now) (meant_by_operation (node_tree typed_operation_tree operation.now)))) }
 {
@@ -44,7 +44,7 @@ pub fn check_variables(
 pub fn check_variables_alone(
     operation: &Node<Operation>,
     reach: &Reach<'_>,
-    faults: &mut Vec<Fault>,
+    faults: &mut Faults,
 ) -> Result<(), AllocError>
     ensures { OnOk result ((at : Address → Place) (d : MeantDocument Place) → IsReachOf d (meant_by_operation (node_tree typed_operation_tree operation.now)) reach.now → Adds faults.old faults.new (VariablesBreakAlone at d (meant_by_operation (node_tree typed_operation_tree operation.now)))) }
 {
@@ -58,7 +58,7 @@ pub fn check_variables_alone(
 fn check_alone(
     variables: &[Node<VariableDefinition>],
     used: &IndexSet<Name>,
-    faults: &mut Vec<Fault>,
+    faults: &mut Faults,
 ) -> Result<(), AllocError>
     ensures { OnOk result (Adds faults.old faults.new (AloneBreaks (variables_of variables.now) (noted_names used.now))) }
 {

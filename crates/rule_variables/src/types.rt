@@ -11,7 +11,7 @@ ghost use Rattle.rule_uses.specs.in_rule_values.Wanting.{variables_of};
 ghost use Rattle.rule_variables.specs.VariableFaults.{undefined_definition, variable_input_type, told_input_type, is_of_input_type, DefaultBreaks, JudgedDefaultBreaks, VariableBreaks};
 
 use graphql_names::Node;
-use rule_uses::{DefinedVariables, DiagnosticData, Fault, Schema, check_uses, check_value, tell};
+use rule_uses::{DefinedVariables, DiagnosticData, Fault, Faults, Schema, check_uses, check_value, tell};
 use schema_types::TypeKind;
 use std::alloc::AllocError;
 use tree_directives::DirectiveLocation;
@@ -21,7 +21,7 @@ use tree_operations::VariableDefinition;
 fn undefined_definition(
     schema: &Schema,
     variable: &Node<VariableDefinition>,
-    faults: &mut Vec<Fault>,
+    faults: &mut Faults,
 ) -> Result<(), AllocError>
     ensures { OnOk result (Tells faults.old faults.new (undefined_definition (schema_tree schema.now) (node_tree variable_definition_tree variable.now))) }
 {
@@ -41,7 +41,7 @@ fn undefined_definition(
 fn variable_input_type(
     schema: &Schema,
     variable: &Node<VariableDefinition>,
-    faults: &mut Vec<Fault>,
+    faults: &mut Faults,
 ) -> Result<(), AllocError>
     ensures { OnOk result (Tells faults.old faults.new (variable_input_type (schema_tree schema.now) (node_tree variable_definition_tree variable.now))) }
 {
@@ -75,7 +75,7 @@ fn told_input_type(variable: &Node<VariableDefinition>, kind: TypeKind) -> Resul
 fn check_default(
     schema: &Schema,
     variable: &Node<VariableDefinition>,
-    faults: &mut Vec<Fault>,
+    faults: &mut Faults,
 ) -> Result<(), AllocError>
     ensures { OnOk result (Adds faults.old faults.new (DefaultBreaks (schema_tree schema.now) (node_tree variable_definition_tree variable.now))) }
 {
@@ -105,7 +105,7 @@ fn is_of_input_type(schema: &Schema, variable: &Node<VariableDefinition>) -> boo
 fn check_judged_default(
     schema: &Schema,
     variable: &Node<VariableDefinition>,
-    faults: &mut Vec<Fault>,
+    faults: &mut Faults,
 ) -> Result<(), AllocError>
     ensures { OnOk result (Adds faults.old faults.new (JudgedDefaultBreaks (schema_tree schema.now) (node_tree variable_definition_tree variable.now))) }
 {
@@ -119,7 +119,7 @@ fn check_judged_default(
 fn check_variable(
     schema: &Schema,
     variable: &Node<VariableDefinition>,
-    faults: &mut Vec<Fault>,
+    faults: &mut Faults,
 ) -> Result<(), AllocError>
     ensures { OnOk result (Adds faults.old faults.new (VariableBreaks (schema_tree schema.now) (node_tree variable_definition_tree variable.now))) }
 {
@@ -141,11 +141,14 @@ fn check_variable(
 pub(crate) fn check_each_variable(
     schema: &Schema,
     variables: &[Node<VariableDefinition>],
-    faults: &mut Vec<Fault>,
+    faults: &mut Faults,
 ) -> Result<(), AllocError>
     ensures { OnOk result (Adds faults.old faults.new (λ f. AtSomeIndex (variables_of variables.now) (λ i x. VariableBreaks (schema_tree schema.now) x f))) }
 {
     for variable in variables {
+        if faults.is_full() {
+            return Ok(());
+        }
         check_variable(schema, variable, faults)?;
     }
     Ok(())

@@ -13,7 +13,7 @@ ghost use Rattle.rule_variables.specs.VariableFaults.{variable_again, repeated_v
 
 use graphql_names::{Name, Node, SourceSpan};
 use indexmap::IndexMap;
-use rule_uses::{DiagnosticData, Fault, note_first, tell, unique_input_values};
+use rule_uses::{DiagnosticData, Fault, Faults, note_first, tell, unique_input_values};
 use std::alloc::AllocError;
 use tree_operations::VariableDefinition;
 
@@ -22,7 +22,7 @@ use tree_operations::VariableDefinition;
 fn unique_variable(
     first: Option<Option<SourceSpan>>,
     later: &Node<VariableDefinition>,
-    faults: &mut Vec<Fault>,
+    faults: &mut Faults,
 ) -> Result<(), AllocError>
     ensures { OnOk result (Tells faults.old faults.new (variable_again first (node_tree variable_definition_tree later.now))) }
 {
@@ -41,7 +41,7 @@ fn unique_variable(
 /// Adds a fault for each variable that is defined before.
 pub(crate) fn tell_repeated_variables(
     variables: &[Node<VariableDefinition>],
-    faults: &mut Vec<Fault>,
+    faults: &mut Faults,
 ) -> Result<(), AllocError>
     ensures { OnOk result (Tells faults.old faults.new (each_place repeated_variable (variables_of variables.now))) }
 {
@@ -53,12 +53,15 @@ pub(crate) fn tell_repeated_variables(
 fn tell_variables_again(
     variables: &[Node<VariableDefinition>],
     places: &mut IndexMap<Name, Option<SourceSpan>>,
-    faults: &mut Vec<Fault>,
+    faults: &mut Faults,
 ) -> Result<(), AllocError>
     requires { AreFirsts defined_name (λ i x. x.place) places.old (variables_of []) }
     ensures { OnOk result (Tells faults.old faults.new (each_place repeated_variable (variables_of variables.now))) }
 {
     for variable in variables {
+        if faults.is_full() {
+            return Ok(());
+        }
         let name = &variable.content().name;
         let first = note_first(places, name, variable.location())?;
         unique_variable(first, variable, faults)?;
@@ -70,7 +73,7 @@ fn tell_variables_again(
 /// fault for each key that stands before.
 fn unique_default_keys(
     variable: &Node<VariableDefinition>,
-    faults: &mut Vec<Fault>,
+    faults: &mut Faults,
 ) -> Result<(), AllocError>
     ensures { OnOk result (Adds faults.old faults.new (DefaultKeyBreaks (node_tree variable_definition_tree variable.now))) }
 {
@@ -83,11 +86,14 @@ fn unique_default_keys(
 /// Adds the faults of the keys in each default.
 pub(crate) fn check_default_keys(
     variables: &[Node<VariableDefinition>],
-    faults: &mut Vec<Fault>,
+    faults: &mut Faults,
 ) -> Result<(), AllocError>
     ensures { OnOk result (Adds faults.old faults.new (λ f. AtSomeIndex (variables_of variables.now) (λ i x. DefaultKeyBreaks x f))) }
 {
     for variable in variables {
+        if faults.is_full() {
+            return Ok(());
+        }
         unique_default_keys(variable, faults)?;
     }
     Ok(())

@@ -11,7 +11,7 @@ ghost use Rattle.rule_variables.specs.VariableFaults.{UnusedAmong};
 
 use graphql_names::{Name, Node, SourceSpan};
 use indexmap::IndexSet;
-use rule_uses::{DiagnosticData, Fault, tell};
+use rule_uses::{DiagnosticData, Fault, Faults, tell};
 use std::alloc::AllocError;
 use tree_operations::VariableDefinition;
 
@@ -33,7 +33,7 @@ fn has_name(names: &IndexSet<Name>, name: &Name) -> bool
 fn unused_variable(
     used: &IndexSet<Name>,
     variable: &Node<VariableDefinition>,
-    faults: &mut Vec<Fault>,
+    faults: &mut Faults,
 ) -> Result<(), AllocError>
     ensures { OnOk result (Adds faults.old faults.new (UnusedAmong (noted_names used.now) (node_tree variable_definition_tree variable.now))) }
 {
@@ -51,11 +51,14 @@ fn unused_variable(
 pub(crate) fn tell_unused_variables(
     used: &IndexSet<Name>,
     variables: &[Node<VariableDefinition>],
-    faults: &mut Vec<Fault>,
+    faults: &mut Faults,
 ) -> Result<(), AllocError>
     ensures { OnOk result (Adds faults.old faults.new (λ f. AtSomeIndex (variables_of variables.now) (λ i x. UnusedAmong (noted_names used.now) x f))) }
 {
     for variable in variables {
+        if faults.is_full() {
+            return Ok(());
+        }
         unused_variable(used, variable, faults)?;
     }
     Ok(())
