@@ -101,11 +101,14 @@ impl<'doc> FieldSets<'doc> {
         let Numbered { members, written } = self.add_fields(&found.fields, last)?;
         let spreads = places_of(self.alloc, self.fragments, &found.spreads)?;
         let FoundSet {
+            set,
             fields: _,
             spreads: names,
         } = found;
-        let number = self.numbers.set_number(written, names)?;
+        let node = self.nodes.len();
+        let number = self.numbers.set_number(written, names, node)?;
         self.nodes.push(SetNode {
+            set,
             number,
             members,
             spreads,

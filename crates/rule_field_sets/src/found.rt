@@ -30,6 +30,7 @@ pub(crate) struct FoundField<'doc> {
 /// A set that was found: its fields and those of its inline fragments, and the names of the fragments that these spread.
 #[derive(Drop)]
 pub(crate) struct FoundSet<'doc> {
+    pub(crate) set: &'doc SelectionSet,
     pub(crate) fields: Vec<FoundField<'doc>>,
     pub(crate) spreads: Vec<&'doc Name>,
 }
@@ -124,6 +125,7 @@ impl<'doc> Finding<'doc> {
         set: &'doc SelectionSet,
     ) -> Result<FoundSet<'doc>, AllocError> {
         let mut found = FoundSet {
+            set,
             fields: Vec::new(alloc),
             spreads: Vec::new(alloc),
         };

@@ -1,5 +1,6 @@
 //! Fields in numbered sets.
 
+use document_typed_selections::SelectionSet;
 use rule_document_ground::FieldSelection;
 
 /// A field of a set.
@@ -21,6 +22,7 @@ pub struct Member<'doc> {
 /// A selection set, by its fields and spreads.
 #[derive(Drop)]
 pub struct SetNode<'doc> {
+    pub set: &'doc SelectionSet,
     /// The number of what is written in it.
     pub number: usize,
     /// Its fields and those of its inline fragments, in the order of the text, each content once.

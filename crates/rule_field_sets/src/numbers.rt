@@ -4,6 +4,7 @@ use crate::found::{FoundField, FoundSet};
 use crate::member::Member;
 use graphql_names::{Name, Node};
 use indexmap::{IndexMap, IndexSet};
+use rule_document_ground::FieldSelection;
 use std::alloc::{AllocError, Global};
 use tree_directives::Argument;
 use tree_literals::Type;
@@ -36,12 +37,19 @@ impl Drop for SetKey<'_> {
     }
 }
 
-/// The contents that have numbers: each number is a place here. Of a field there is also the newest node that has it.
+/// A content of fields that has a number: the first field that has it, and the newest node that has such a field.
+#[derive(Clone, Copy)]
+struct KnownField<'doc> {
+    first: FieldSelection<'doc>,
+    node: usize,
+}
+
+/// The contents that have numbers: each number is a place here. Of a set there is the first node that has it.
 #[derive(Drop)]
 pub(crate) struct Numbers<'doc> {
     keys: IndexSet<&'doc Name>,
-    fields: IndexMap<FieldKey<'doc>, usize>,
-    sets: IndexSet<SetKey<'doc>>,
+    fields: IndexMap<FieldKey<'doc>, KnownField<'doc>>,
+    sets: IndexMap<SetKey<'doc>, usize>,
 }
 
 /// The members of a set that gets its number, and the numbers of all its fields as they are written.
@@ -57,7 +65,7 @@ impl<'doc> Numbers<'doc> {
         Numbers {
             keys: IndexSet::new(alloc),
             fields: IndexMap::new(alloc),
-            sets: IndexSet::new(alloc),
+            sets: IndexMap::new(alloc),
         }
     }
 
@@ -71,10 +79,18 @@ impl<'doc> Numbers<'doc> {
     fn field_number(
         &mut self,
         field: FieldKey<'doc>,
+        selection: FieldSelection<'doc>,
         node: usize,
     ) -> Result<(usize, bool), AllocError> {
-        let (number, before) = self.fields.insert_full(field, node)?;
-        Ok((number, before == Some(node)))
+        let Some(number) = self.fields.get_index_of(&field) else {
+            let first = selection;
+            let (number, _) = self.fields.insert_full(field, KnownField { first, node })?;
+            return Ok((number, false));
+        };
+        let known = &mut self.fields[number];
+        let is_repeated = known.node == node;
+        known.node = node;
+        Ok((number, is_repeated))
     }
 
     /// Adds a field to a node, unless that has it. The node of its own set, and the number of that, are given.
@@ -96,7 +112,7 @@ impl<'doc> Numbers<'doc> {
             ty: field.ty(),
             arguments: &field.arguments,
         };
-        let (number, is_repeated) = self.field_number(written, node)?;
+        let (number, is_repeated) = self.field_number(written, selection, node)?;
         numbered.written.push(number)?;
         if is_repeated {
             return Ok(());
@@ -112,13 +128,18 @@ impl<'doc> Numbers<'doc> {
         Ok(())
     }
 
-    /// The number of a set of which these are the fields and spreads.
+    /// The number of the set of a node, of which these are the fields and spreads.
     pub(crate) fn set_number(
         &mut self,
         fields: Vec<usize>,
         spreads: Vec<&'doc Name>,
+        node: usize,
     ) -> Result<usize, AllocError> {
-        let (number, _) = self.sets.insert_full(SetKey { fields, spreads })?;
+        let set = SetKey { fields, spreads };
+        if let Some(number) = self.sets.get_index_of(&set) {
+            return Ok(number);
+        }
+        let (number, _) = self.sets.insert_full(set, node)?;
         Ok(number)
     }
 }
