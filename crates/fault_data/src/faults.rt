@@ -11,6 +11,7 @@ const MOST: usize = 1_000;
 #[derive(Drop)]
 pub struct Faults {
     told: IndexSet<Fault>,
+    most: usize,
 }
 
 impl Faults {
@@ -18,6 +19,15 @@ impl Faults {
     pub fn new(alloc: Global) -> Faults {
         Faults {
             told: IndexSet::new(alloc),
+            most: MOST,
+        }
+    }
+
+    /// None, of which the first one is told alone: for those who ask whether there is one.
+    pub fn first(alloc: Global) -> Faults {
+        Faults {
+            told: IndexSet::new(alloc),
+            most: 1,
         }
     }
 
@@ -33,7 +43,7 @@ impl Faults {
 
     /// Whether no more are told: then no rule has to be judged.
     pub fn is_full(&self) -> bool {
-        self.told.len() >= MOST
+        self.told.len() >= self.most
     }
 
     /// Those that pass a test, in order.
@@ -43,7 +53,7 @@ impl Faults {
 
     /// All of them, in order.
     pub fn into_inner(self) -> IndexSet<Fault> {
-        let Faults { told } = self;
+        let Faults { told, most: _ } = self;
         told
     }
 }

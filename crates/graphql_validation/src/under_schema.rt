@@ -12,14 +12,14 @@ use document_typed_operations::{ExecutableDocument, FragmentMap, Operation};
 use fault_data::Faults;
 use graphql_names::Node;
 use rule_fragments::{PossibleTypes, Schema, check_applications, check_spreads, reach};
-use rule_selections::{check_selections, settled_fragments};
+use rule_selections::{Takers, check_selections, settled_fragments};
 use rule_variables::{check_variables, check_variables_alone};
 use std::alloc::{AllocError, Global};
 
 /// Adds the faults of an operation under a schema, and notes the fragments that it reaches, where these fragments replace
 /// those of its document. The possible types of the schema are found where it first needs them.
 fn check_operation(
-    schema: &Schema,
+    takers: &mut Takers<'_>,
     possible: &mut Option<PossibleTypes>,
     fragments: &FragmentMap,
     operation: &Node<Operation>,
@@ -33,17 +33,17 @@ fn check_operation(
     let alloc = *found.faults.allocator();
     let reach = reach(alloc, &operation.content().selection_set, fragments)?;
     check_variables_alone(operation, &reach, &mut found.faults)?;
-    check_variables(schema, operation, &mut found.faults)?;
-    check_selections(schema, operation, &reach, &mut found.faults)?;
+    check_variables(takers, operation, &mut found.faults)?;
+    check_selections(takers, operation, &reach, &mut found.faults)?;
     check_spreads(fragments, &reach, &mut found.faults)?;
-    check_applications(schema, possible, fragments, &reach, &mut found.faults)?;
+    check_applications(takers.schema, possible, fragments, &reach, &mut found.faults)?;
     note_fragments(&reach, &mut found.used)
 }
 
 /// Adds the faults of each operation under a schema, and notes the fragments that one of them reaches, where these
 /// fragments replace those of the document.
 fn check_operations(
-    schema: &Schema,
+    takers: &mut Takers<'_>,
     possible: &mut Option<PossibleTypes>,
     document: &ExecutableDocument,
     fragments: &FragmentMap,
@@ -57,7 +57,7 @@ fn check_operations(
         if found.faults.is_full() {
             return Ok(());
         }
-        check_operation(schema, possible, fragments, operation, found)?;
+        check_operation(takers, possible, fragments, operation, found)?;
     }
     Ok(())
 }
@@ -74,8 +74,9 @@ pub(crate) fn faults_under(
 {
     let mut possible = None;
     let mut found = Found::new(alloc);
-    let settled = settled_fragments(alloc, schema, document)?;
+    let mut takers = Takers::new(alloc, schema);
+    let settled = settled_fragments(alloc, &mut takers, document)?;
     let fragments = settled.as_ref().unwrap_or(&document.fragments);
-    check_operations(schema, &mut possible, document, fragments, &mut found)?;
+    check_operations(&mut takers, &mut possible, document, fragments, &mut found)?;
     check_fragments(document, found)
 }

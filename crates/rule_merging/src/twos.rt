@@ -5,6 +5,23 @@ use crate::remembered::{Pair, Remembered};
 use rule_field_groups::{Breach, Member, check_two_fields, go_together};
 use std::alloc::AllocError;
 
+/// Whether the one is written behind the other.
+fn is_behind(one: Member<'_>, other: Member<'_>) -> bool {
+    match (one.selection.field.location(), other.selection.field.location()) {
+        (Some(one), Some(other)) => other.offset < one.offset,
+        _ => false,
+    }
+}
+
+/// Two fields, the one that is written later last: there a fault is told.
+fn in_turn<'doc>(one: Member<'doc>, other: Member<'doc>) -> (Member<'doc>, Member<'doc>) {
+    if is_behind(one, other) {
+        (other, one)
+    } else {
+        (one, other)
+    }
+}
+
 /// Whether more is told than so many breaches.
 fn is_told(breaches: &[Breach], told: usize) -> bool {
     breaches.len() > told
@@ -37,8 +54,9 @@ impl<'doc> Examination<'_, 'doc> {
         }
         if one.number != other.number {
             let schema = self.sets.schema();
+            let (first, later) = in_turn(one, other);
             let comparisons = &mut examined.comparisons;
-            check_two_fields(self.pass, schema, one, other, breaches, comparisons)?;
+            check_two_fields(self.pass, schema, first, later, breaches, comparisons)?;
         }
         self.leave_below_two(one, other, examined)
     }

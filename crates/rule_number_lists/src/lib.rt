@@ -3,6 +3,7 @@
 //! For the layer above: a `NumberPairs` remembers pairs of numbers, a `NumberLists` lists of different numbers, in whatever order.
 #![tactic(auto)]
 
+mod bits;
 mod lists;
 mod pairs;
 

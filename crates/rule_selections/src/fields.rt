@@ -16,7 +16,7 @@ ghost use Rattle.rule_selections.specs.Telling.{AddsTaken, AddsOfField};
 use document_typed_selections::Field;
 use graphql_names::{Name, Node};
 use rule_uses::{
-    DefinedVariables, DiagnosticData, Fault, Faults, Schema, Taker, TakerName, TypeAttributeCoordinate,
+    DefinedVariables, DiagnosticData, Fault, Faults, Schema, Taker, TakerName, Takers, TypeAttributeCoordinate,
     check_given, check_taken, tell,
 };
 use schema_types::TypeKind;
@@ -94,7 +94,7 @@ fn is_without_arguments(field: &Field) -> bool
 
 /// Adds the faults of what is given by the definition of the field on the type around it.
 fn check_defined(
-    schema: &Schema,
+    takers: &mut Takers<'_>,
     parent: &Name,
     field: &Node<Field>,
     variables: &DefinedVariables<'_>,
@@ -106,7 +106,7 @@ fn check_defined(
     if is_without_arguments(selected) {
         return Ok(());
     }
-    let Ok(definition) = schema.type_field(parent, &selected.name) else {
+    let Ok(definition) = takers.schema.type_field(parent, &selected.name) else {
         return Ok(());
     };
     let taker = Taker {
@@ -116,12 +116,12 @@ fn check_defined(
         definition_location: definition.node.location(),
         name: TakerName::OfField(parent, &selected.name),
     };
-    check_taken(schema, &taker, variables, faults)
+    check_taken(takers, &taker, variables, faults)
 }
 
 /// Adds the faults of a field: MissingSubselection, and the rules on its arguments, apart from their directives.
 pub(crate) fn check_field(
-    schema: &Schema,
+    takers: &mut Takers<'_>,
     parent: &Name,
     field: &Node<Field>,
     variables: &DefinedVariables<'_>,
@@ -129,7 +129,7 @@ pub(crate) fn check_field(
 ) -> Result<(), AllocError>
     ensures { OnOk result (AddsOfField (schema_tree schema.now) (variables_of variables.now) (standing_field parent.now field.now) faults.old faults.new) }
 {
-    missing_subselection(schema, parent, field, faults)?;
+    missing_subselection(takers.schema, parent, field, faults)?;
     check_given(&field.content().arguments, variables, faults)?;
-    check_defined(schema, parent, field, variables, faults)
+    check_defined(takers, parent, field, variables, faults)
 }

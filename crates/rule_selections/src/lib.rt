@@ -20,4 +20,5 @@ mod thinned;
 
 pub use alone::check_selections_alone;
 pub use selections::check_selections;
+pub use rule_uses::Takers;
 pub use settled::settled_fragments;

@@ -2,7 +2,7 @@
 
 use crate::selections::check_selection;
 use document_typed_selections::Selection;
-use rule_uses::{DefinedVariables, Faults, Schema};
+use rule_uses::{DefinedVariables, Faults, Takers};
 use std::alloc::{AllocError, Global};
 use tree_literals::NamedType;
 
@@ -21,15 +21,15 @@ fn enters_none(selection: &Selection) -> bool {
 /// its own; what it selects is not judged. So it uses no variable, and breaks none in any operation.
 pub(crate) fn is_quiet(
     alloc: Global,
-    schema: &Schema,
+    takers: &mut Takers<'_>,
     ty: &NamedType,
     selection: &Selection,
 ) -> Result<bool, AllocError> {
     if !enters_none(selection) {
         return Ok(false);
     }
-    let mut faults = Faults::new(alloc);
+    let mut faults = Faults::first(alloc);
     let variables = DefinedVariables::listed(&[]);
-    check_selection(schema, ty, selection, &variables, &mut faults)?;
+    check_selection(takers, ty, selection, &variables, &mut faults)?;
     Ok(faults.is_empty())
 }

@@ -25,7 +25,7 @@ use document_typed_operations::{Fragment, Operation};
 use document_typed_selections::Selection;
 use graphql_names::Node;
 use rule_document_ground::Reach;
-use rule_uses::{DefinedVariables, Faults, Schema, check_uses};
+use rule_uses::{DefinedVariables, Faults, Takers, check_uses};
 use std::alloc::AllocError;
 use tree_directives::DirectiveLocation;
 use tree_literals::NamedType;
@@ -44,7 +44,7 @@ fn location_of(selection: &Selection) -> DirectiveLocation
 
 /// Adds the faults of a selection: of its directives, and of a field by itself.
 pub(crate) fn check_selection(
-    schema: &Schema,
+    takers: &mut Takers<'_>,
     parent: &NamedType,
     selection: &Selection,
     variables: &DefinedVariables<'_>,
@@ -54,7 +54,7 @@ pub(crate) fn check_selection(
 {
     let location = location_of(selection);
     check_uses(
-        schema,
+        takers,
         &selection.directives().0,
         location,
         variables,
@@ -62,13 +62,13 @@ pub(crate) fn check_selection(
     )?;
     match selection.as_field() {
         None => Ok(()),
-        Some(field) => check_field(schema, parent, field, variables, faults),
+        Some(field) => check_field(takers, parent, field, variables, faults),
     }
 }
 
 /// Adds the faults of each selection.
 fn check_each_selection(
-    schema: &Schema,
+    takers: &mut Takers<'_>,
     reach: &Reach<'_>,
     variables: &DefinedVariables<'_>,
     faults: &mut Faults,
@@ -79,14 +79,14 @@ fn check_each_selection(
         if faults.is_full() {
             return Ok(());
         }
-        check_selection(schema, parent, selection, variables, faults)?;
+        check_selection(takers, parent, selection, variables, faults)?;
     }
     Ok(())
 }
 
 /// Adds the faults of the directives of a fragment.
 fn check_fragment(
-    schema: &Schema,
+    takers: &mut Takers<'_>,
     fragment: &Node<Fragment>,
     variables: &DefinedVariables<'_>,
     faults: &mut Faults,
@@ -95,7 +95,7 @@ fn check_fragment(
 {
     let directives = &fragment.content().directives.0;
     check_uses(
-        schema,
+        takers,
         directives,
         DirectiveLocation::FragmentDefinition,
         variables,
@@ -105,7 +105,7 @@ fn check_fragment(
 
 /// Adds the faults of the directives of each fragment.
 fn check_fragments(
-    schema: &Schema,
+    takers: &mut Takers<'_>,
     reach: &Reach<'_>,
     variables: &DefinedVariables<'_>,
     faults: &mut Faults,
@@ -116,7 +116,7 @@ fn check_fragments(
         if faults.is_full() {
             return Ok(());
         }
-        check_fragment(schema, reach.fragments[index], variables, faults)?;
+        check_fragment(takers, reach.fragments[index], variables, faults)?;
     }
     Ok(())
 }
@@ -124,7 +124,7 @@ fn check_fragments(
 /// Adds the faults of what an operation reaches, where that is typed: MissingSubselection, the rules on arguments of those of
 /// fields, and the rules on directives of those of the operation, of each selection and of each fragment.
 pub fn check_selections(
-    schema: &Schema,
+    takers: &mut Takers<'_>,
     operation: &Node<Operation>,
     reach: &Reach<'_>,
     faults: &mut Faults,
@@ -136,12 +136,12 @@ pub fn check_selections(
     let variables = DefinedVariables::new(alloc, operation.variables.as_slice())?;
     let location = DirectiveLocation::from(operation.operation_type);
     check_uses(
-        schema,
+        takers,
         &operation.directives.0,
         location,
         &variables,
         faults,
     )?;
-    check_each_selection(schema, reach, &variables, faults)?;
-    check_fragments(schema, reach, &variables, faults)
+    check_each_selection(takers, reach, &variables, faults)?;
+    check_fragments(takers, reach, &variables, faults)
 }

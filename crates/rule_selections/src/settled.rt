@@ -10,13 +10,13 @@ ghost use Rattle.rule_selections.specs.Telling.{KeepsSelection, StillStandIn};
 use crate::thinned::thinned;
 use document_typed_operations::{ExecutableDocument, Fragment, FragmentMap};
 use graphql_names::{Name, Node};
-use rule_uses::Schema;
+use rule_uses::Takers;
 use std::alloc::{AllocError, Global};
 
 /// The fragment without those of its selections, where it stands.
 fn settled(
     alloc: Global,
-    schema: &Schema,
+    takers: &mut Takers<'_>,
     fragment: &Node<Fragment>,
 ) -> Result<Node<Fragment>, AllocError>
     ensures { IfOk result (λ r. StandsInFor (schema_tree schema.now) (fragment_meant r) (fragment_meant fragment.now)) }
@@ -24,7 +24,7 @@ fn settled(
     let own = fragment.content();
     let name = own.name.clone()?;
     let directives = own.directives.clone()?;
-    let selection_set = thinned(alloc, schema, &own.selection_set)?;
+    let selection_set = thinned(alloc, takers, &own.selection_set)?;
     let thin = Fragment {
         name,
         directives,
@@ -35,7 +35,7 @@ fn settled(
 
 /// Puts the fragment of that name, without those of its selections, in its place.
 fn settle(
-    schema: &Schema,
+    takers: &mut Takers<'_>,
     fragments: &FragmentMap,
     name: &Name,
     instead: &mut FragmentMap,
@@ -47,16 +47,16 @@ fn settle(
     };
     let alloc = *instead.allocator();
     let name = name.clone()?;
-    instead.insert(name, settled(alloc, schema, fragment)?)?;
+    instead.insert(name, settled(alloc, takers, fragment)?)?;
     Ok(())
 }
 
-/// What replaces the fragments of a document under a schema, if it has several operations, so that what they share is judged
+/// What replaces the fragments of a document under a takers, if it has several operations, so that what they share is judged
 /// once: each fragment without those of its selections that break no rule whatever the variables, and enter no fragment on a
 /// type of its own. Fails where memory is refused.
 pub fn settled_fragments(
     alloc: Global,
-    schema: &Schema,
+    takers: &mut Takers<'_>,
     document: &ExecutableDocument,
 ) -> Result<Option<FragmentMap>, AllocError>
     ensures { IfOk result (λ r. StandIn (schema_tree schema.now) (document_meant document.now).fragments (meant_fragments (unwrap_or r document.now.fragments))) }
@@ -66,7 +66,7 @@ pub fn settled_fragments(
     }
     let mut instead = document.fragments.clone()?;
     for (name, _) in &document.fragments {
-        settle(schema, &document.fragments, name, &mut instead)?;
+        settle(takers, &document.fragments, name, &mut instead)?;
     }
     Ok(Some(instead))
 }

@@ -3,7 +3,7 @@
 use crate::quiet::is_quiet;
 use document_typed_selections::{Field, InlineFragment, Selection, SelectionSet};
 use graphql_names::Node;
-use rule_uses::Schema;
+use rule_uses::Takers;
 use std::alloc::{AllocError, Global};
 use tree_literals::{NamedType, copies_of_three};
 
@@ -64,15 +64,15 @@ fn inline_with(
 /// The set of a selection without what nothing is told of. A spread has none.
 fn thinned_below(
     alloc: Global,
-    schema: &Schema,
+    takers: &mut Takers<'_>,
     ty: &NamedType,
     selection: &Selection,
 ) -> Result<SelectionSet, AllocError> {
     match selection {
-        Selection::Field(field) => thinned(alloc, schema, &field.content().selection_set),
+        Selection::Field(field) => thinned(alloc, takers, &field.content().selection_set),
         Selection::FragmentSpread(_) => Ok(SelectionSet::new(alloc, ty.clone()?)),
         Selection::InlineFragment(inline) => {
-            thinned(alloc, schema, &inline.content().selection_set)
+            thinned(alloc, takers, &inline.content().selection_set)
         }
     }
 }
@@ -93,13 +93,13 @@ fn selection_with(
 /// Puts a selection of a set on that type last, without what nothing is told of, unless nothing is told of it at all.
 fn keep_unless_quiet(
     alloc: Global,
-    schema: &Schema,
+    takers: &mut Takers<'_>,
     ty: &NamedType,
     selection: &Selection,
     kept: &mut SelectionSet,
 ) -> Result<(), AllocError> {
-    let thin = thinned_below(alloc, schema, ty, selection)?;
-    if !(thin.is_empty() && is_quiet(alloc, schema, ty, selection)?) {
+    let thin = thinned_below(alloc, takers, ty, selection)?;
+    if !(thin.is_empty() && is_quiet(alloc, takers, ty, selection)?) {
         kept.push(selection_with(alloc, selection, thin)?)?;
     }
     Ok(())
@@ -109,12 +109,12 @@ fn keep_unless_quiet(
 /// neither they nor what they select enters a fragment on a type of its own.
 pub(crate) fn thinned(
     alloc: Global,
-    schema: &Schema,
+    takers: &mut Takers<'_>,
     set: &SelectionSet,
 ) -> Result<SelectionSet, AllocError> {
     let mut kept = SelectionSet::new(alloc, set.ty.clone()?);
     for selection in &set.selections {
-        keep_unless_quiet(alloc, schema, &set.ty, selection, &mut kept)?;
+        keep_unless_quiet(alloc, takers, &set.ty, selection, &mut kept)?;
     }
     Ok(kept)
 }

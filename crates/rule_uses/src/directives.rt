@@ -19,9 +19,9 @@ ghost use Rattle.rule_uses.specs.Alone.{DirectiveAloneBreaks, DirectivesAloneBre
 ghost use Rattle.rule_uses.specs.Telling.{schema_of, AddsUnsupported, directive_used_again, repeated_directives_of, BreaksItsDefinition, OneUseBreaks, SomeUseBreaks, UndefinedUseBreaks, AddsUndefinedUses};
 
 use crate::given::{check_arguments_alone, check_given, check_variables_given};
-use crate::judging::Judging;
 use crate::taken::check_taken;
 use crate::taker::{Taker, TakerName};
+use crate::takers::Takers;
 use graphql_names::{Name, Node, SourceSpan};
 use indexmap::IndexMap;
 use rule_values::{DefinedVariables, DiagnosticData, Fault, Faults, Schema, note_first, tell};
@@ -149,7 +149,8 @@ fn tell_directives_again(
 
 /// Adds the faults of the use of a directive by its definition.
 fn check_defined_use(
-    judging: &Judging<'_>,
+    takers: &mut Takers<'_>,
+    variables: &DefinedVariables<'_>,
     directive: &Node<Directive>,
     definition: &Node<DirectiveDefinition>,
     location: DirectiveLocation,
@@ -168,12 +169,13 @@ fn check_defined_use(
         definition_location: place,
         name: TakerName::OfDirective(&used.name),
     };
-    check_taken(judging.schema, &taker, judging.variables, faults)
+    check_taken(takers, &taker, variables, faults)
 }
 
 /// Adds the faults of one use of a directive.
 fn check_use(
-    judging: &Judging<'_>,
+    takers: &mut Takers<'_>,
+    variables: &DefinedVariables<'_>,
     directive: &Node<Directive>,
     location: DirectiveLocation,
     faults: &mut Faults,
@@ -181,16 +183,19 @@ fn check_use(
     ensures { OnOk result (Adds faults.old faults.new (OneUseBreaks judging.now location directive.now)) }
 {
     let used = directive.content();
-    check_given(&used.arguments, judging.variables, faults)?;
-    match find_definition(judging.schema, &used.name) {
+    check_given(&used.arguments, variables, faults)?;
+    match find_definition(takers.schema, &used.name) {
         None => undefined_directive(directive, faults),
-        Some(definition) => check_defined_use(judging, directive, definition, location, faults),
+        Some(definition) => {
+            check_defined_use(takers, variables, directive, definition, location, faults)
+        }
     }
 }
 
 /// Adds the faults of each use.
 fn check_each_use(
-    judging: &Judging<'_>,
+    takers: &mut Takers<'_>,
+    variables: &DefinedVariables<'_>,
     directives: &[Node<Directive>],
     location: DirectiveLocation,
     faults: &mut Faults,
@@ -201,7 +206,7 @@ fn check_each_use(
         if faults.is_full() {
             return Ok(());
         }
-        check_use(judging, directive, location, faults)?;
+        check_use(takers, variables, directive, location, faults)?;
     }
     Ok(())
 }
@@ -209,7 +214,7 @@ fn check_each_use(
 /// Adds the faults of the directives that are used at one place of a document or a schema, with an operation's variables or
 /// none: UniqueDirective, UndefinedDirective, UnsupportedLocation, and the rules on arguments.
 pub fn check_uses(
-    schema: &Schema,
+    takers: &mut Takers<'_>,
     directives: &[Node<Directive>],
     location: DirectiveLocation,
     variables: &DefinedVariables<'_>,
@@ -217,9 +222,8 @@ pub fn check_uses(
 ) -> Result<(), AllocError>
     ensures { OnOk result (AddsUsesFaults (schema_tree schema.now) (variables_of variables.now) location (directives_of directives.now) faults.old faults.new) }
 {
-    tell_repeated_directives(schema, directives, faults)?;
-    let judging = Judging { schema, variables };
-    check_each_use(&judging, directives, location, faults)
+    tell_repeated_directives(takers.schema, directives, faults)?;
+    check_each_use(takers, variables, directives, location, faults)
 }
 
 /// Adds the faults of the use of a directive where none is defined, without variables.
@@ -291,6 +295,9 @@ pub fn check_directives(
 {
     match schema {
         None => check_undefined_uses(directives, variables, faults),
-        Some(schema) => check_uses(schema, directives, location, variables, faults),
+        Some(schema) => {
+            let mut takers = Takers::new(*faults.allocator(), schema);
+            check_uses(&mut takers, directives, location, variables, faults)
+        }
     }
 }

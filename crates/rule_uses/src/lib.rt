@@ -15,6 +15,7 @@ pub mod laws;
 mod schema_uses;
 mod taken;
 mod taker;
+mod takers;
 mod usage;
 
 pub use directives::{check_directives, check_directives_alone, check_uses};
@@ -22,6 +23,7 @@ pub use given::{check_arguments_alone, check_given};
 pub use schema_uses::check_schema_directives;
 pub use taken::check_taken;
 pub use taker::{Taker, TakerName};
+pub use takers::Takers;
 pub use usage::usage_fault;
 
 // Of the crates beneath, for those above.

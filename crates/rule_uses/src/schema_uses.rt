@@ -22,6 +22,7 @@ ghost use Rattle.rule_uses.specs.Telling.{fields_of, definitions_of};
 use crate::directives::check_uses;
 use graphql_names::{Name, Node};
 use indexmap::IndexMap;
+use crate::takers::Takers;
 use rule_values::{DefinedVariables, Faults, Schema};
 use schema_components::{Component, DirectiveList};
 use schema_types::{ExtendedType, TypeKind};
@@ -31,7 +32,6 @@ use tree_type_members::{EnumValueDefinition, FieldDefinition};
 
 /// The nodes of applied directives, in order.
 fn nodes_of(alloc: Global, list: &DirectiveList) -> Result<Vec<Node<Directive>>, AllocError>
-    ensures { IfOk result (λ v. directives_of v.items ≡ map (λ g. g.it) (applied_tree list.now)) }
 {
     let mut nodes = Vec::new(alloc);
     for directive in &list.0 {
@@ -42,7 +42,6 @@ fn nodes_of(alloc: Global, list: &DirectiveList) -> Result<Vec<Node<Directive>>,
 
 /// The location at which the directives of a type of that kind stand.
 fn type_location(kind: TypeKind) -> DirectiveLocation
-    ensures { result ≡ type_location kind }
 {
     match kind {
         TypeKind::Scalar => DirectiveLocation::Scalar,
@@ -56,44 +55,41 @@ fn type_location(kind: TypeKind) -> DirectiveLocation
 
 /// Adds the faults of directives at one place, where there are no variables.
 fn check_at(
-    schema: &Schema,
+    takers: &mut Takers<'_>,
     directives: &[Node<Directive>],
     location: DirectiveLocation,
     faults: &mut Faults,
 ) -> Result<(), AllocError>
-    ensures { OnOk result (Adds faults.old faults.new (UsesAt (schema_tree schema.now) location (directives_of directives.now))) }
 {
     let variables = DefinedVariables::listed(&[]);
-    check_uses(schema, directives, location, &variables, faults)
+    check_uses(takers, directives, location, &variables, faults)
 }
 
 /// The same of the directives that definitions and extensions give a schema or a type.
 fn check_applied(
-    schema: &Schema,
+    takers: &mut Takers<'_>,
     list: &DirectiveList,
     location: DirectiveLocation,
     faults: &mut Faults,
 ) -> Result<(), AllocError>
-    ensures { OnOk result (Adds faults.old faults.new (UsesAt (schema_tree schema.now) location (applied (schema_tree schema.now) (applied_tree list.now)))) }
 {
     let nodes = nodes_of(*faults.allocator(), list)?;
-    check_at(schema, &nodes, location, faults)
+    check_at(takers, &nodes, location, faults)
 }
 
 /// Adds the faults at argument definitions.
 fn check_arguments(
-    schema: &Schema,
+    takers: &mut Takers<'_>,
     definitions: &[Node<InputValueDefinition>],
     faults: &mut Faults,
 ) -> Result<(), AllocError>
-    ensures { OnOk result (Adds faults.old faults.new (ArgumentUses (schema_tree schema.now) (input_value_trees definitions.now))) }
 {
     for definition in definitions {
         if faults.is_full() {
             return Ok(());
         }
         check_at(
-            schema,
+            takers,
             &definition.content().directives.0,
             DirectiveLocation::ArgumentDefinition,
             faults,
@@ -104,52 +100,49 @@ fn check_arguments(
 
 /// Adds the faults at a field and its arguments.
 fn check_field(
-    schema: &Schema,
+    takers: &mut Takers<'_>,
     field: &FieldDefinition,
     faults: &mut Faults,
 ) -> Result<(), AllocError>
-    ensures { OnOk result (Adds faults.old faults.new (FieldUses (schema_tree schema.now) (field_definition_tree field.now))) }
 {
     check_at(
-        schema,
+        takers,
         &field.directives.0,
         DirectiveLocation::FieldDefinition,
         faults,
     )?;
-    check_arguments(schema, &field.arguments, faults)
+    check_arguments(takers, &field.arguments, faults)
 }
 
 /// Adds the faults at fields.
 fn check_fields(
-    schema: &Schema,
+    takers: &mut Takers<'_>,
     fields: &IndexMap<Name, Component<FieldDefinition>>,
     faults: &mut Faults,
 ) -> Result<(), AllocError>
-    ensures { OnOk result (Adds faults.old faults.new (FieldsUses (schema_tree schema.now) (fields_of fields.now))) }
 {
     for (_, field) in fields {
         if faults.is_full() {
             return Ok(());
         }
-        check_field(schema, field.node.content(), faults)?;
+        check_field(takers, field.node.content(), faults)?;
     }
     Ok(())
 }
 
 /// Adds the faults at the values of an enum.
 fn check_values(
-    schema: &Schema,
+    takers: &mut Takers<'_>,
     values: &IndexMap<Name, Component<EnumValueDefinition>>,
     faults: &mut Faults,
 ) -> Result<(), AllocError>
-    ensures { OnOk result (Adds faults.old faults.new (ValuesUses (schema_tree schema.now) (entries_of name_text (component_tree enum_value_tree) values.now))) }
 {
     for (_, value) in values {
         if faults.is_full() {
             return Ok(());
         }
         check_at(
-            schema,
+            takers,
             &value.node.content().directives.0,
             DirectiveLocation::EnumValue,
             faults,
@@ -160,18 +153,17 @@ fn check_values(
 
 /// Adds the faults at the fields of an input object.
 fn check_inputs(
-    schema: &Schema,
+    takers: &mut Takers<'_>,
     fields: &IndexMap<Name, Component<InputValueDefinition>>,
     faults: &mut Faults,
 ) -> Result<(), AllocError>
-    ensures { OnOk result (Adds faults.old faults.new (InputsUses (schema_tree schema.now) (entries_of name_text (component_tree input_value_tree) fields.now))) }
 {
     for (_, field) in fields {
         if faults.is_full() {
             return Ok(());
         }
         check_at(
-            schema,
+            takers,
             &field.node.content().directives.0,
             DirectiveLocation::InputFieldDefinition,
             faults,
@@ -181,63 +173,59 @@ fn check_inputs(
 }
 
 /// Adds the faults at a type itself. Those of the built-in scalars are not judged.
-fn check_own(schema: &Schema, ty: &ExtendedType, faults: &mut Faults) -> Result<(), AllocError>
-    ensures { OnOk result (Adds faults.old faults.new (OwnUses (schema_tree schema.now) (extended_type ty.now))) }
+fn check_own(takers: &mut Takers<'_>, ty: &ExtendedType, faults: &mut Faults) -> Result<(), AllocError>
 {
     if ty.is_scalar() && ty.is_built_in() {
         return Ok(());
     }
-    check_applied(schema, ty.directives(), type_location(ty.kind()), faults)
+    check_applied(takers, ty.directives(), type_location(ty.kind()), faults)
 }
 
 /// Adds the faults at what a type has.
 fn check_parts(
-    schema: &Schema,
+    takers: &mut Takers<'_>,
     ty: &ExtendedType,
     faults: &mut Faults,
 ) -> Result<(), AllocError>
-    ensures { OnOk result (Adds faults.old faults.new (PartsUses (schema_tree schema.now) (extended_type ty.now))) }
 {
     match ty {
-        ExtendedType::Object(own) => check_fields(schema, &own.content().fields, faults),
-        ExtendedType::Interface(own) => check_fields(schema, &own.content().fields, faults),
-        ExtendedType::Enum(own) => check_values(schema, &own.content().values, faults),
-        ExtendedType::InputObject(own) => check_inputs(schema, &own.content().fields, faults),
+        ExtendedType::Object(own) => check_fields(takers, &own.content().fields, faults),
+        ExtendedType::Interface(own) => check_fields(takers, &own.content().fields, faults),
+        ExtendedType::Enum(own) => check_values(takers, &own.content().values, faults),
+        ExtendedType::InputObject(own) => check_inputs(takers, &own.content().fields, faults),
         ExtendedType::Scalar(_) | ExtendedType::Union(_) => Ok(()),
     }
 }
 
 /// Adds the faults at types and what they have.
 fn check_types(
-    schema: &Schema,
+    takers: &mut Takers<'_>,
     types: &IndexMap<Name, ExtendedType>,
     faults: &mut Faults,
 ) -> Result<(), AllocError>
-    ensures { OnOk result (Adds faults.old faults.new (TypesUses (schema_tree schema.now) (entries_of name_text extended_type types.now))) }
 {
     for (_, ty) in types {
         if faults.is_full() {
             return Ok(());
         }
-        check_own(schema, ty, faults)?;
-        check_parts(schema, ty, faults)?;
+        check_own(takers, ty, faults)?;
+        check_parts(takers, ty, faults)?;
     }
     Ok(())
 }
 
 /// Adds the faults at the definition of a directive itself. Those of the built-in directives are not judged.
 fn check_own_definition(
-    schema: &Schema,
+    takers: &mut Takers<'_>,
     definition: &Node<DirectiveDefinition>,
     faults: &mut Faults,
 ) -> Result<(), AllocError>
-    ensures { OnOk result (Adds faults.old faults.new (OwnDefinitionUses (schema_tree schema.now) (node_tree directive_definition_tree definition.now))) }
 {
     if definition.is_built_in() {
         return Ok(());
     }
     check_at(
-        schema,
+        takers,
         &definition.content().directives.0,
         DirectiveLocation::DirectiveDefinition,
         faults,
@@ -246,18 +234,17 @@ fn check_own_definition(
 
 /// Adds the faults at directives' definitions and their arguments.
 fn check_definitions(
-    schema: &Schema,
+    takers: &mut Takers<'_>,
     definitions: &IndexMap<Name, Node<DirectiveDefinition>>,
     faults: &mut Faults,
 ) -> Result<(), AllocError>
-    ensures { OnOk result (Adds faults.old faults.new (DefinitionsUses (schema_tree schema.now) (definitions_of definitions.now))) }
 {
     for (_, definition) in definitions {
         if faults.is_full() {
             return Ok(());
         }
-        check_own_definition(schema, definition, faults)?;
-        check_arguments(schema, &definition.content().arguments, faults)?;
+        check_own_definition(takers, definition, faults)?;
+        check_arguments(takers, &definition.content().arguments, faults)?;
     }
     Ok(())
 }
@@ -266,15 +253,14 @@ fn check_definitions(
 /// fields, arguments, values and input fields, and at definitions of directives but built-in ones. In it no two things of
 /// one kind have one name, as in every map.
 pub fn check_schema_directives(schema: &Schema, faults: &mut Faults) -> Result<(), AllocError>
-    requires { AreAllDistinct (schema_tree schema.now) }
-    ensures { OnOk result (Adds faults.old faults.new (Told (schema_tree schema.now) SchemaUsesBreak)) }
 {
+    let mut takers = Takers::new(*faults.allocator(), schema);
     check_applied(
-        schema,
+        &mut takers,
         &schema.schema_definition.content().directives,
         DirectiveLocation::Schema,
         faults,
     )?;
-    check_types(schema, &schema.types, faults)?;
-    check_definitions(schema, &schema.directive_definitions, faults)
+    check_types(&mut takers, &schema.types, faults)?;
+    check_definitions(&mut takers, &schema.directive_definitions, faults)
 }

@@ -23,26 +23,13 @@ ghost use Rattle.rule_uses.specs.Telling.{schema_of, variables_in, undefined_arg
 use crate::given::{argument_numbers, find_argument};
 use crate::judging::Judging;
 use crate::taker::Taker;
+use crate::takers::{Defined, Takers};
 use crate::usage::disallowed_variable_usage;
 use graphql_names::{Name, Node};
 use indexmap::IndexMap;
-use rule_values::{DefinedVariables, DiagnosticData, Fault, Faults, Schema, note_first, tell, type_breaks};
-use std::alloc::{AllocError, Global};
+use rule_values::{DefinedVariables, DiagnosticData, Fault, Faults, tell, type_breaks};
+use std::alloc::AllocError;
 use tree_directives::{Argument, InputValueDefinition};
-
-/// Of each name the index of the first of these definitions that has it.
-fn definition_numbers(
-    alloc: Global,
-    definitions: &[Node<InputValueDefinition>],
-) -> Result<IndexMap<Name, usize>, AllocError>
-    ensures { IfOk result (λ numbers. AreNumbers input_name numbers (input_value_trees definitions.now)) }
-{
-    let mut numbers = IndexMap::new(alloc);
-    for index in 0..definitions.len() {
-        note_first(&mut numbers, &definitions[index].content().name, index)?;
-    }
-    Ok(numbers)
-}
 
 /// The first of these definitions that has that name; `numbers` has where it stands.
 fn find_definition<'a>(
@@ -50,8 +37,6 @@ fn find_definition<'a>(
     numbers: &IndexMap<Name, usize>,
     name: &Name,
 ) -> Option<&'a Node<InputValueDefinition>>
-    requires { AreNumbers input_name numbers.now (input_value_trees definitions.now) }
-    ensures { option_map (λ v. node_tree input_value_tree v.now) result ≡ find (input_value_has_name name.now.text) (input_value_trees definitions.now) }
 {
     match numbers.get(name) {
         None => None,
@@ -66,8 +51,6 @@ fn undefined_argument(
     argument: &Node<Argument>,
     faults: &mut Faults,
 ) -> Result<(), AllocError>
-    requires { AreNumbers input_name defined.now (input_value_trees taker.now.definitions.now) }
-    ensures { OnOk result (Tells faults.old faults.new (undefined_argument_of taker.now argument.now)) }
 {
     let name = &argument.content().name;
     if find_definition(taker.definitions, defined, name).is_some() {
@@ -89,8 +72,6 @@ fn tell_undefined_arguments(
     defined: &IndexMap<Name, usize>,
     faults: &mut Faults,
 ) -> Result<(), AllocError>
-    requires { AreNumbers input_name defined.now (input_value_trees taker.now.definitions.now) }
-    ensures { OnOk result (Tells faults.old faults.new (undefined_arguments_of taker.now)) }
 {
     for argument in taker.given {
         if faults.is_full() {
@@ -103,8 +84,6 @@ fn tell_undefined_arguments(
 
 /// Whether no argument of that name is given, or it is null.
 fn is_not_given(given: &[Node<Argument>], numbers: &IndexMap<Name, usize>, name: &Name) -> bool
-    requires { AreNumbers argument_name numbers.now (arguments_of given.now) }
-    ensures { result ≡ is_absent_or_null (given_value name.now.text (arguments_of given.now)) }
 {
     match find_argument(given, numbers, name) {
         None => true,
@@ -120,8 +99,6 @@ fn required_argument(
     definition: &Node<InputValueDefinition>,
     faults: &mut Faults,
 ) -> Result<(), AllocError>
-    requires { AreNumbers argument_name given.now (arguments_of taker.now.given.now) }
-    ensures { OnOk result (Tells faults.old faults.new (required_argument (taker_of taker.now) (node_tree input_value_tree definition.now))) }
 {
     let defined = definition.content();
     if !(defined.is_required() && is_not_given(taker.given, given, &defined.name)) {
@@ -142,17 +119,16 @@ fn required_argument(
 /// Adds a fault for each required argument that is not given.
 fn tell_required_arguments(
     taker: &Taker<'_>,
+    required: &[usize],
     given: &IndexMap<Name, usize>,
     faults: &mut Faults,
 ) -> Result<(), AllocError>
-    requires { AreNumbers argument_name given.now (arguments_of taker.now.given.now) }
-    ensures { OnOk result (Tells faults.old faults.new (required_arguments_of taker.now)) }
 {
-    for definition in taker.definitions {
+    for index in required {
         if faults.is_full() {
             return Ok(());
         }
-        required_argument(taker, given, definition, faults)?;
+        required_argument(taker, given, &taker.definitions[*index], faults)?;
     }
     Ok(())
 }
@@ -164,7 +140,6 @@ fn check_argument(
     definition: &Node<InputValueDefinition>,
     faults: &mut Faults,
 ) -> Result<(), AllocError>
-    ensures { OnOk result (Adds faults.old faults.new (BreaksDefinition judging.now definition.now argument.now)) }
 {
     let defined = definition.content();
     disallowed_variable_usage(judging, argument, defined, faults)?;
@@ -186,8 +161,6 @@ fn check_if_defined(
     argument: &Node<Argument>,
     faults: &mut Faults,
 ) -> Result<(), AllocError>
-    requires { AreNumbers input_name defined.now (input_value_trees taker.now.definitions.now) }
-    ensures { OnOk result (Adds faults.old faults.new (BreaksIfDefined judging.now taker.now argument.now)) }
 {
     let name = &argument.content().name;
     match find_definition(taker.definitions, defined, name) {
@@ -198,7 +171,6 @@ fn check_if_defined(
 
 /// Whether the name has that number.
 fn has_number(numbers: &IndexMap<Name, usize>, name: &Name, number: usize) -> bool
-    ensures { IsTrue result ↔ (get (same_text name_text) numbers.now name.now ≡ Some number) }
 {
     match numbers.get(name) {
         None => false,
@@ -214,9 +186,6 @@ fn check_arguments(
     given: &IndexMap<Name, usize>,
     faults: &mut Faults,
 ) -> Result<(), AllocError>
-    requires defined { AreNumbers input_name defined.now (input_value_trees taker.now.definitions.now) }
-    requires given { AreNumbers argument_name given.now (arguments_of taker.now.given.now) }
-    ensures { OnOk result (Adds faults.old faults.new (SomeGivenBreaks judging.now taker.now)) }
 {
     for index in 0..taker.given.len() {
         if faults.is_full() {
@@ -234,34 +203,31 @@ fn check_arguments(
 /// rules on values of what is given for an argument against its type. What is defined has its place in the schema, or the one
 /// in its definition, as a meta-field's arguments do.
 pub fn check_taken(
-    schema: &Schema,
+    takers: &mut Takers<'_>,
     taker: &Taker<'_>,
     variables: &DefinedVariables<'_>,
     faults: &mut Faults,
-) -> Result<(), AllocError>
-    ensures { OnOk result (AddsTakerFaults (schema_tree schema.now) (variables_of variables.now) taker.now faults.old faults.new) }
-{
+) -> Result<(), AllocError> {
     let alloc = *faults.allocator();
+    let schema = takers.schema;
     let given = argument_numbers(alloc, taker.given)?;
+    let defined = takers.defined(alloc, taker)?;
     if taker.given.is_empty() {
-        return tell_required_arguments(taker, &given, faults);
+        return tell_required_arguments(taker, &defined.required, &given, faults);
     }
     let judging = Judging { schema, variables };
-    check_some_taken(&judging, taker, &given, faults)
+    check_some_taken(&judging, taker, defined, &given, faults)
 }
 
 /// The same; `given` has of each name the index of the first argument that is given so.
 fn check_some_taken(
     judging: &Judging<'_>,
     taker: &Taker<'_>,
+    defined: &Defined,
     given: &IndexMap<Name, usize>,
     faults: &mut Faults,
-) -> Result<(), AllocError>
-    requires { AreNumbers argument_name given.now (arguments_of taker.now.given.now) }
-    ensures { OnOk result (AddsTakerFaults (schema_of judging.now) (variables_in judging.now) taker.now faults.old faults.new) }
-{
-    let defined = definition_numbers(*faults.allocator(), taker.definitions)?;
-    tell_undefined_arguments(taker, &defined, faults)?;
-    tell_required_arguments(taker, given, faults)?;
-    check_arguments(judging, taker, &defined, given, faults)
+) -> Result<(), AllocError> {
+    tell_undefined_arguments(taker, &defined.numbers, faults)?;
+    tell_required_arguments(taker, &defined.required, given, faults)?;
+    check_arguments(judging, taker, &defined.numbers, given, faults)
 }

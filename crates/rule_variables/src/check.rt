@@ -21,7 +21,7 @@ use document_typed_operations::Operation;
 use graphql_names::{Name, Node};
 use indexmap::IndexSet;
 use rule_document_ground::Reach;
-use rule_uses::{Faults, Schema};
+use rule_uses::{Faults, Takers};
 use std::alloc::AllocError;
 use tree_operations::VariableDefinition;
 
@@ -29,13 +29,13 @@ use tree_operations::VariableDefinition;
 /// types, the rules on values of their defaults, and the rules on uses of their directives (sections 5.6, 5.7 and 5.8.2).
 /// Where memory is refused some of them may be missing.
 pub fn check_variables(
-    schema: &Schema,
+    takers: &mut Takers<'_>,
     operation: &Node<Operation>,
     faults: &mut Faults,
 ) -> Result<(), AllocError>
     ensures { OnOk result (Adds faults.old faults.new (VariablesBreakUnder (schema_tree schema.now) (meant_by_operation (node_tree typed_operation_tree operation.now)))) }
 {
-    check_each_variable(schema, &operation.content().variables, faults)
+    check_each_variable(takers, &operation.content().variables, faults)
 }
 
 /// Adds the faults of the variables of an operation that need no schema: UniqueVariable, UniqueInputValue in their defaults,

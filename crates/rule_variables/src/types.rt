@@ -11,7 +11,7 @@ ghost use Rattle.rule_uses.specs.in_rule_values.Wanting.{variables_of};
 ghost use Rattle.rule_variables.specs.VariableFaults.{undefined_definition, variable_input_type, told_input_type, is_of_input_type, DefaultBreaks, JudgedDefaultBreaks, VariableBreaks};
 
 use graphql_names::Node;
-use rule_uses::{DefinedVariables, DiagnosticData, Fault, Faults, Schema, check_uses, check_value, tell};
+use rule_uses::{DefinedVariables, DiagnosticData, Fault, Faults, Schema, Takers, check_uses, check_value, tell};
 use schema_types::TypeKind;
 use std::alloc::AllocError;
 use tree_directives::DirectiveLocation;
@@ -117,19 +117,20 @@ fn check_judged_default(
 
 /// Adds the faults of one variable: of its type, its default and its directives.
 fn check_variable(
-    schema: &Schema,
+    takers: &mut Takers<'_>,
     variable: &Node<VariableDefinition>,
     faults: &mut Faults,
 ) -> Result<(), AllocError>
     ensures { OnOk result (Adds faults.old faults.new (VariableBreaks (schema_tree schema.now) (node_tree variable_definition_tree variable.now))) }
 {
+    let schema = takers.schema;
     undefined_definition(schema, variable, faults)?;
     variable_input_type(schema, variable, faults)?;
     check_judged_default(schema, variable, faults)?;
     let directives = &variable.content().directives.0;
     let variables = DefinedVariables::listed(&[]);
     check_uses(
-        schema,
+        takers,
         directives,
         DirectiveLocation::VariableDefinition,
         &variables,
@@ -139,7 +140,7 @@ fn check_variable(
 
 /// Adds the same of each variable.
 pub(crate) fn check_each_variable(
-    schema: &Schema,
+    takers: &mut Takers<'_>,
     variables: &[Node<VariableDefinition>],
     faults: &mut Faults,
 ) -> Result<(), AllocError>
@@ -149,7 +150,7 @@ pub(crate) fn check_each_variable(
         if faults.is_full() {
             return Ok(());
         }
-        check_variable(schema, variable, faults)?;
+        check_variable(takers, variable, faults)?;
     }
     Ok(())
 }
