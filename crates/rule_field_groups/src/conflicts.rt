@@ -243,6 +243,38 @@ fn conflicting_field_argument(
     }
 }
 
+/// Tells of two fields whose shapes differ. Types of one number are one.
+fn check_types(
+    schema: &Schema,
+    first: Member<'_>,
+    other: Member<'_>,
+    breaches: &mut Vec<Breach>,
+    comparisons: &mut u128,
+) -> Result<(), AllocError> {
+    if first.ty == other.ty {
+        count_one(comparisons);
+        return Ok(());
+    }
+    let (first, other) = (first.selection, other.selection);
+    conflicting_field_type(schema, first, other, breaches, comparisons)
+}
+
+/// Tells of two fields whose names or else arguments differ. Those of one number are one.
+fn check_calls(
+    first: Member<'_>,
+    other: Member<'_>,
+    breaches: &mut Vec<Breach>,
+) -> Result<(), AllocError> {
+    if first.call == other.call {
+        return Ok(());
+    }
+    let (first, other) = (first.selection, other.selection);
+    if have_one_name(first, other) {
+        return conflicting_field_argument(first, other, breaches);
+    }
+    conflicting_field_name(first, other, breaches)
+}
+
 /// Tells of two fields of a group, if they do not agree: of their shapes, or of their names or else of their arguments.
 fn check_two(
     comparing: &Comparing<'_>,
@@ -250,19 +282,10 @@ fn check_two(
     other: Member<'_>,
     breaches: &mut Vec<Breach>,
     comparisons: &mut u128,
-) -> Result<(), AllocError>
-{
-    let (first, other) = (first.selection, other.selection);
+) -> Result<(), AllocError> {
     match comparing.pass {
-        Pass::Shapes => {
-            conflicting_field_type(comparing.schema, first, other, breaches, comparisons)
-        }
-        Pass::Selections => {
-            if have_one_name(first, other) {
-                return conflicting_field_argument(first, other, breaches);
-            }
-            conflicting_field_name(first, other, breaches)
-        }
+        Pass::Shapes => check_types(comparing.schema, first, other, breaches, comparisons),
+        Pass::Selections => check_calls(first, other, breaches),
     }
 }
 

@@ -13,6 +13,10 @@ pub struct Member<'doc> {
     pub key: usize,
     /// The number of the type that it is selected on.
     pub parent: usize,
+    /// The number of its name and arguments.
+    pub call: usize,
+    /// The number of its type.
+    pub ty: usize,
     /// Whether that type is an interface or a union.
     pub is_shared: bool,
     /// The node of its set, unless that has no selections.

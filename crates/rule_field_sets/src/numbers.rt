@@ -9,15 +9,22 @@ use std::alloc::{AllocError, Global};
 use tree_directives::Argument;
 use tree_literals::Type;
 
-/// What merging reads of a field: its own set by its number.
+/// What a field asks for: its name and what is given for its arguments.
 #[derive(Clone, Copy, PartialEq, Eq, Hash)]
-struct FieldKey<'doc> {
+struct Call<'doc> {
+    name: &'doc Name,
+    arguments: &'doc Vec<Node<Argument>>,
+}
+
+/// What merging reads of a field, by the numbers of its parts: of its response key, the type that it is selected on, its name and
+/// arguments, its type, and its own set, unless that has no selections.
+#[derive(Clone, Copy, PartialEq, Eq, Hash)]
+struct FieldKey {
     key: usize,
     parent: usize,
+    call: usize,
+    ty: usize,
     set: Option<usize>,
-    name: &'doc Name,
-    ty: &'doc Type,
-    arguments: &'doc Vec<Node<Argument>>,
 }
 
 /// What is written in a set: the fields by their numbers, and the names of fragments.
@@ -48,7 +55,9 @@ struct KnownField<'doc> {
 #[derive(Drop)]
 pub(crate) struct Numbers<'doc> {
     keys: IndexSet<&'doc Name>,
-    fields: IndexMap<FieldKey<'doc>, KnownField<'doc>>,
+    calls: IndexSet<Call<'doc>>,
+    types: IndexSet<&'doc Type>,
+    fields: IndexMap<FieldKey, KnownField<'doc>>,
     sets: IndexMap<SetKey<'doc>, usize>,
 }
 
@@ -64,21 +73,38 @@ impl<'doc> Numbers<'doc> {
     pub(crate) fn new(alloc: Global) -> Numbers<'doc> {
         Numbers {
             keys: IndexSet::new(alloc),
+            calls: IndexSet::new(alloc),
+            types: IndexSet::new(alloc),
             fields: IndexMap::new(alloc),
             sets: IndexMap::new(alloc),
         }
     }
 
-    /// The number of a response key.
-    fn key_number(&mut self, key: &'doc Name) -> Result<usize, AllocError> {
-        let (number, _) = self.keys.insert_full(key)?;
-        Ok(number)
+    /// The numbers of the parts of a field.
+    fn key_of(
+        &mut self,
+        found: FoundField<'doc>,
+        set: Option<usize>,
+    ) -> Result<FieldKey, AllocError> {
+        let field = found.selection.field.content();
+        let (key, _) = self.keys.insert_full(field.response_key())?;
+        let (name, arguments) = (&field.name, &field.arguments);
+        let (call, _) = self.calls.insert_full(Call { name, arguments })?;
+        let (ty, _) = self.types.insert_full(field.ty())?;
+        let parent = found.parent.number;
+        Ok(FieldKey {
+            key,
+            parent,
+            call,
+            ty,
+            set,
+        })
     }
 
     /// The number of a field of a node, and whether the node has it already.
     fn field_number(
         &mut self,
-        field: FieldKey<'doc>,
+        field: FieldKey,
         selection: FieldSelection<'doc>,
         node: usize,
     ) -> Result<(usize, bool), AllocError> {
@@ -102,17 +128,8 @@ impl<'doc> Numbers<'doc> {
         numbered: &mut Numbered<'doc>,
     ) -> Result<(), AllocError> {
         let selection = found.selection;
-        let field = selection.field.content();
-        let key = self.key_number(selection.response_key())?;
-        let written = FieldKey {
-            key,
-            parent: found.parent.number,
-            set: below.map(|(_, set)| set),
-            name: &field.name,
-            ty: field.ty(),
-            arguments: &field.arguments,
-        };
-        let (number, is_repeated) = self.field_number(written, selection, node)?;
+        let field = self.key_of(found, below.map(|(_, set)| set))?;
+        let (number, is_repeated) = self.field_number(field, selection, node)?;
         numbered.written.push(number)?;
         if is_repeated {
             return Ok(());
@@ -120,8 +137,10 @@ impl<'doc> Numbers<'doc> {
         numbered.members.push(Member {
             selection,
             number,
-            key,
-            parent: found.parent.number,
+            key: field.key,
+            parent: field.parent,
+            call: field.call,
+            ty: field.ty,
             is_shared: found.parent.is_abstract,
             below: below.map(|(node, _)| node),
         })?;
