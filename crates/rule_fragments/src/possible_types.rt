@@ -20,8 +20,8 @@ use std::alloc::{AllocError, Global};
 #[derive(Drop)]
 pub struct PossibleTypes {
     objects: IndexMap<Name, IndexSet<Name>>,
-    /// Whether two types have an object in common, of those that were asked for.
-    shared: IndexMap<(Name, Name), bool>,
+    /// Whether two types, by their indices, have an object in common, of those that were asked for.
+    shared: IndexMap<(usize, usize), bool>,
 }
 
 impl PossibleTypes {
@@ -41,26 +41,25 @@ impl PossibleTypes {
         })
     }
 
-    /// Whether the two types have an object in common.
-    fn share(&self, parent: &Name, condition: &Name) -> bool {
-        let Some(here) = self.objects.get(parent) else {
-            return false;
-        };
-        match self.objects.get(condition) {
-            None => false,
-            Some(there) => share_one(here, there),
-        }
-    }
-
-    /// The same, found once for each two.
-    fn share_known(&mut self, parent: &Name, condition: &Name) -> Result<bool, AllocError> {
-        let two = (parent.clone()?, condition.clone()?);
-        if let Some(known) = self.shared.get(&two) {
+    /// The same of two types by their indices, found once for each two.
+    fn share_known(&mut self, here: usize, there: usize) -> Result<bool, AllocError> {
+        if let Some(known) = self.shared.get(&(here, there)) {
             return Ok(*known);
         }
-        let is_shared = self.share(parent, condition);
-        self.shared.insert(two, is_shared)?;
+        let is_shared = share_one(&self.objects[here], &self.objects[there]);
+        self.shared.insert((here, there), is_shared)?;
         Ok(is_shared)
+    }
+
+    /// Whether the two types have an object in common.
+    fn share(&mut self, parent: &Name, condition: &Name) -> Result<bool, AllocError> {
+        let Some(here) = self.objects.get_index_of(parent) else {
+            return Ok(false);
+        };
+        match self.objects.get_index_of(condition) {
+            None => Ok(false),
+            Some(there) => self.share_known(here, there),
+        }
     }
 
     /// Whether a fragment on the type `condition` can apply where the type is `parent`: they are the same, or have an object in
@@ -69,7 +68,7 @@ impl PossibleTypes {
         if *condition == *parent {
             return Ok(true);
         }
-        self.share_known(parent, condition)
+        self.share(parent, condition)
     }
 }
 
