@@ -5,23 +5,6 @@ use crate::remembered::{Pair, Remembered};
 use rule_field_groups::{Breach, Member, check_two_fields, go_together};
 use std::alloc::AllocError;
 
-/// Whether the one is written behind the other.
-fn is_behind(one: Member<'_>, other: Member<'_>) -> bool {
-    match (one.selection.field.location(), other.selection.field.location()) {
-        (Some(one), Some(other)) => other.offset < one.offset,
-        _ => false,
-    }
-}
-
-/// Two fields, the one that is written later last: there a fault is told.
-fn in_turn<'doc>(one: Member<'doc>, other: Member<'doc>) -> (Member<'doc>, Member<'doc>) {
-    if is_behind(one, other) {
-        (other, one)
-    } else {
-        (one, other)
-    }
-}
-
 /// Whether more is told than so many breaches.
 fn is_told(breaches: &[Breach], told: usize) -> bool {
     breaches.len() > told
@@ -54,9 +37,8 @@ impl<'doc> Examination<'_, 'doc> {
         }
         if one.number != other.number {
             let schema = self.sets.schema();
-            let (first, later) = in_turn(one, other);
             let comparisons = &mut examined.comparisons;
-            check_two_fields(self.pass, schema, first, later, breaches, comparisons)?;
+            check_two_fields(self.pass, schema, one, other, breaches, comparisons)?;
         }
         self.leave_below_two(one, other, examined)
     }
@@ -139,7 +121,7 @@ impl<'doc> Examination<'_, 'doc> {
         Ok(())
     }
 
-    /// Compares the fields of the two, and looks at what each of them spreads with the other.
+    /// Compares the fields of the two, and looks at what each of them spreads with the other. What a node spreads comes after it.
     fn examine_pair(
         &self,
         pair: Pair,
@@ -150,7 +132,9 @@ impl<'doc> Examination<'_, 'doc> {
         let Pair { one, other } = pair;
         let sets = self.sets;
         self.examine_each(sets.members(one), sets.members(other), examined, breaches)?;
-        self.look_at_each(sets.spreads(one), other, examined, left)?;
+        if one != other {
+            self.look_at_each(sets.spreads(one), other, examined, left)?;
+        }
         self.look_before_each(one, sets.spreads(other), examined, left)
     }
 
