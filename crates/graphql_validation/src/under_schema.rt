@@ -36,7 +36,13 @@ fn check_operation(
     check_variables(takers, operation, &mut found.faults)?;
     check_selections(takers, operation, &reach, &mut found.faults)?;
     check_spreads(fragments, &reach, &mut found.faults)?;
-    check_applications(takers.schema, possible, fragments, &reach, &mut found.faults)?;
+    check_applications(
+        takers.schema,
+        possible,
+        fragments,
+        &reach,
+        &mut found.faults,
+    )?;
     note_fragments(&reach, &mut found.used)
 }
 

@@ -14,11 +14,7 @@ use std::alloc::{AllocError, Global};
 
 /// Tells each input object and each directive definition that leads back to itself, or that the ways from there hold
 /// more than 32 directives or types; nothing else. It fails only where memory is refused; then some may be told.
-pub fn check_cycles(
-    alloc: Global,
-    schema: &Schema,
-    faults: &mut Faults,
-) -> Result<(), AllocError>
+pub fn check_cycles(alloc: Global, schema: &Schema, faults: &mut Faults) -> Result<(), AllocError>
     requires { AreAllDistinct (schema_tree schema.now) }
     ensures { OnOk result (CyclesTold (schema_tree schema.now) (faults_of faults.old) (faults_of faults.new)) }
 {

@@ -296,8 +296,7 @@ fn check_others(
     others: &[Member<'_>],
     breaches: &mut Vec<Breach>,
     comparisons: &mut u128,
-) -> Result<(), AllocError>
-{
+) -> Result<(), AllocError> {
     for other in others {
         check_two(comparing, first, *other, breaches, comparisons)?;
     }
@@ -324,8 +323,7 @@ fn check_group(
     group: &[Member<'_>],
     breaches: &mut Vec<Breach>,
     comparisons: &mut u128,
-) -> Result<(), AllocError>
-{
+) -> Result<(), AllocError> {
     let comparing = Comparing { pass, schema };
     match group.split_first() {
         None => Ok(()),
@@ -340,8 +338,7 @@ fn check_before(
     other: Member<'_>,
     breaches: &mut Vec<Breach>,
     comparisons: &mut u128,
-) -> Result<(), AllocError>
-{
+) -> Result<(), AllocError> {
     match before.split_first() {
         None => Ok(()),
         Some((first, others)) => {
@@ -359,8 +356,7 @@ fn check_own(
     own: &OwnFields<'_>,
     breaches: &mut Vec<Breach>,
     comparisons: &mut u128,
-) -> Result<(), AllocError>
-{
+) -> Result<(), AllocError> {
     let fields = own.fields.as_slice();
     match shared.split_first() {
         None => check_group(
@@ -385,8 +381,7 @@ pub fn check_key_group(
     group: &KeyGroup<'_>,
     breaches: &mut Vec<Breach>,
     comparisons: &mut u128,
-) -> Result<(), AllocError>
-{
+) -> Result<(), AllocError> {
     let comparing = Comparing { pass, schema };
     check_group(pass, schema, &group.shared, breaches, comparisons)?;
     for own in &group.own {

@@ -147,10 +147,7 @@ fn object_fields<'doc>(
 }
 
 /// How many of the fields on each object type are before the first one on an abstract type, in the order of these types.
-fn early_counts(
-    alloc: Global,
-    list: &[Member<'_>],
-) -> Result<Vec<usize>, AllocError> {
+fn early_counts(alloc: Global, list: &[Member<'_>]) -> Result<Vec<usize>, AllocError> {
     let mut leading = Vec::new(alloc);
     for field in list {
         if field.is_shared {
@@ -183,10 +180,7 @@ fn own_fields<'doc>(
 }
 
 /// The fields of one key by their parents ("the parent types are equal or either is not an Object Type").
-fn by_parents<'doc>(
-    alloc: Global,
-    list: &[Member<'doc>],
-) -> Result<KeyGroup<'doc>, AllocError> {
+fn by_parents<'doc>(alloc: Global, list: &[Member<'doc>]) -> Result<KeyGroup<'doc>, AllocError> {
     let shared = abstract_fields(alloc, list)?;
     let objects = object_fields(alloc, list)?;
     let filed = filed(alloc, Filing::Parent, &objects)?;

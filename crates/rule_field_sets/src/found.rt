@@ -64,7 +64,11 @@ impl<'doc> Finding<'doc> {
         let parent = parent_number(schema, parents, ty)?;
         for index in (0..set.selections.len()).rev() {
             let selection = &set.selections[index];
-            self.left.push(Left { parent, ty, selection })?;
+            self.left.push(Left {
+                parent,
+                ty,
+                selection,
+            })?;
         }
         Ok(())
     }
@@ -145,11 +149,17 @@ fn parent_number<'doc>(
 ) -> Result<Parent, AllocError> {
     if let Some((number, _, is_abstract)) = parents.get_full(&ty) {
         let is_abstract = *is_abstract;
-        return Ok(Parent { number, is_abstract });
+        return Ok(Parent {
+            number,
+            is_abstract,
+        });
     }
     let is_abstract = is_abstract(schema, ty);
     let (number, _) = parents.insert_full(ty, is_abstract)?;
-    Ok(Parent { number, is_abstract })
+    Ok(Parent {
+        number,
+        is_abstract,
+    })
 }
 
 /// The set and all sets of fields within it, at any depth, each before those within it.

@@ -64,7 +64,11 @@ impl PossibleTypes {
 
     /// Whether a fragment on the type `condition` can apply where the type is `parent`: they are the same, or have an object in
     /// common.
-    pub(crate) fn may_apply(&mut self, parent: &Name, condition: &Name) -> Result<bool, AllocError> {
+    pub(crate) fn may_apply(
+        &mut self,
+        parent: &Name,
+        condition: &Name,
+    ) -> Result<bool, AllocError> {
         if *condition == *parent {
             return Ok(true);
         }

@@ -14,10 +14,7 @@ use std::alloc::AllocError;
 
 /// UndefinedDefinition: a type is valid only if each name that it implements is that of an interface (sections 3.6 and
 /// 3.7). Told of one that is not.
-pub(crate) fn undefined_interface(
-    interface: &Name,
-    faults: &mut Faults,
-) -> Result<(), AllocError>
+pub(crate) fn undefined_interface(interface: &Name, faults: &mut Faults) -> Result<(), AllocError>
     ensures { OnOk result (AddsThese faults.old faults.new (undefined_interface (name_tree interface.now))) }
 {
     tell(

@@ -116,10 +116,7 @@ impl<'doc> Examination<'_, 'doc> {
         self.examine_ones(&ones, examined, breaches)?;
         self.examine_lists(&lists, examined, breaches)?;
         self.examine_pairs(examined, &mut pairs, breaches)?;
-        Ok(replace(
-            &mut examined.next,
-            Left::new(*breaches.allocator()),
-        ))
+        Ok(replace(&mut examined.next, Left::new(*breaches.allocator())))
     }
 
     /// Examines what a node selects and all below it, to 128 levels. Answers whether fields are left below these.

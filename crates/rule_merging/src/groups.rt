@@ -16,7 +16,8 @@ const FEW_FIELDS: usize = 8;
 
 /// Whether the list is short, and no two of its fields have one key.
 fn is_plain(list: &[Member<'_>]) -> bool {
-    list.len() <= FEW_FIELDS && (1..list.len()).all(|index| !has_key(&list[..index], list[index].key))
+    list.len() <= FEW_FIELDS
+        && (1..list.len()).all(|index| !has_key(&list[..index], list[index].key))
 }
 
 /// Whether one of the fields has the key.
@@ -91,11 +92,7 @@ impl<'doc> Examination<'_, 'doc> {
     }
 
     /// Leaves the sets below the fields of one key.
-    fn leave_below(
-        &self,
-        below: SetsBelow,
-        examined: &mut Remembered,
-    ) -> Result<(), AllocError> {
+    fn leave_below(&self, below: SetsBelow, examined: &mut Remembered) -> Result<(), AllocError> {
         let SetsBelow { shared, own } = below;
         let types = own.len();
         for nodes in own {
@@ -116,7 +113,13 @@ impl<'doc> Examination<'_, 'doc> {
         breaches: &mut Vec<Breach>,
     ) -> Result<(), AllocError> {
         let schema = self.sets.schema();
-        check_key_group(self.pass, schema, group, breaches, &mut examined.comparisons)?;
+        check_key_group(
+            self.pass,
+            schema,
+            group,
+            breaches,
+            &mut examined.comparisons,
+        )?;
         let below = sets_below(alloc, self.sets, group)?;
         self.leave_below(below, examined)
     }

@@ -68,7 +68,11 @@ impl Remembered {
     }
 
     /// Remembers a list of fields of different numbers. Whether it was not remembered before is given.
-    pub(crate) fn remember(&mut self, alloc: Global, list: &[Member<'_>]) -> Result<bool, AllocError> {
+    pub(crate) fn remember(
+        &mut self,
+        alloc: Global,
+        list: &[Member<'_>],
+    ) -> Result<bool, AllocError> {
         let mut numbers = Vec::with_capacity(alloc, list.len())?;
         for member in list {
             numbers.push(member.number)?;
@@ -86,7 +90,11 @@ impl Remembered {
     }
 
     /// Notes that a node is looked at. Whether its set was not noted before is given.
-    pub(crate) fn note_one(&mut self, sets: &FieldSets<'_>, node: usize) -> Result<bool, AllocError> {
+    pub(crate) fn note_one(
+        &mut self,
+        sets: &FieldSets<'_>,
+        node: usize,
+    ) -> Result<bool, AllocError> {
         let number = sets.number(node);
         self.expanded.remember_two(number, number)
     }
@@ -106,12 +114,21 @@ impl Remembered {
     }
 
     /// Notes that two nodes are looked at together. Whether their sets were not noted before is given.
-    pub(crate) fn note_pair(&mut self, sets: &FieldSets<'_>, pair: Pair) -> Result<bool, AllocError> {
-        self.looked.remember(sets.number(pair.one), sets.number(pair.other))
+    pub(crate) fn note_pair(
+        &mut self,
+        sets: &FieldSets<'_>,
+        pair: Pair,
+    ) -> Result<bool, AllocError> {
+        self.looked
+            .remember(sets.number(pair.one), sets.number(pair.other))
     }
 
     /// Leaves a pair for the next level, unless it was looked at before.
-    pub(crate) fn leave_pair(&mut self, sets: &FieldSets<'_>, pair: Pair) -> Result<(), AllocError> {
+    pub(crate) fn leave_pair(
+        &mut self,
+        sets: &FieldSets<'_>,
+        pair: Pair,
+    ) -> Result<(), AllocError> {
         if self.note_pair(sets, pair)? {
             self.next.pairs.push(pair)?;
         }

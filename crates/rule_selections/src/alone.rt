@@ -65,10 +65,7 @@ fn check_each_selection_alone(reach: &Reach<'_>, faults: &mut Faults) -> Result<
 }
 
 /// Adds the faults of the directives of a fragment.
-fn check_fragment_alone(
-    fragment: &Node<Fragment>,
-    faults: &mut Faults,
-) -> Result<(), AllocError>
+fn check_fragment_alone(fragment: &Node<Fragment>, faults: &mut Faults) -> Result<(), AllocError>
     ensures { OnOk result (Adds faults.old faults.new (DirectivesAloneBreak (typed_fragment_tree (content fragment.now)).directives)) }
 {
     check_directives_alone(&fragment.content().directives.0, faults)

@@ -16,8 +16,8 @@ ghost use Rattle.rule_selections.specs.Telling.{AddsTaken, AddsOfField};
 use document_typed_selections::Field;
 use graphql_names::{Name, Node};
 use rule_uses::{
-    DefinedVariables, DiagnosticData, Fault, Faults, Schema, Taker, TakerName, Takers, TypeAttributeCoordinate,
-    check_given, check_taken, tell,
+    DefinedVariables, DiagnosticData, Fault, Faults, Schema, Taker, TakerName, Takers,
+    TypeAttributeCoordinate, check_given, check_taken, tell,
 };
 use schema_types::TypeKind;
 use std::alloc::AllocError;

@@ -19,6 +19,6 @@ mod settled;
 mod thinned;
 
 pub use alone::check_selections_alone;
-pub use selections::check_selections;
 pub use rule_uses::Takers;
+pub use selections::check_selections;
 pub use settled::settled_fragments;

@@ -56,9 +56,7 @@ fn inline_with(
         directives: own.directives.clone()?,
         selection_set,
     };
-    Ok(Selection::InlineFragment(
-        inline.same_location(alloc, thin)?,
-    ))
+    Ok(Selection::InlineFragment(inline.same_location(alloc, thin)?))
 }
 
 /// The set of a selection without what nothing is told of. A spread has none.

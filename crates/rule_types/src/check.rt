@@ -23,11 +23,7 @@ use tree_directives::DirectiveDefinition;
 
 /// Tells each fault of the rules on roots, names, the types that are named, and what a type must have. It fails only
 /// where memory is refused; then some may be told.
-pub fn check_types(
-    alloc: Global,
-    schema: &Schema,
-    faults: &mut Faults,
-) -> Result<(), AllocError>
+pub fn check_types(alloc: Global, schema: &Schema, faults: &mut Faults) -> Result<(), AllocError>
     requires distinct { AreAllDistinct (schema_tree schema.now) }
     ensures { OnOk result (Adds faults.old faults.new (Told (schema_tree schema.now) TypesBreak)) }
 {

@@ -99,11 +99,7 @@ pub(crate) fn check_members(
 }
 
 /// Tells the faults of a member of a union.
-fn check_member(
-    judging: &Judging<'_>,
-    member: &Name,
-    faults: &mut Faults,
-) -> Result<(), AllocError>
+fn check_member(judging: &Judging<'_>, member: &Name, faults: &mut Faults) -> Result<(), AllocError>
     ensures { OnOk result (AddsThese faults.old faults.new (member_faults (schema_of judging.now) (name_tree member.now))) }
 {
     let kind = kind_named(judging, member);

@@ -48,10 +48,7 @@ fn check_root(
 }
 
 /// Tells each root of which an earlier one is the same type.
-fn check_repeats(
-    definition: &Node<SchemaDefinition>,
-    faults: &mut Faults,
-) -> Result<(), AllocError>
+fn check_repeats(definition: &Node<SchemaDefinition>, faults: &mut Faults) -> Result<(), AllocError>
     ensures { OnOk result (AddsThese faults.old faults.new (repeated_roots (schema_roots definition.now))) }
 {
     let roots = definition.content();

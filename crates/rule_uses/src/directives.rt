@@ -36,10 +36,7 @@ fn find_definition<'a>(schema: &'a Schema, name: &Name) -> Option<&'a Node<Direc
 }
 
 /// UndefinedDirective: a use of a directive is valid only if the directive is defined (section 5.7.1). This one is not.
-fn undefined_directive(
-    directive: &Node<Directive>,
-    faults: &mut Faults,
-) -> Result<(), AllocError>
+fn undefined_directive(directive: &Node<Directive>, faults: &mut Faults) -> Result<(), AllocError>
     ensures { OnOk result (Tells faults.old faults.new (undefined_directive (node_tree directive_tree directive.now) ∷ [])) }
 {
     let name = directive.content().name.clone()?;
@@ -227,10 +224,7 @@ pub fn check_uses(
 }
 
 /// Adds the faults of the use of a directive where none is defined, without variables.
-fn check_directive_alone(
-    directive: &Node<Directive>,
-    faults: &mut Faults,
-) -> Result<(), AllocError>
+fn check_directive_alone(directive: &Node<Directive>, faults: &mut Faults) -> Result<(), AllocError>
     ensures { OnOk result (Adds faults.old faults.new (DirectiveAloneBreaks (node_tree directive_tree directive.now))) }
 {
     check_arguments_alone(&directive.content().arguments, faults)?;

@@ -77,10 +77,7 @@ fn unique_argument(
 }
 
 /// Adds a fault for each argument that is given before.
-fn tell_repeated_arguments(
-    given: &[Node<Argument>],
-    faults: &mut Faults,
-) -> Result<(), AllocError>
+fn tell_repeated_arguments(given: &[Node<Argument>], faults: &mut Faults) -> Result<(), AllocError>
     ensures { OnOk result (faults_of faults.new ≡ faults_of faults.old ++ each_place repeated_argument (arguments_of given.now)) }
 {
     if given.len() < 2 {

@@ -20,9 +20,9 @@ ghost use Rattle.rule_uses.specs.SchemaUses.{UsesAt, ArgumentUses, FieldUses, Fi
 ghost use Rattle.rule_uses.specs.Telling.{fields_of, definitions_of};
 
 use crate::directives::check_uses;
+use crate::takers::Takers;
 use graphql_names::{Name, Node};
 use indexmap::IndexMap;
-use crate::takers::Takers;
 use rule_values::{DefinedVariables, Faults, Schema};
 use schema_components::{Component, DirectiveList};
 use schema_types::{ExtendedType, TypeKind};
@@ -31,8 +31,7 @@ use tree_directives::{Directive, DirectiveDefinition, DirectiveLocation, InputVa
 use tree_type_members::{EnumValueDefinition, FieldDefinition};
 
 /// The nodes of applied directives, in order.
-fn nodes_of(alloc: Global, list: &DirectiveList) -> Result<Vec<Node<Directive>>, AllocError>
-{
+fn nodes_of(alloc: Global, list: &DirectiveList) -> Result<Vec<Node<Directive>>, AllocError> {
     let mut nodes = Vec::new(alloc);
     for directive in &list.0 {
         nodes.push(directive.node.clone()?)?;
@@ -41,8 +40,7 @@ fn nodes_of(alloc: Global, list: &DirectiveList) -> Result<Vec<Node<Directive>>,
 }
 
 /// The location at which the directives of a type of that kind stand.
-fn type_location(kind: TypeKind) -> DirectiveLocation
-{
+fn type_location(kind: TypeKind) -> DirectiveLocation {
     match kind {
         TypeKind::Scalar => DirectiveLocation::Scalar,
         TypeKind::Object => DirectiveLocation::Object,
@@ -59,8 +57,7 @@ fn check_at(
     directives: &[Node<Directive>],
     location: DirectiveLocation,
     faults: &mut Faults,
-) -> Result<(), AllocError>
-{
+) -> Result<(), AllocError> {
     let variables = DefinedVariables::listed(&[]);
     check_uses(takers, directives, location, &variables, faults)
 }
@@ -71,8 +68,7 @@ fn check_applied(
     list: &DirectiveList,
     location: DirectiveLocation,
     faults: &mut Faults,
-) -> Result<(), AllocError>
-{
+) -> Result<(), AllocError> {
     let nodes = nodes_of(*faults.allocator(), list)?;
     check_at(takers, &nodes, location, faults)
 }
@@ -82,8 +78,7 @@ fn check_arguments(
     takers: &mut Takers<'_>,
     definitions: &[Node<InputValueDefinition>],
     faults: &mut Faults,
-) -> Result<(), AllocError>
-{
+) -> Result<(), AllocError> {
     for definition in definitions {
         if faults.is_full() {
             return Ok(());
@@ -103,8 +98,7 @@ fn check_field(
     takers: &mut Takers<'_>,
     field: &FieldDefinition,
     faults: &mut Faults,
-) -> Result<(), AllocError>
-{
+) -> Result<(), AllocError> {
     check_at(
         takers,
         &field.directives.0,
@@ -119,8 +113,7 @@ fn check_fields(
     takers: &mut Takers<'_>,
     fields: &IndexMap<Name, Component<FieldDefinition>>,
     faults: &mut Faults,
-) -> Result<(), AllocError>
-{
+) -> Result<(), AllocError> {
     for (_, field) in fields {
         if faults.is_full() {
             return Ok(());
@@ -135,8 +128,7 @@ fn check_values(
     takers: &mut Takers<'_>,
     values: &IndexMap<Name, Component<EnumValueDefinition>>,
     faults: &mut Faults,
-) -> Result<(), AllocError>
-{
+) -> Result<(), AllocError> {
     for (_, value) in values {
         if faults.is_full() {
             return Ok(());
@@ -156,8 +148,7 @@ fn check_inputs(
     takers: &mut Takers<'_>,
     fields: &IndexMap<Name, Component<InputValueDefinition>>,
     faults: &mut Faults,
-) -> Result<(), AllocError>
-{
+) -> Result<(), AllocError> {
     for (_, field) in fields {
         if faults.is_full() {
             return Ok(());
@@ -173,8 +164,11 @@ fn check_inputs(
 }
 
 /// Adds the faults at a type itself. Those of the built-in scalars are not judged.
-fn check_own(takers: &mut Takers<'_>, ty: &ExtendedType, faults: &mut Faults) -> Result<(), AllocError>
-{
+fn check_own(
+    takers: &mut Takers<'_>,
+    ty: &ExtendedType,
+    faults: &mut Faults,
+) -> Result<(), AllocError> {
     if ty.is_scalar() && ty.is_built_in() {
         return Ok(());
     }
@@ -186,8 +180,7 @@ fn check_parts(
     takers: &mut Takers<'_>,
     ty: &ExtendedType,
     faults: &mut Faults,
-) -> Result<(), AllocError>
-{
+) -> Result<(), AllocError> {
     match ty {
         ExtendedType::Object(own) => check_fields(takers, &own.content().fields, faults),
         ExtendedType::Interface(own) => check_fields(takers, &own.content().fields, faults),
@@ -202,8 +195,7 @@ fn check_types(
     takers: &mut Takers<'_>,
     types: &IndexMap<Name, ExtendedType>,
     faults: &mut Faults,
-) -> Result<(), AllocError>
-{
+) -> Result<(), AllocError> {
     for (_, ty) in types {
         if faults.is_full() {
             return Ok(());
@@ -219,8 +211,7 @@ fn check_own_definition(
     takers: &mut Takers<'_>,
     definition: &Node<DirectiveDefinition>,
     faults: &mut Faults,
-) -> Result<(), AllocError>
-{
+) -> Result<(), AllocError> {
     if definition.is_built_in() {
         return Ok(());
     }
@@ -237,8 +228,7 @@ fn check_definitions(
     takers: &mut Takers<'_>,
     definitions: &IndexMap<Name, Node<DirectiveDefinition>>,
     faults: &mut Faults,
-) -> Result<(), AllocError>
-{
+) -> Result<(), AllocError> {
     for (_, definition) in definitions {
         if faults.is_full() {
             return Ok(());
@@ -252,8 +242,7 @@ fn check_definitions(
 /// Adds the faults of the directives that are used in the schema: at its definition, at types but built-in scalars, at
 /// fields, arguments, values and input fields, and at definitions of directives but built-in ones. In it no two things of
 /// one kind have one name, as in every map.
-pub fn check_schema_directives(schema: &Schema, faults: &mut Faults) -> Result<(), AllocError>
-{
+pub fn check_schema_directives(schema: &Schema, faults: &mut Faults) -> Result<(), AllocError> {
     let mut takers = Takers::new(*faults.allocator(), schema);
     check_applied(
         &mut takers,

@@ -36,8 +36,7 @@ fn find_definition<'a>(
     definitions: &'a [Node<InputValueDefinition>],
     numbers: &IndexMap<Name, usize>,
     name: &Name,
-) -> Option<&'a Node<InputValueDefinition>>
-{
+) -> Option<&'a Node<InputValueDefinition>> {
     match numbers.get(name) {
         None => None,
         Some(index) => definitions.get(*index),
@@ -50,8 +49,7 @@ fn undefined_argument(
     defined: &IndexMap<Name, usize>,
     argument: &Node<Argument>,
     faults: &mut Faults,
-) -> Result<(), AllocError>
-{
+) -> Result<(), AllocError> {
     let name = &argument.content().name;
     if find_definition(taker.definitions, defined, name).is_some() {
         return Ok(());
@@ -71,8 +69,7 @@ fn tell_undefined_arguments(
     taker: &Taker<'_>,
     defined: &IndexMap<Name, usize>,
     faults: &mut Faults,
-) -> Result<(), AllocError>
-{
+) -> Result<(), AllocError> {
     for argument in taker.given {
         if faults.is_full() {
             return Ok(());
@@ -83,8 +80,7 @@ fn tell_undefined_arguments(
 }
 
 /// Whether no argument of that name is given, or it is null.
-fn is_not_given(given: &[Node<Argument>], numbers: &IndexMap<Name, usize>, name: &Name) -> bool
-{
+fn is_not_given(given: &[Node<Argument>], numbers: &IndexMap<Name, usize>, name: &Name) -> bool {
     match find_argument(given, numbers, name) {
         None => true,
         Some(argument) => argument.content().value.content().is_null(),
@@ -98,8 +94,7 @@ fn required_argument(
     given: &IndexMap<Name, usize>,
     definition: &Node<InputValueDefinition>,
     faults: &mut Faults,
-) -> Result<(), AllocError>
-{
+) -> Result<(), AllocError> {
     let defined = definition.content();
     if !(defined.is_required() && is_not_given(taker.given, given, &defined.name)) {
         return Ok(());
@@ -122,8 +117,7 @@ fn tell_required_arguments(
     required: &[usize],
     given: &IndexMap<Name, usize>,
     faults: &mut Faults,
-) -> Result<(), AllocError>
-{
+) -> Result<(), AllocError> {
     for index in required {
         if faults.is_full() {
             return Ok(());
@@ -139,8 +133,7 @@ fn check_argument(
     argument: &Node<Argument>,
     definition: &Node<InputValueDefinition>,
     faults: &mut Faults,
-) -> Result<(), AllocError>
-{
+) -> Result<(), AllocError> {
     let defined = definition.content();
     disallowed_variable_usage(judging, argument, defined, faults)?;
     let value = &argument.content().value;
@@ -160,8 +153,7 @@ fn check_if_defined(
     defined: &IndexMap<Name, usize>,
     argument: &Node<Argument>,
     faults: &mut Faults,
-) -> Result<(), AllocError>
-{
+) -> Result<(), AllocError> {
     let name = &argument.content().name;
     match find_definition(taker.definitions, defined, name) {
         None => Ok(()),
@@ -170,8 +162,7 @@ fn check_if_defined(
 }
 
 /// Whether the name has that number.
-fn has_number(numbers: &IndexMap<Name, usize>, name: &Name, number: usize) -> bool
-{
+fn has_number(numbers: &IndexMap<Name, usize>, name: &Name, number: usize) -> bool {
     match numbers.get(name) {
         None => false,
         Some(own) => *own == number,
@@ -185,8 +176,7 @@ fn check_arguments(
     defined: &IndexMap<Name, usize>,
     given: &IndexMap<Name, usize>,
     faults: &mut Faults,
-) -> Result<(), AllocError>
-{
+) -> Result<(), AllocError> {
     for index in 0..taker.given.len() {
         if faults.is_full() {
             return Ok(());

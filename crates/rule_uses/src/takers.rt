@@ -79,7 +79,9 @@ impl<'a> Takers<'a> {
         if let Some(index) = self.known.get_index_of(&key) {
             return Ok(index);
         }
-        let (index, _) = self.known.insert_full(key, defined(alloc, taker.definitions)?)?;
+        let (index, _) = self
+            .known
+            .insert_full(key, defined(alloc, taker.definitions)?)?;
         Ok(index)
     }
 

@@ -55,10 +55,7 @@ fn tell_repeated_keys(
 }
 
 /// Adds the faults of the keys in a value.
-pub(crate) fn tell_key_faults(
-    value: &Node<Value>,
-    faults: &mut Faults,
-) -> Result<(), AllocError>
+pub(crate) fn tell_key_faults(value: &Node<Value>, faults: &mut Faults) -> Result<(), AllocError>
     ensures { OnOk result (faults_of faults.new ≡ faults_of faults.old ++ key_faults (value_tree (content value.now))) }
 {
     tell_keys(value.content(), faults)

@@ -11,7 +11,9 @@ ghost use Rattle.rule_uses.specs.in_rule_values.Wanting.{variables_of};
 ghost use Rattle.rule_variables.specs.VariableFaults.{undefined_definition, variable_input_type, told_input_type, is_of_input_type, DefaultBreaks, JudgedDefaultBreaks, VariableBreaks};
 
 use graphql_names::Node;
-use rule_uses::{DefinedVariables, DiagnosticData, Fault, Faults, Schema, Takers, check_uses, check_value, tell};
+use rule_uses::{
+    DefinedVariables, DiagnosticData, Fault, Faults, Schema, Takers, check_uses, check_value, tell,
+};
 use schema_types::TypeKind;
 use std::alloc::AllocError;
 use tree_directives::DirectiveLocation;
