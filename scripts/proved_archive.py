@@ -36,10 +36,13 @@ def main():
     jobs = ["--jobs", str(len(os.sched_getaffinity(0)))]
     words = [f"{kit}/bin/rattle", "build", *crate.words(jobs, keeps=False), "--toolchain", f"{kit}/toolchain", "--backend", "llvm"]
     os.makedirs(f"{folder}/out", exist_ok=True)
-    done = subprocess.run([*words, "-o", f"out/lib{LIBRARY}.a"], cwd=folder, stdin=subprocess.DEVNULL, stdout=subprocess.PIPE, text=True)
-    last = done.stdout.rstrip().rsplit("\n", 1)[-1]
-    print(f"{LIBRARY}: {last}")
-    return 0 if done.returncode == 0 and last.startswith("logic=proved ") else 1
+    archive = f"out/lib{LIBRARY}.a"
+    how = {"cwd": folder, "stdin": subprocess.DEVNULL, "stdout": subprocess.PIPE, "stderr": subprocess.STDOUT, "text": True, "errors": "replace"}
+    done = subprocess.run([*words, "-o", archive], **how)
+    verdict = [line for line in done.stdout.splitlines() if line.startswith("logic=")]
+    is_made = done.returncode == 0 and len(verdict) == 1 and verdict[0].startswith("logic=proved ") and os.path.isfile(f"{folder}/{archive}")
+    print(f"{LIBRARY}: {verdict[0]}" if is_made else done.stdout)
+    return 0 if is_made else 1
 
 
 if __name__ == "__main__":
