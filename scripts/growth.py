@@ -1,161 +1,353 @@
 #!/usr/bin/env python3
-"""How the time of document rules grows: growth.py PROGRAM [WORD]
+"""How work grows with texts that are made to be slow: growth.py [--quick | --program FILE [--report FILE]] [--constructs] [--table] [WORD..]
 
-PROGRAM is the built program of `row_rules` (`rt run` there leaves it in `out/`). Row files of sizes n and 10 n are
-written to a folder that is removed again, and PROGRAM judges each. A line tells the two times, less that of an empty row, and
-by what factor they differ: about 10 where time grows with the size. With WORD only cases whose names have it are run."""
+Each family of growth_texts.py is measured: the instructions that the program takes for texts of n/2, n and 2 n bytes, and the most
+memory that it holds for one of the full size, which is 20 KB of document and schema each, 200 KB of a schema, or 100 KB of aliases. A line
+tells these, by what factor the instructions grow from n to 2 n, and the exponent of that growth. What all texts of a family take alike
+is no growth: the factor is that of what n adds to n/2, and 2 n to n. With --table it is a line of a table. With words only
+families are measured whose names have one of them. With --constructs texts are measured that repeat one construct each, and
+compared with nothing.
 
+The program is the proved one of `graphql_checked_program`; with --quick one that scripts/quick_build.py builds without proofs, which
+`./graphql-checked` keeps too; with --program any file. Families of `graphql-report` are measured on that program, built as the other
+is, or on the file of --report.
+
+Instructions are counted by `perf stat` where the machine counts them, else by valgrind's callgrind; the first line says by which.
+Memory needs `time` as GNU has it. Each run has limits: one that passes 10 processor seconds or 1 GB is cut off, and a line tells
+that it takes more. n is so small that the counted runs end.
+
+Each family has a bound for the factor, and all have one for the memory (WANTED_MEGABYTES). KNOWN has the families that do not keep
+theirs, with what is true today. The status is 1 where one is worse than is wanted or known, and also where one is better than KNOWN
+says, so that KNOWN stays true; where a text is not answered as it should be; and where nothing was measured."""
+
+import argparse
 import math
 import os
-import random
+import re
 import resource
+import signal
 import subprocess
 import sys
 import tempfile
+from typing import NamedTuple, Optional
 
-Q = "type Query { a: Int b: Int q: Query f(x: Int): Int l(x: [Int]): Int }"
+import growth_texts
+from sources import TOP
 
+# The limits of a run at the full size, and of one that is counted: processor seconds, MB.
+FULL_SECONDS, FULL_MEGABYTES = 10, 1024
+COUNTED_SECONDS, COUNTED_MEGABYTES = 120, 2800
 
-def many(n, text, between=" "):
-    """The text n times, each # the number."""
-    return between.join(text.replace("#", str(i)) for i in range(n))
+# What is wanted: the MB at the full size. By what factor instructions may grow is in each family.
+WANTED_MEGABYTES = 64
 
-
-def chain(n, body, last):
-    """Fragments F0 to Fn-1, each with a body in which # is a spread of the next; the last one has other selections."""
-    inner = (f"fragment F{i} on Query {{ {body.replace('#', f'...F{i + 1}')} }}" for i in range(n - 1))
-    return " ".join([*inner, f"fragment F{n - 1} on Query {{ {last} }}"])
-
-
-M = "type Query { q: Query a: Int b: String }"
+# By how much a figure may differ from KNOWN: programs with and without proofs differ by less.
+LEEWAY = 0.08
 
 
-def shared(n):
-    """A fragment of n fields."""
-    return " fragment F on Query { " + many(n, "a#: a") + " }"
+class Known(NamedTuple):
+    """What is true today of a family that does not keep its bounds: by what factor its instructions grow, the MB that it holds, and
+    which limit cuts it off at the full size, `seconds` or `memory`; none where that bound is kept."""
+
+    factor: Optional[float] = None
+    megabytes: Optional[int] = None
+    cut: Optional[str] = None
 
 
-def levels(members, chosen, deep):
-    """Fragments at so many levels, each of which spreads two of the next: those of one level are spread in ever other orders; and
-    where fewer are chosen than there are members, in ever other sets, and all of them by another operation."""
-    order = random.Random(1)
-    parts = ["query one { " + many(chosen, "...A0_#") + " }"]
-    for level in range(deep):
-        x, y = list(range(members)), list(range(members))
-        order.shuffle(x)
-        order.shuffle(y)
-        next_level = f"...A{level + 1}_"
-        parts += (f"fragment A{level}_{i} on Query {{ x: q {{ {next_level}{x[i]} }} y: q {{ {next_level}{y[i]} }} }}" for i in range(members))
-    parts += (f"fragment A{deep}_{i} on Query {{ a{i}: a }}" for i in range(members))
-    if chosen < members:
-        parts.append("query all { " + " ".join(f"...A{level}_{i}" for level in range(deep + 1) for i in range(members)) + " }")
-    return " ".join(parts)
+# The families that are known to be worse than wanted.
+KNOWN = {
+    "repeat": Known(factor=3.9, cut="seconds"),
+    "repeat_heavy": Known(factor=7.0, cut="seconds"),
+    "pairs": Known(cut="seconds"),
+    "tower": Known(factor=6.3, cut="seconds"),
+    "lists_heavy": Known(factor=8.1, cut="seconds"),
+    "dag": Known(factor=10.7, cut="seconds"),
+    "apply": Known(factor=6.4, cut="seconds"),
+    "args": Known(factor=6.6, cut="seconds"),
+    "locations": Known(factor=4.9),
+    "told_args": Known(factor=3.5, cut="memory"),
+    "told_keys": Known(factor=3.9, cut="memory"),
+    "told_ops": Known(factor=10.0, cut="memory"),
+    "told_names": Known(factor=3.7, megabytes=107),
+    "hash_aliases": Known(factor=3.9),
+    "hash_lists": Known(factor=3.6),
+    "hash_schema": Known(factor=4.0, cut="seconds"),
+    "schema_uses": Known(factor=4.1, cut="seconds"),
+    "missing_fields": Known(factor=3.9, cut="memory"),
+    "schema_transitive": Known(factor=3.7, cut="memory"),
+    "report_fragments": Known(factor=3.0),
+    "like_names": Known(factor=4.3),
+    "report_long": Known(factor=4.0),
+    "tower_of_sets": Known(factor=9.6, cut="seconds"),
+    "objects_and_sets": Known(megabytes=66),
+    "levels_of_fields": Known(factor=3.1),
+    "directive_arguments": Known(factor=8.5, cut="seconds"),
+    "optional_keys": Known(factor=7.9, cut="seconds"),
+    "shared_variables": Known(factor=3.9),
+    "own_arguments": Known(factor=4.0, cut="seconds"),
+    "told_roots": Known(factor=4.0, megabytes=156),
+    "told_variables": Known(factor=3.9, megabytes=871),
+    "told_labels": Known(factor=3.8, megabytes=212),
+}
 
 
-def objects(n):
-    """A schema with an interface that n objects have."""
-    return "type Query { i: I } interface I { i: I a: Int } " + many(n, "type T# implements I { i: I a: Int }")
+class Run(NamedTuple):
+    """How a run ended: its status, or which limit ended it; what it wrote to standard error; its MB and processor seconds, if told."""
+
+    status: Optional[int]
+    cut: Optional[str]
+    stderr: str
+    megabytes: float = 0
+    seconds: float = 0
 
 
-def parents(n):
-    """Fragments on that interface, of n sets below it and of one below each object."""
-    return "fragment A on I { " + many(n, "i { a#: a }") + " } fragment B on I { " + many(n, "... on T# { i { b#: a } }") + " }"
+def limits(seconds, megabytes):
+    """What sets these limits for a process that begins."""
+
+    def less():
+        resource.setrlimit(resource.RLIMIT_CORE, (0, 0))
+        resource.setrlimit(resource.RLIMIT_CPU, (seconds, seconds))
+        most = megabytes << 20
+        hard = resource.getrlimit(resource.RLIMIT_AS)[1]
+        if hard != resource.RLIM_INFINITY:
+            most = min(most, hard)
+        resource.setrlimit(resource.RLIMIT_AS, (most, most))
+
+    return less
 
 
-def words(n):
-    """n chains of fields that go by nearly all words of two keys, and n that go by one word each."""
-    pick = random.Random(2)
-    long = max(1, math.ceil(1.5 * math.log2(n)))
-    parts = ["{ " + many(n, "...A#_0 ...B#_0") + " }"]
-    for i in range(n):
-        for k in range(long):
-            other = "" if pick.random() < 1 / long else f"k1: q {{ ...A{i}_{k + 1} }} "
-            parts.append(f"fragment A{i}_{k} on Query {{ k0: q {{ ...A{i}_{k + 1} }} {other}}}")
-            parts.append(f"fragment B{i}_{k} on Query {{ k{int(pick.random() < .5)}: q {{ ...B{i}_{k + 1} }} }}")
-        parts.append(f"fragment A{i}_{long} on Query {{ z: a }} fragment B{i}_{long} on Query {{ z: a }}")
-    return " ".join(parts)
+def run(words, folder, seconds, megabytes):
+    """Runs a program below GNU's time with these limits, and ends it where it takes much longer by the clock."""
+    words = ["/usr/bin/time", "-q", "-f", "held %M %U %S %x", *words]
+    process = subprocess.Popen(
+        words, cwd=folder, stdout=subprocess.DEVNULL, stderr=subprocess.PIPE, text=True, errors="replace",
+        preexec_fn=limits(seconds, megabytes), start_new_session=True,
+    )
+    try:
+        stderr = process.communicate(timeout=20 * seconds)[1]
+    except subprocess.TimeoutExpired:
+        return Run(None, "seconds", "")
+    finally:
+        if process.poll() is None:
+            os.killpg(process.pid, signal.SIGKILL)
+            process.communicate()
+    found = re.search(r"^held (\d+) ([\d.]+) ([\d.]+) (\d+)$", stderr, re.M)
+    if not found:
+        sys.exit(f"growth.py: time told nothing: {stderr[-300:]}")
+    megabytes, spent = int(found[1]) / 1024, float(found[2]) + float(found[3])
+    status = process.returncode
+    if status > 128 or status < 0:
+        return Run(None, "seconds", stderr, megabytes, spent)
+    return Run(status, "memory" if status == 4 else None, stderr, megabytes, spent)
 
 
-# Of each case its name, n, and what makes its schema and document of a size.
-CASES = [
-    ("equal fields of one set", 1000, lambda n: (Q, "{ " + many(n, "a") + " }")),
-    ("fields of one set under other keys", 1000, lambda n: (Q, "{ " + many(n, "k#: a") + " }")),
-    ("fields of one key that select other fields", 100, lambda n: (Q, "{ " + many(n, "q { k#: a }") + " }")),
-    ("selections", 1000, lambda n: (Q, "{ " + many(n, "... { a }") + " }")),
-    ("selections below fields", 1000, lambda n: (Q, "{ " + many(n, "k#: q { a }") + " }")),
-    ("depth of fields", 12, lambda n: (Q, "{ " + "q { " * n + "a" + " }" * n + " }")),
-    ("depth of inline fragments", 40, lambda n: (Q, "{ " + "... { " * n + "a" + " }" * n + " }")),
-    ("fragments that spread the next", 10, lambda n: (Q, "{ ...F0 } " + chain(n, "#", "a"))),
-    ("fragments that spread the next below fields", 10, lambda n: (Q, "{ ...F0 } " + chain(n, "a q { # }", "a"))),
-    ("fragments side by side", 1000, lambda n: (Q, "{ " + many(n, "...F#") + " } " + many(n, "fragment F# on Query { a }"))),
-    ("fragments at many levels", 4, lambda n: (Q, "{ ...F0 } " + chain(n, "q { # } q { # }", "a"))),
-    ("fragments at many levels, three keys", 4, lambda n: (Q, "{ ...F0 } " + chain(n, "q { # } r: q { # } s: q { # a }", "a"))),
-    ("operations that reach one fragment", 100, lambda n: (Q, many(n, "query Q# { ...F }") + " fragment F on Query { a }")),
-    ("operations, and as many fields in a fragment", 30, lambda n: (Q, many(n, "query Q# { ...F }") + " fragment F on Query { " + many(n, "k#: a") + " }")),
-    ("operations, and as many fields beside a variable", 30, lambda n: (Q, many(n, "query Q#($v: Int) { ...F }") + " fragment F on Query { f(x: $v) " + many(n, "k#: a") + " }")),
-    ("operations, and as many fields below one", 30, lambda n: (Q, many(n, "query Q# { ...F }") + " fragment F on Query { q { " + many(n, "k#: a") + " } }")),
-    ("operations, and as many fragments in one", 30, lambda n: (Q, many(n, "query Q# { ...F }") + " fragment F on Query { " + many(n, "...F#") + " } " + many(n, "fragment F# on Query { k#: a }"))),
-    ("fields of one key, and as many in a fragment of each", 20, lambda n: (Q, "{ " + many(n, "q { k#: a ...F }") + " } fragment F on Query { " + many(n, "l#: a") + " }")),
-    ("variables, each used once", 100, lambda n: (Q, "query(" + many(n, "$v#: Int") + ") { " + many(n, "k#: f(x: $v#)") + " }")),
-    ("variables, each used in one list", 100, lambda n: (Q, "query(" + many(n, "$v#: Int") + ") { l(x: [" + many(n, "$v#") + "]) }")),
-    ("uses of one variable", 1000, lambda n: (Q, "query($v: Int) { " + many(n, "k#: f(x: $v)") + " }")),
-    ("arguments of one field", 1000, lambda n: ("type Query { f(" + many(n, "x#: Int") + "): Int }", "{ f(" + many(n, "x#: 1") + ") }")),
-    ("arguments of two fields of one key", 1000, lambda n: ("type Query { f(" + many(n, "x#: Int") + "): Int }", "{ f(" + many(n, "x#: 1") + ") f(" + many(n, "x#: 1") + ") @skip(if: true) }")),
-    ("arguments that are defined, and as many fields", 100, lambda n: ("type Query { f(" + many(n, "x#: Int") + "): Int }", "{ " + many(n, "k#: f(x0: 1)") + " }")),
-    ("items of a list", 10000, lambda n: (Q, "{ l(x: [" + many(n, "1") + "]) }")),
-    ("keys of an object", 1000, lambda n: ("type Query { f(x: I): Int } input I { " + many(n, "k#: Int") + " }", "{ f(x: {" + many(n, "k#: 1") + "}) }")),
-    ("directives of a field", 1000, lambda n: ("directive @d repeatable on FIELD " + Q, "{ a " + many(n, "@d") + " }")),
-    ("objects of an interface, each with a fragment", 100, lambda n: ("type Query { p: P } interface P { a: Int } " + many(n, "type T# implements P { a: Int }"), "{ p { " + many(n, "... on T# { a }") + " } }")),
-    ("members of a union, each with a fragment on it", 100, lambda n: ("type Query { u: U } union U = " + many(n, "T#", " | ") + " " + many(n, "type T# { a: Int }"), "{ u { " + many(n, "... on U { ... on T# { k#: a } }") + " } }")),
-    ("merging: fragments in ever other orders, levels", 4, lambda n: (M, levels(8, 8, n))),
-    ("merging: fragments in ever other orders, members", 3, lambda n: (M, levels(n, n, 16))),
-    ("merging: ever other sets of fragments, levels", 3, lambda n: (M, levels(16, 8, n))),
-    ("merging: groups that select one fragment", 100, lambda n: (M, "{ " + many(n, "x#: q { ...F }") + " }" + shared(n))),
-    ("merging: groups that select one fragment and a field", 30, lambda n: (M, "{ " + many(n, "x#: q { y#: a ...F }") + " }" + shared(n))),
-    ("merging: one group that selects one fragment", 100, lambda n: (M, "{ " + many(n, "q { ...F b#: a }") + " }" + shared(n))),
-    ("merging: groups that select such a group", 10, lambda n: (M, "{ " + many(n, "x#: q { ...H q { ...F c#: a } }") + " } fragment H on Query { " + many(n, "q { ...F b#: a }") + " }" + shared(n))),
-    ("merging: operations that select one fragment", 100, lambda n: (M, many(n, "query Z# { ...F }") + shared(n))),
-    ("merging: operations that select it and a field", 30, lambda n: (M, many(n, "query Z# { y#: a ...F }") + shared(n))),
-    ("merging: fragments that select other fields of one", 100, lambda n: (M, "{ " + many(n, "...F#") + " } " + many(n, "fragment F# on Query { q { x#: a } }"))),
-    ("merging: objects of an interface", 100, lambda n: (objects(n), "{ i { " + many(n, "... on T# { a }") + " } }")),
-    ("merging: objects, and as many fields of the interface", 30, lambda n: (objects(n), "{ i { i { " + many(n, "a#: a") + " } " + many(n, "... on T# { i { b#: a } }") + " } }")),
-    ("merging: objects, and as many sets of the interface", 15, lambda n: (objects(n), "{ i { " + many(n, "i { a#: a }") + " " + many(n, "... on T# { i { b#: a } }") + " } }")),
-    ("merging: keys, over objects and sets of the interface", 3, lambda n: (objects(n), "{ i { " + many(n, "x#: i { ...A ...B i { c#: a } }") + " } } " + parents(n))),
-    ("merging: objects and sets of the interface, at two levels", 3, lambda n: (objects(n), "{ i { " + many(n, "i { ...A ...B i { c#: a } }") + " " + many(n, "... on T# { i { ...A d#: a } }") + " } } " + parents(n))),
-    ("merging: words", 6, lambda n: (M, words(n))),
-    ("faults", 1000, lambda n: (Q, "{ " + many(n, "k#: f(x: $v#)") + " }")),
-]
+class Counter:
+    """What counts instructions."""
+
+    def __init__(self, folder):
+        self.out = os.path.join(folder, "counted")
+        self.name = "perf" if self.has_perf() else "callgrind"
+
+    def has_perf(self):
+        """Whether this machine counts instructions."""
+        try:
+            words = ["perf", "stat", "-x,", "-e", "instructions:u", "-o", self.out, "true"]
+            return subprocess.run(words, capture_output=True, check=False).returncode == 0 and self.told_by_perf() is not None
+        except OSError:
+            return False
+
+    def told_by_perf(self):
+        """What perf has counted, if it has."""
+        with open(self.out, encoding="utf-8") as file:
+            found = re.search(r"^(\d+),[^,]*,instructions", file.read(), re.M)
+        return int(found[1]) if found else None
+
+    def count(self, words, folder):
+        """Runs a program and gives the instructions that were counted, none where it was cut off."""
+        if self.name == "perf":
+            counter = ["perf", "stat", "-x,", "-e", "instructions:u", "-o", self.out]
+        else:
+            counter = ["valgrind", "--tool=callgrind", "--callgrind-out-file=/dev/null"]
+        ended = run([*counter, *words], folder, COUNTED_SECONDS, COUNTED_MEGABYTES)
+        if ended.cut:
+            return ended, None
+        if self.name == "perf":
+            return ended, self.told_by_perf()
+        found = re.search(r"Collected : (\d+)", ended.stderr)
+        return ended, int(found[1]) if found else None
 
 
-def seconds(program, folder, schema, document):
-    """The least of three times of the processor in which the program judges a row of them."""
-    with open(os.path.join(folder, "growth.rows"), "w", encoding="utf-8") as file:
-        file.write(f"row: growth\ncall: document\nstatus: 0\nnesting: most\nschema: {schema}\ninput: {document}\n")
-    least = None
-    for _ in range(3):
-        start = resource.getrusage(resource.RUSAGE_CHILDREN).ru_utime
-        subprocess.run([program, "growth.rows"], cwd=folder, stdout=subprocess.DEVNULL, check=False)
-        taken = resource.getrusage(resource.RUSAGE_CHILDREN).ru_utime - start
-        least = taken if least is None else min(least, taken)
-        if taken > 1:
-            break
-    return least
+class Measured(NamedTuple):
+    """What was measured of a family: the bytes of both texts at n/2, n, 2 n and the full size, the instructions at the first three,
+    and how the run of the full size ended."""
+
+    sizes: list
+    counts: list
+    full: Run
+
+    def factor(self):
+        """By what factor the instructions grow from n to 2 n, apart from those that all three texts take."""
+        half, small, twice = self.counts
+        return (twice - small) / (small - half)
+
+
+class Measuring:
+    """The programs, and the folder of the texts."""
+
+    def __init__(self, programs, folder):
+        self.programs, self.folder = programs, folder
+        self.counter = Counter(folder)
+
+    def write(self, texts):
+        """Writes a schema and a document, and gives the bytes of both."""
+        for name, text in zip(("schema", "document"), texts):
+            with open(os.path.join(self.folder, name), "w", encoding="utf-8") as file:
+                file.write(text)
+        return sum(len(text.encode()) for text in texts)
+
+    def words(self, name):
+        """How a program is called on these."""
+        files = ["--schema", "schema", "document"] if name == "report" else ["document", "schema"]
+        return [self.programs[name], *files]
+
+    def counted(self, name):
+        """The instructions that it takes for these, and how it ended."""
+        ended, count = self.counter.count(self.words(name), self.folder)
+        if count is None and not ended.cut:
+            sys.exit(f"growth.py: nothing was counted: {ended.stderr[-300:]}")
+        return ended, count
+
+    def measured(self, family):
+        """What is measured of a family, and what went wrong."""
+        name, wrong, sizes, counts = family.program, [], [], []
+        for size in (family.small // 2, family.small, 2 * family.small):
+            sizes.append(self.write(family.make(size)))
+            ended, count = self.counted(name)
+            if count is None:
+                return None, [f"cut off by {ended.cut} where its instructions are counted, at {size:,} bytes: take a smaller n"]
+            wrong += unwanted_answer(family, ended)
+            counts.append(count)
+        if not counts[0] < counts[1] < counts[2]:
+            return None, [f"does not grow, so nothing was measured: {counts}"]
+        sizes.append(self.write(family.make(family.full)))
+        full = run(self.words(name), self.folder, FULL_SECONDS, FULL_MEGABYTES)
+        if not full.cut:
+            wrong += unwanted_answer(family, full)
+        return Measured(sizes, counts, full), wrong
+
+
+def unwanted_answer(family, ended):
+    """That a text is not answered as its family says."""
+    if family.bound and ended.status != int(family.told):
+        told = " ".join(line for line in ended.stderr.split("\n") if not line.startswith(("==", "held")))
+        yield f"ended with status {ended.status}{told and ': ' + told[:200]}"
+
+
+def compared(what, figure, wanted, known):
+    """What is wrong with a figure, which is to be at most what is wanted, or nearly what is known."""
+    if known is None:
+        if figure > wanted:
+            yield f"{what} {figure:.2f}, more than {wanted}"
+    elif figure > known * (1 + LEEWAY):
+        yield f"{what} {figure:.2f}, worse than {known}, which is known"
+    elif figure <= wanted or figure < known * (1 - LEEWAY):
+        yield f"{what} {figure:.2f}, better than {known}: change what KNOWN says"
+
+
+def wrong_with(family, measured):
+    """What is wrong with what was measured."""
+    known, full = KNOWN.get(family.name, Known()), measured.full
+    yield from compared("grows by a factor of", measured.factor(), family.bound, known.factor)
+    if full.cut:
+        if full.cut != known.cut:
+            yield f"cut off by {full.cut} at {family.full:,} bytes"
+    elif not known.cut:
+        yield from compared("MB held:", full.megabytes, WANTED_MEGABYTES, known.megabytes)
+    # One that is known to be cut off may just end on a faster machine.
+    elif full.seconds < FULL_SECONDS / 4:
+        yield f"ends at {family.full:,} bytes after {full.seconds:.1f} seconds: change what KNOWN says"
+
+
+def shown(family, measured, as_table):
+    """The line of what was measured."""
+    _, small, twice, size = measured.sizes
+    factor, full = measured.factor(), measured.full
+    more = "more than " if full.cut else ""
+    seconds = f"{more if full.cut == 'seconds' else ''}{full.seconds:.1f}"
+    megabytes = f"{more if full.cut else ''}{full.megabytes:,.0f}"
+    exponent = math.log2(factor)
+    counts = [f"{count / 1e6:,.0f}" for count in measured.counts[1:]]
+    if as_table:
+        return f"| {family.name}: {family.sentence} | {twice:,} | {counts[1]} | {factor:.2f} | {exponent:.1f} | {size:,} | {megabytes} | {seconds} |"
+    known = " known" if family.name in KNOWN else ""
+    return f"{family.name:24} {small:8,} {twice:8,} bytes {counts[0]:>7} {counts[1]:>7} M, {factor:5.2f}, n^{exponent:.1f} {size:8,} bytes {megabytes} MB {seconds} s{known}"
+
+
+def quick(crate):
+    """The program of a crate, built without proofs, which is built first where it is not there."""
+    folder = os.environ.get("GRAPHQL_CHECKED_BUILT") or os.path.join(TOP, ".built")
+    script = [sys.executable, os.path.join(TOP, "scripts", "quick_build.py")]
+    checksum = subprocess.run([*script, "checksum"], capture_output=True, text=True, check=True).stdout.strip()
+    file = os.path.join(folder, f"{crate}-{checksum}")
+    if not os.path.exists(file):
+        subprocess.run([*script, "program", crate, file], check=True)
+    return file
+
+
+def programs(options):
+    """The programs to measure, by what families call them."""
+    crates = {"check": "graphql_checked_program", "report": "graphql_report_program"}
+    if options.quick:
+        return {name: quick(crate) for name, crate in crates.items()}
+    if options.program:
+        given = {"check": options.program, "report": options.report}
+        return {name: os.path.abspath(file) for name, file in given.items() if file}
+    return {name: os.path.join(TOP, "crates", crate, "out", crate) for name, crate in crates.items()}
+
+
+def chosen(options, found):
+    """The families that are asked for, those whose program is there; it says which are left out."""
+    families = [growth_texts.construct(*it) for it in growth_texts.CONSTRUCTS] if options.constructs else growth_texts.FAMILIES
+    wanted = [it for it in families if not options.words or any(word in it.name for word in options.words)]
+    left_out = [it.name for it in wanted if it.program not in found]
+    if left_out:
+        print(f"not measured, without --report: {', '.join(left_out)}")
+    return [it for it in wanted if it.program in found]
 
 
 def main():
-    """Prints a line for each case."""
-    program = os.path.abspath(sys.argv[1])
-    word = sys.argv[2] if len(sys.argv) > 2 else ""
+    """Measures each family and prints a line of it, then what is wrong."""
+    parser = argparse.ArgumentParser(description=__doc__.split(":")[0])
+    parser.add_argument("--quick", action="store_true", help="the program without proofs")
+    parser.add_argument("--program", metavar="FILE", help="this program as graphql-checked")
+    parser.add_argument("--report", metavar="FILE", help="this program as graphql-report")
+    parser.add_argument("--constructs", action="store_true", help="measure texts of one construct each, and compare nothing")
+    parser.add_argument("--table", action="store_true", help="print lines of a table")
+    parser.add_argument("words", nargs="*", metavar="WORD", help="families whose names have it")
+    options = parser.parse_args()
+    # So that what it has started is ended with it.
+    signal.signal(signal.SIGTERM, lambda number, _: sys.exit(128 + number))
+    found = programs(options)
+    missing = [file for file in found.values() if not os.access(file, os.X_OK)]
+    if missing:
+        sys.exit(f"growth.py: there is no program {', '.join(missing)}: --quick builds one")
+    wrong, count = [f"KNOWN has {name}, which is no family" for name in sorted(set(KNOWN) - {it.name for it in growth_texts.FAMILIES})], 0
     with tempfile.TemporaryDirectory() as folder:
-        empty = seconds(program, folder, "type Query { a: Int }", "{ a }")
-        print(f"{'empty':50} {'':>14} {empty:8.3f} s", flush=True)
-        for name, n, make in CASES:
-            if word not in name:
-                continue
-            few = seconds(program, folder, *make(n)) - empty
-            more = seconds(program, folder, *make(10 * n)) - empty
-            factor = f"{more / few:8.1f}" if few > 0.002 else "       -"
-            print(f"{name:50} {n:6} {10 * n:7} {few:8.3f} s {more:8.3f} s {factor}", flush=True)
+        measuring = Measuring(found, folder)
+        print(f"instructions by {measuring.counter.name}, of {found['check']}", flush=True)
+        for family in chosen(options, found):
+            measured, mistakes = measuring.measured(family)
+            if measured:
+                count += 1
+                mistakes += wrong_with(family, measured) if family.bound else []
+                print(shown(family, measured, options.table), flush=True)
+            wrong += [f"{family.name}: {mistake}" for mistake in mistakes]
+    if not count:
+        wrong.append("nothing was measured")
+    print("".join(f"{line}\n" for line in wrong), end="")
+    print(f"growth: {count} families, {len(wrong)} wrong")
+    return 1 if wrong else 0
 
 
-main()
+if __name__ == "__main__":
+    sys.exit(main())
