@@ -30,7 +30,7 @@ use checker_settings::{Layout, written};
 use document_typed_operations::ExecutableDocument;
 use graphql_faults::{Details, DiagnosticList};
 use graphql_names::FileId;
-use graphql_validation::{tell_lasting_faults, validate_executable_document};
+use graphql_validation::{PossibleTypes, tell_lasting_faults, validate_with_possible_types};
 use std::alloc::{AllocError, Global};
 use std::marker::Model;
 use tree_definitions::Document;
@@ -46,6 +46,8 @@ pub struct CheckedSchema {
     pub(crate) written: Document,
     /// The schema over which documents are judged.
     pub(crate) schema: Schema,
+    /// Its possible types, which are found once and serve each document.
+    pub(crate) possible: PossibleTypes,
 }
 
 // Not derived: a derived drop is proved again in each crate that drops one.
@@ -57,6 +59,7 @@ impl Drop for CheckedSchema {
             number: _,
             written: _,
             schema: _,
+            possible: _,
         } = self;
     }
 }
@@ -65,6 +68,9 @@ impl Model for CheckedSchema {
     ghost use Rattle.std.specs.Coded.{codes};
     ghost use Rattle.book_validity.specs.in_schema.contracts.schema.Schema as of_schema;
     ghost use Rattle.tree_definitions.specs.contracts.document.Document as of_document;
+    ghost use Rattle.book_validity.specs.in_schema.SchemaOf.{schema_tree};
+    ghost use Rattle.rule_definitions.specs.Judged.{judged};
+    ghost use Rattle.graphql_validation.specs.in_fragments.Possible.{ArePossible};
     ghost use Rattle.graphql_checked.specs.CheckedView.{CheckedSchemaParts, schema_value};
     ghost use Rattle.checker_schemas.specs.CheckedSchemaValue.{IsOfAcceptedTexts};
 
@@ -74,7 +80,7 @@ impl Model for CheckedSchema {
 
     ghost view = { λ s. record { nesting = s.nesting; number = s.number; schema = s.schema; written = s.written } };
 
-    ghost invariant = { λ s. IsOfAcceptedTexts (schema_value (record { nesting = s.nesting; number = s.number; schema = s.schema; written = s.written })) };
+    ghost invariant = { λ s. IsOfAcceptedTexts (schema_value (record { nesting = s.nesting; number = s.number; schema = s.schema; written = s.written })) × ArePossible (judged (schema_tree s.schema)) s.possible };
 }
 
 impl CheckedSchema {
@@ -172,7 +178,8 @@ fn typed(schema: &CheckedSchema, tree: &Document) -> Result<ExecutableDocument, 
 {
     let (document, mut faults) = build(schema, tree)?;
     if !faults.is_empty() {
-        tell_lasting_faults(schema.alloc, &mut faults, &schema.schema, &document)?;
+        let possible = Some(&schema.possible);
+        tell_lasting_faults(schema.alloc, &mut faults, &schema.schema, possible, &document)?;
         return Err(Refusal::Faults(faults));
     }
     Ok(document)
@@ -183,8 +190,10 @@ fn validate(schema: &CheckedSchema, document: &ExecutableDocument) -> Result<(),
     ensures valid { IsTypedUnder (schema_value schema.now).schema (meant_document (typed_document_tree document.now)) → OnOk result (IsValidDocument (schema_value schema.now).schema (meant_document (typed_document_tree document.now))) }
     ensures refused { IsTypedUnder (schema_value schema.now).schema (meant_document (typed_document_tree document.now)) → IfErr result (RefusalOfRules (schema_value schema.now).schema (meant_document (typed_document_tree document.now))) }
 {
-    let mut faults = DiagnosticList::new(schema.alloc);
-    validate_executable_document(schema.alloc, &mut faults, &schema.schema, document)?;
+    let alloc = schema.alloc;
+    let mut faults = DiagnosticList::new(alloc);
+    let possible = Some(&schema.possible);
+    validate_with_possible_types(alloc, &mut faults, &schema.schema, possible, document)?;
     if !faults.is_empty() {
         return Err(Refusal::Faults(faults));
     }

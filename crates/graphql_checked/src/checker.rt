@@ -11,6 +11,7 @@ use crate::checked_schema::CheckedSchema;
 use checker_answers::{Refusal, SchemaTexts};
 use checker_schemas::schema_of_texts;
 use graphql_names::Files;
+use graphql_validation::PossibleTypes;
 use schema_components::Extensions;
 use std::alloc::Global;
 use std::marker::Model;
@@ -105,13 +106,17 @@ impl Checker {
         }
         let alloc = self.texts.alloc;
         match schema_of_texts(self.texts) {
-            Ok(judged) => Ok(CheckedSchema {
-                alloc,
-                nesting: judged.nesting,
-                number: judged.number,
-                written: judged.written,
-                schema: judged.schema,
-            }),
+            Ok(judged) => {
+                let possible = PossibleTypes::new(alloc, &judged.schema)?;
+                Ok(CheckedSchema {
+                    alloc,
+                    nesting: judged.nesting,
+                    number: judged.number,
+                    written: judged.written,
+                    schema: judged.schema,
+                    possible,
+                })
+            }
             Err(refusal) => Err(refusal),
         }
     }

@@ -3,3 +3,4 @@ pub mod Told
 pub mod TellsDocument
 pub mod TellsLasting
 pub mod Steps
+pub use Rattle.rule_fragments.specs as in_fragments

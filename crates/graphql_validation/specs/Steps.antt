@@ -22,9 +22,8 @@ use Rattle.rule_document_definitions.specs.Selected.{operations}
 use Rattle.rule_document_definitions.specs.Told.{PlacedDocumentFault}
 use Rattle.rule_fragments.specs.in_ground.NotedNames.{noted_names}
 use Rattle.rule_fragments.specs.in_ground.Reach.{meant_fragments}
-use Rattle.rule_fragments.specs.Possible.{ArePossibleIfFound}
+use Rattle.rule_fragments.specs.Possible.{ObjectsOfTypes, ArePossibleIfFound}
 use Rattle.rule_fragments.specs.Used.{AreUnderOwnNames, AreUsed}
-use Rattle.rule_fragments.specs.declared.possible_types.PossibleTypes.{PossibleTypes}
 use Rattle.rule_merging.specs.Merged.{DocumentMergingTold}
 use Rattle.rule_selections.specs.Settled.{StandIn}
 use Rattle.rule_selections.specs.Typed.{ReachesTyped}
@@ -66,11 +65,11 @@ FragmentsOf S = IndexMap NameValue (Node Fragment) S
 
 module _ (s : SchemaTree Place) where
   -- if the possible types that were found are right, so are these
-  abbrev pub StayPossible : Option PossibleTypes → Option PossibleTypes → Type 0
+  abbrev pub StayPossible : Option ObjectsOfTypes → Option ObjectsOfTypes → Type 0
   StayPossible old new = ArePossibleIfFound (judged s) old → ArePossibleIfFound (judged s) new
 
   -- what is found of an operation, whatever the document for whose fragments these stand in
-  abbrev pub FindsUnder : {S : Type 0} → FragmentsOf S → MeantOperation Place → Option PossibleTypes → Found → Found → Type 0
+  abbrev pub FindsUnder : {S : Type 0} → FragmentsOf S → MeantOperation Place → Option ObjectsOfTypes → Found → Found → Type 0
   FindsUnder fragments o possible old new = (d : MeantDocument Place) → StandIn s d.fragments (meant_fragments fragments) → ReachesTyped (meanings (plain s)) d o → ArePossibleIfFound (judged s) possible
       → Adds old.faults new.faults (OperationFails d o s)
 
@@ -79,7 +78,7 @@ module _ (s : SchemaTree Place) where
 
   module _ (d : MeantDocument Place) where
     -- what is found of each operation of the document, if these stand in for its fragments
-    abbrev pub FindsAllUnder : {S : Type 0} → FragmentsOf S → Option PossibleTypes → Found → Found → Type 0
+    abbrev pub FindsAllUnder : {S : Type 0} → FragmentsOf S → Option ObjectsOfTypes → Found → Found → Type 0
     FindsAllUnder fragments possible old new = StandIn s d.fragments (meant_fragments fragments) → AreReachesTyped s d → ArePossibleIfFound (judged s) possible
         → Adds old.faults new.faults (λ f. AtOperation d (λ o. OperationFails d o s f))
 

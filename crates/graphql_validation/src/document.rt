@@ -1,11 +1,14 @@
 //! Every rule on a document under a schema.
 ghost use Rattle.std.specs.Prelude.{◌≡◌, ◌↔◌, [], false, IsTrue, OnErr, OnOk};
+ghost use Rattle.std.specs.Option.{option_copied};
 ghost use Rattle.rule_fragments.specs.in_schema.SchemaOf.{schema_tree};
 ghost use Rattle.rule_fragments.specs.in_typing.DocumentView.{document_meant};
 ghost use Rattle.rule_document_definitions.specs.Selected.{operations};
 ghost use Rattle.fault_data.specs.FaultView.{faults_of};
 ghost use Rattle.rule_merging.specs.in_faults.DetailsView.{diagnostics_of, BeginsAs};
 ghost use Rattle.rule_fragments.specs.in_ground.Broken.{brokens_of};
+ghost use Rattle.rule_definitions.specs.Judged.{judged};
+ghost use Rattle.rule_fragments.specs.Possible.{ArePossibleIfFound};
 ghost use Rattle.graphql_validation.specs.TellsDocument.{TypedDocumentTold, SilenceMeansValid, ValidMeansSilence};
 ghost use Rattle.graphql_validation.specs.Steps.{TellsMerging, AllMerge};
 
@@ -14,7 +17,7 @@ use crate::told::append_all;
 use crate::under_schema::faults_under;
 use document_typed_operations::ExecutableDocument;
 use fault_data::Fault;
-use rule_fragments::Schema;
+use rule_fragments::{PossibleTypes, Schema};
 use rule_merging::{Breach, DiagnosticList, FieldsInSetCanMerge};
 use rule_subscriptions::{document_breaches, passes_path_bound};
 use std::alloc::{AllocError, Global};
@@ -59,9 +62,27 @@ pub fn validate_executable_document(
     ensures accepts { OnOk result (ValidMeansSilence (schema_tree schema.now) (document_meant document.now) (diagnostics_of list.old) (diagnostics_of list.new)) }
     ensures begins { OnErr result (BeginsAs (diagnostics_of list.old) (diagnostics_of list.new)) }
 {
+    validate_with_possible_types(alloc, list, schema, None, document)
+}
+
+/// What [`validate_executable_document`] tells, where the possible types of the schema may be there already: then they are not
+/// found again.
+pub fn validate_with_possible_types(
+    alloc: Global,
+    list: &mut DiagnosticList,
+    schema: &Schema,
+    possible: Option<&PossibleTypes>,
+    document: &ExecutableDocument,
+) -> Result<(), AllocError>
+    requires { ArePossibleIfFound (judged (schema_tree schema.now)) (option_copied possible) }
+    ensures told { OnOk result (TypedDocumentTold (schema_tree schema.now) (document_meant document.now) (diagnostics_of list.old) (diagnostics_of list.new)) }
+    ensures silent { OnOk result (SilenceMeansValid (schema_tree schema.now) (document_meant document.now) (diagnostics_of list.old) (diagnostics_of list.new)) }
+    ensures accepts { OnOk result (ValidMeansSilence (schema_tree schema.now) (document_meant document.now) (diagnostics_of list.old) (diagnostics_of list.new)) }
+    ensures begins { OnErr result (BeginsAs (diagnostics_of list.old) (diagnostics_of list.new)) }
+{
     // For its contract alone: no two fragments have one name, which the rules take for granted.
     fragments_differ(document);
-    let faults = faults_under(alloc, schema, document)?;
+    let faults = faults_under(alloc, schema, possible, document)?;
     let breaches = document_breaches(alloc, document)?;
     let is_passed = passes_path_bound(document);
     if is_nothing(&faults, &breaches, is_passed) {

@@ -64,7 +64,7 @@ pub fn validate_field_set(
 {
     // As a document of one query, so that no rule is written a second time for sets.
     let document = document_of_set(alloc, field_set)?;
-    let faults = faults_under(alloc, schema, &document)?;
+    let faults = faults_under(alloc, schema, None, &document)?;
     let is_passed = passes_path_bound(&document);
     append_all(list, faults, Vec::new(alloc), is_passed)
 }

@@ -1,14 +1,17 @@
 //! The rules that stay broken whatever is added to a document.
 ghost use Rattle.std.specs.Prelude.{OnErr, OnOk};
+ghost use Rattle.std.specs.Option.{option_copied};
 ghost use Rattle.rule_fragments.specs.in_schema.SchemaOf.{schema_tree};
 ghost use Rattle.rule_fragments.specs.in_typing.DocumentView.{document_meant};
 ghost use Rattle.rule_merging.specs.in_faults.DetailsView.{diagnostics_of, BeginsAs};
+ghost use Rattle.rule_definitions.specs.Judged.{judged};
+ghost use Rattle.rule_fragments.specs.Possible.{ArePossibleIfFound};
 ghost use Rattle.graphql_validation.specs.TellsLasting.{TypedLastingTold};
 
 use crate::told::append_all;
 use crate::under_schema::faults_under;
 use document_typed_operations::ExecutableDocument;
-use rule_fragments::Schema;
+use rule_fragments::{PossibleTypes, Schema};
 use rule_lasting::{keep_lasting_breaches, keep_lasting_faults};
 use rule_merging::DiagnosticList;
 use rule_subscriptions::document_breaches;
@@ -17,17 +20,20 @@ use std::alloc::{AllocError, Global};
 /// Tells of a document of which something may be left out, as typing does, what is wrong with it whatever that was: what
 /// breaks rules under a schema that stay broken whatever is added to the document (section 5, from 5.2.3 on, and the rules on
 /// `@defer`). Those are all rules on documents but UnusedVariable, MissingSubselection, UndefinedFragment, UnusedFragment,
-/// SubscriptionUsesMultipleFields and those on labels and on merging. Where memory is refused the list begins as before.
+/// SubscriptionUsesMultipleFields and those on labels and on merging. `possible` has the possible types of the schema, if they
+/// are there already. Where memory is refused the list begins as before.
 pub fn tell_lasting_faults(
     alloc: Global,
     list: &mut DiagnosticList,
     schema: &Schema,
+    possible: Option<&PossibleTypes>,
     document: &ExecutableDocument,
 ) -> Result<(), AllocError>
+    requires { ArePossibleIfFound (judged (schema_tree schema.now)) (option_copied possible) }
     ensures told { OnOk result (TypedLastingTold (schema_tree schema.now) (document_meant document.now) (diagnostics_of list.old) (diagnostics_of list.new)) }
     ensures begins { OnErr result (BeginsAs (diagnostics_of list.old) (diagnostics_of list.new)) }
 {
-    let mut faults = faults_under(alloc, schema, document)?;
+    let mut faults = faults_under(alloc, schema, possible, document)?;
     keep_lasting_faults(&mut faults);
     let mut breaches = document_breaches(alloc, document)?;
     keep_lasting_breaches(&mut breaches);

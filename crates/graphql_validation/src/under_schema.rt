@@ -1,17 +1,21 @@
 //! What is judged under a schema, operation by operation.
 ghost use Rattle.std.specs.Prelude.{IfOk, OnOk};
+ghost use Rattle.std.specs.Option.{option_copied};
 ghost use Rattle.fault_data.specs.Adds.{Adds};
 ghost use Rattle.fault_data.specs.FaultView.{faults_of};
 ghost use Rattle.rule_definitions.specs.Judged.{judged};
 ghost use Rattle.rule_fragments.specs.in_schema.SchemaOf.{schema_tree};
 ghost use Rattle.rule_fragments.specs.in_typing.DocumentView.{document_meant, operation_meant};
+ghost use Rattle.rule_fragments.specs.Possible.{ArePossibleIfFound};
 ghost use Rattle.graphql_validation.specs.Steps.{FindsUnder, NotesUnder, StayPossible, FindsAllUnder, NotesAllUnder, TellsUnder};
 
 use crate::found::{Found, check_fragments, note_fragments};
 use document_typed_operations::{ExecutableDocument, FragmentMap, Operation};
 use fault_data::Fault;
 use graphql_names::Node;
-use rule_fragments::{PossibleTypes, Schema, check_applications, check_spreads, reach};
+use rule_fragments::{
+    PossibleTypes, Schema, check_applications, check_spreads, for_document, reach,
+};
 use rule_selections::{check_selections, settled_fragments};
 use rule_variables::{check_variables, check_variables_alone};
 use std::alloc::{AllocError, Global};
@@ -60,16 +64,19 @@ fn check_operations(
 }
 
 /// The faults of a document under a schema. What several operations share is judged once, as far as it breaks no rule
-/// whatever their variables. The possible types of the schema are found once, for the first operation in which a fragment is
-/// on another type than that where it stands; if there is none, never.
+/// whatever their variables. `possible` has the possible types of the schema, if they are there already. Where they are not,
+/// they are found once, for the first operation in which a fragment is on another type than that where it stands; if there is
+/// none, never.
 pub(crate) fn faults_under(
     alloc: Global,
     schema: &Schema,
+    possible: Option<&PossibleTypes>,
     document: &ExecutableDocument,
 ) -> Result<Vec<Fault>, AllocError>
+    requires { ArePossibleIfFound (judged (schema_tree schema.now)) (option_copied possible) }
     ensures { IfOk result (λ r. TellsUnder (schema_tree schema.now) (document_meant document.now) (faults_of r)) }
 {
-    let mut possible = None;
+    let mut possible = for_document(alloc, possible)?;
     let mut found = Found::new(alloc);
     let settled = settled_fragments(alloc, schema, document)?;
     let fragments = settled.as_ref().unwrap_or(&document.fragments);

@@ -5,6 +5,7 @@ pub mod Targeted
 pub mod Noted
 pub mod Objects
 pub mod Sharing
+pub mod Seen
 pub mod Applying
 pub mod Spread
 pub mod Named

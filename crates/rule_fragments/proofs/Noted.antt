@@ -18,7 +18,7 @@ use Rattle.schema_types.specs.TypeView.{name_text}
 use Rattle.rule_definitions.proofs.Lists.{not_in_nil, Contains-cons, Contains-first}
 use Rattle.rule_definitions.proofs.Lookups.{text_given}
 use Rattle.rule_definitions.proofs.Listing.{mapped_more}
-use Rattle.rule_fragments.specs.Possible.{texts_of, noted_in, noted_under, AddsEntries, AddsNotes}
+use Rattle.rule_fragments.specs.Held.{texts_of, noted_in, AddsEntries, AddsNotes}
 use Rattle.rule_fragments.specs.Noting.{Notes}
 
 -- ---- a look-up by text, after a write
@@ -72,6 +72,10 @@ in_set ks k x = by (list_any (same_text name_text k) ks) refl
     by false is = subst (λ l. Contains l x ↔ (Contains (map name_text ks) x ⊎ (k.text ≡ x))) (sym (map-append name_text ks (k ∷ []))) last
 
 -- ---- one note
+
+-- the names that a map holds under a name
+abbrev noted_under : {S T : Type 0} → IndexMap NameValue (IndexSet NameValue S) T → List ℕ → List (List ℕ)
+noted_under m n = noted_in m.entries n
 
 module _ {S : Type 0} where
   or_none : (o : Option (IndexSet NameValue S)) (none : IndexSet NameValue S) → none.keys ≡ [] → map name_text (unwrap_or o none).keys ≡ texts_of o

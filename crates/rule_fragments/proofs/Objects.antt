@@ -19,7 +19,7 @@ use Rattle.rule_definitions.specs.Judged.{judged}
 use Rattle.rule_definitions.proofs.Lists.{not_in_nil, Contains-cons, Contains-first, only, found_in, given_in, mapped_some}
 use Rattle.rule_definitions.proofs.Lookups.{text_found, text_given, under_found, under_given}
 use Rattle.rule_document_definitions.specs.PossibleTypes.{CanBe}
-use Rattle.rule_fragments.specs.Possible.{noted_in, AddsEntries}
+use Rattle.rule_fragments.specs.Held.{noted_in, AddsEntries}
 use Rattle.rule_fragments.proofs.Noted.{all_noted}
 use Rattle.rule_fragments.specs.Noting.{interface_notes, object_notes, is_object, member_note, member_notes, type_notes}
 

@@ -10,8 +10,8 @@ use Rattle.rule_definitions.specs.Judged.{Judged}
 use Rattle.rule_definitions.proofs.Lists.{not_in_nil, Contains-cons, Contains-first}
 use Rattle.rule_definitions.proofs.Lookups.{text_found, text_given}
 use Rattle.rule_document_definitions.specs.PossibleTypes.{CanBe, MayApply}
-use Rattle.rule_fragments.specs.Possible.{objects_of, ArePossible, share_one, may_apply}
-use Rattle.rule_fragments.specs.declared.possible_types.PossibleTypes.{PossibleTypes}
+use Rattle.rule_fragments.specs.Held.{share_one, may_apply}
+use Rattle.rule_fragments.specs.Possible.{ObjectsOfTypes, objects_of, ArePossible}
 
 abbrev Common : List (List ℕ) → List (List ℕ) → Type 0
 Common xs ys = (x : List ℕ) × (Contains xs x × Contains ys x)
@@ -62,7 +62,7 @@ module _ (ks : List NameValue) (ys : List (List ℕ)) (i : ℕ) (k : NameValue) 
 
 -- ---- what the rule says
 
-module _ (s : Judged) (p : PossibleTypes) (possible : ArePossible s p) (n c : List ℕ) where
+module _ (s : Judged) (p : ObjectsOfTypes) (possible : ArePossible s p) (n c : List ℕ) where
   applies : (may_apply p n c ≡ true) ↔ MayApply s n c
   applies = by (bytes_eq c n) refl
     where

@@ -24,9 +24,9 @@ use Rattle.rule_definitions.proofs.Listing.{present_known}
 use Rattle.rule_definitions.proofs.Listing.{Lists, lists_same, lists_nothing, lists_unless, lists_index, Gains, gains_list, gains_both, gains_nothing}
 use Rattle.rule_document_ground.specs.Reach.{Member, IsReach}
 use Rattle.rule_document_ground.proofs.AtReaches.{at_reached}
-use Rattle.rule_fragments.specs.Possible.{ArePossible, may_apply}
+use Rattle.rule_fragments.specs.Held.{may_apply}
+use Rattle.rule_fragments.specs.Possible.{ObjectsOfTypes, ArePossible}
 use Rattle.rule_fragments.specs.Applied.{ApplicationTree, stands_on_its_type, all_stand_on_their_types, spread_told, application_fault, invalid_fragment_spread}
-use Rattle.rule_fragments.specs.declared.possible_types.PossibleTypes.{PossibleTypes}
 use Rattle.rule_fragments.proofs.Sharing.{refused}
 
 none_is : {A B : Type 0} (x : A) → None ≡ Some x → B
@@ -70,7 +70,7 @@ module _ (s : SchemaTree Place) (fragments : Entries (MeantFragment Place)) (t :
   ]
 
   -- what is told of it
-  module _ (p : PossibleTypes) (possible : ArePossible (judged s) p) where
+  module _ (p : ObjectsOfTypes) (possible : ArePossible (judged s) p) where
     lists_application : (a : ApplicationTree) → Lists (application_fault s p t a) (Refused a)
     lists_application a =
         let b = may_apply p t a.condition in
@@ -108,7 +108,7 @@ module _ (s : SchemaTree Place) (fragments : Entries (MeantFragment Place)) (t :
         (lists_application (of_inline at c))
 
 -- what is told of all that is reached
-module _ (d : MeantDocument Place) (o : MeantOperation Place) (reached : List (Member Place)) (spread : List (MeantFragment Place)) (reach : IsReach d (own o) reached spread) (s : SchemaTree Place) (p : PossibleTypes) (possible : ArePossible (judged s) p) where
+module _ (d : MeantDocument Place) (o : MeantOperation Place) (reached : List (Member Place)) (spread : List (MeantFragment Place)) (reach : IsReach d (own o) reached spread) (s : SchemaTree Place) (p : ObjectsOfTypes) (possible : ArePossible (judged s) p) where
   pub lists_spreads : (fragments : Entries (MeantFragment Place)) → d.fragments ≡ fragments → Lists (flat_map (invalid_fragment_spread s p fragments) reached) (λ f. InvalidFragmentSpreadAt (judged s) d o f (places_in s))
   lists_spreads fragments same =
       subst (λ (fs : Entries (MeantFragment Place)). Lists (flat_map (invalid_fragment_spread s p fs) reached) (λ f. InvalidFragmentSpreadAt (judged s) d o f (places_in s))) same

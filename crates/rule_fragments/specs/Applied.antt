@@ -11,9 +11,9 @@ use Rattle.rule_definitions.specs.Diagnostics.{InvalidFragmentSpread}
 use Rattle.rule_definitions.specs.Faults.{wrong}
 use Rattle.rule_definitions.specs.Told.{PlacedFault}
 use Rattle.rule_document_ground.specs.Reach.{Member}
-use Rattle.rule_fragments.specs.Possible.{may_apply}
+use Rattle.rule_fragments.specs.Held.{may_apply}
+use Rattle.rule_fragments.specs.Possible.{ObjectsOfTypes}
 use Rattle.rule_fragments.specs.declared.applications.Application.{Application}
-use Rattle.rule_fragments.specs.declared.possible_types.PossibleTypes.{PossibleTypes}
 
 -- a fragment where it stands: its name, if it has one, its condition, where it stands and where it is defined
 pub record ApplicationTree : Type 0 where
@@ -43,7 +43,7 @@ module _ (s : SchemaTree Place) where
   abbrev pub spread_told : List ℕ → ApplicationTree → PlacedFault
   spread_told parent a = wrong a.place (InvalidFragmentSpread a.name parent a.condition a.fragment_place (place_at s (TypeAt parent)))
 
-  module _ (possible : PossibleTypes) where
+  module _ (possible : ObjectsOfTypes) where
     abbrev pub application_fault : List ℕ → ApplicationTree → List PlacedFault
     application_fault parent a = if may_apply possible parent a.condition then [] else spread_told parent a ∷ []
 

@@ -1,5 +1,6 @@
 pub mod Listed
 pub mod Possible
+pub mod Held
 pub mod Noting
 pub mod Applied
 pub mod Used

@@ -25,10 +25,10 @@ use Rattle.rule_document_ground.specs.declared.lists.Reach.{Reach}
 use Rattle.rule_cycles.specs.Numbers.{each_value}
 use Rattle.rule_fragments.specs.Applied.{application_tree, application_fault, invalid_fragment_spread}
 use Rattle.rule_fragments.specs.Listed.{undefined_fragment, invalid_fragment_target, inline_target}
+use Rattle.rule_fragments.specs.Possible.{ObjectsOfTypes}
 use Rattle.rule_fragments.specs.SpreadViews.{fragment_meant}
 use Rattle.rule_fragments.specs.Unused.{unused_fragment}
 use Rattle.rule_fragments.specs.declared.applications.Application.{Application}
-use Rattle.rule_fragments.specs.declared.possible_types.PossibleTypes.{PossibleTypes}
 
 -- the faults that were there, as they stood, and after them exactly these
 abbrev pub AddsThese : Vec Fault Global → Vec Fault Global → List PlacedFault → Type 0
@@ -51,10 +51,10 @@ abbrev pub unused_fragments : {S : Type 0} → List (List ℕ) → IndexMap Name
 unused_fragments names fragments = each_value (λ n. unused_fragment names (fragment_meant n)) fragments.entries
 
 -- a fragment that cannot apply in a set of the type `parent`; each that is reached
-abbrev pub invalid_spread : SchemaTree Place → PossibleTypes → NameValue → Application → List PlacedFault
+abbrev pub invalid_spread : SchemaTree Place → ObjectsOfTypes → NameValue → Application → List PlacedFault
 invalid_spread s possible parent application = application_fault s possible parent.text (application_tree application)
 
-abbrev pub invalid_spreads : {S : Type 0} → SchemaTree Place → PossibleTypes → IndexMap NameValue (Node Fragment) S → Reach → List PlacedFault
+abbrev pub invalid_spreads : {S : Type 0} → SchemaTree Place → ObjectsOfTypes → IndexMap NameValue (Node Fragment) S → Reach → List PlacedFault
 invalid_spreads s possible fragments reach = flat_map (invalid_fragment_spread s possible (meant_fragments fragments)) (reached_members reach)
 
 -- a fragment of this name, if it has one, on a type that is not composite

@@ -124,14 +124,15 @@ fn type_location(schema: &Schema, name: &Name) -> Option<SourceSpan>
 /// `parent`.
 fn invalid_fragment_spread(
     schema: &Schema,
-    possible: &PossibleTypes,
+    possible: &mut PossibleTypes,
     parent: &Name,
     application: &Application<'_>,
     faults: &mut Vec<Fault>,
 ) -> Result<(), AllocError>
-    ensures { OnOk result (AddsThese faults.old faults.new (invalid_spread (schema_tree schema.now) possible.now parent.now application.now)) }
+    ensures told { OnOk result (AddsThese faults.old faults.new (invalid_spread (schema_tree schema.now) possible.old parent.now application.now)) }
+    ensures same { possible.new ≡ possible.old }
 {
-    if possible.may_apply(parent, application.condition) {
+    if possible.may_apply(parent, application.condition)? {
         return Ok(());
     }
     let data = DiagnosticData::InvalidFragmentSpread {
@@ -148,12 +149,13 @@ fn invalid_fragment_spread(
 /// Adds InvalidFragmentSpread for each selection that applies a fragment.
 fn check_fragment_spreads<'doc>(
     schema: &Schema,
-    possible: &PossibleTypes,
+    possible: &mut PossibleTypes,
     fragments: &'doc FragmentMap,
     reach: &Reach<'doc>,
     faults: &mut Vec<Fault>,
 ) -> Result<(), AllocError>
-    ensures { OnOk result (AddsThese faults.old faults.new (invalid_spreads (schema_tree schema.now) possible.now fragments.now reach.now)) }
+    ensures told { OnOk result (AddsThese faults.old faults.new (invalid_spreads (schema_tree schema.now) possible.old fragments.now reach.now)) }
+    ensures same { OnOk result (possible.new ≡ possible.old) }
 {
     for (parent, selection) in &reach.selections {
         if let Some(application) = application_of(selection, fragments) {
@@ -198,8 +200,8 @@ pub fn check_applications(
     if all_stand_on_their_types(fragments, reach) {
         return Ok(());
     }
-    let types = found_or_new(*faults.allocator(), schema, possible.take())?;
-    check_fragment_spreads(schema, &types, fragments, reach, faults)?;
+    let mut types = found_or_new(*faults.allocator(), schema, possible.take())?;
+    check_fragment_spreads(schema, &mut types, fragments, reach, faults)?;
     *possible = Some(types);
     Ok(())
 }

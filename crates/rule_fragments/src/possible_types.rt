@@ -1,10 +1,12 @@
 //! The object types that values of each type can be.
 ghost use Rattle.std.specs.Prelude.{◌≡◌, ◌∷◌, [], map, IfOk, OnOk};
+ghost use Rattle.std.specs.Option.{option_copied};
 ghost use Rattle.schema_components.specs.Given.{component_name_tree, given_name};
 ghost use Rattle.schema_types.specs.TypeView.{extended_type, name_text};
 ghost use Rattle.rule_cycles.specs.in_schema.SchemaOf.{schema_tree};
 ghost use Rattle.rule_definitions.specs.Judged.{judged};
-ghost use Rattle.rule_fragments.specs.Possible.{ArePossible, AddsNotes, may_apply, share_one};
+ghost use Rattle.rule_fragments.specs.Held.{AddsNotes, may_apply, share_at, share_one, possible_in};
+ghost use Rattle.rule_fragments.specs.Possible.{ArePossible};
 ghost use Rattle.rule_fragments.specs.Noting.{object_notes, own_notes, is_object, member_note, member_notes, type_notes};
 ghost use Rattle.rule_fragments.specs.Telling.{component_names};
 
@@ -14,12 +16,39 @@ use rule_cycles::Schema;
 use schema_components::ComponentName;
 use schema_types::ExtendedType;
 use std::alloc::{AllocError, Global};
+use std::marker::Model;
+use std::rc::Rc;
 
 /// For each type of a schema the names of the object types that its values can be (GetPossibleTypes, section 5.5.2.3): of an
 /// object itself, of an interface the objects that implement it, of a union the objects among its members.
-#[derive(Drop)]
+///
+/// Contracts see these names under those of the types. What was found of two types is kept beside them.
 pub struct PossibleTypes {
-    objects: IndexMap<Name, IndexSet<Name>>,
+    /// All documents over the schema share them.
+    objects: Rc<IndexMap<Name, IndexSet<Name>>>,
+    /// Whether two types have an object in common, under their indices, of each two that were asked for.
+    common: IndexMap<(usize, usize), bool>,
+}
+
+// Not derived: a derived drop is proved again in each crate that drops one.
+impl Drop for PossibleTypes {
+    fn drop(self) {
+        let PossibleTypes {
+            objects: _,
+            common: _,
+        } = self;
+    }
+}
+
+impl Model for PossibleTypes {
+    ghost use Rattle.rule_fragments.specs.Held.{possible_in, AreCommon};
+    ghost use Rattle.rule_fragments.specs.Possible.{ObjectsOfTypes};
+
+    ghost Value = { ObjectsOfTypes };
+
+    ghost view = { λ p. possible_in p.objects.value.entries };
+
+    ghost invariant = { λ p. AreCommon (possible_in p.objects.value.entries) p.common };
 }
 
 impl PossibleTypes {
@@ -33,24 +62,75 @@ impl PossibleTypes {
         for (name, ty) in &schema.types {
             note_type(schema, &mut objects, name, ty)?;
         }
-        Ok(PossibleTypes { objects })
+        Ok(PossibleTypes {
+            objects: Rc::new(alloc, objects)?,
+            common: IndexMap::new(alloc),
+        })
     }
 
     /// Whether a fragment on the type `condition` can apply where the type is `parent`: they are the same, or have an object in
     /// common.
-    pub(crate) fn may_apply(&self, parent: &Name, condition: &Name) -> bool
-        ensures { result ≡ may_apply self.now parent.now.text condition.now.text }
+    pub(crate) fn may_apply(
+        &mut self,
+        parent: &Name,
+        condition: &Name,
+    ) -> Result<bool, AllocError>
+        ensures applies { IfOk result (λ r. r ≡ may_apply self.old parent.now.text condition.now.text) }
+        ensures same { self.new ≡ self.old }
     {
         if *condition == *parent {
-            return true;
+            return Ok(true);
         }
-        let Some(here) = self.objects.get(parent) else {
-            return false;
+        let Some(here) = self.objects.as_ref().get_index_of(parent) else {
+            return Ok(false);
         };
-        match self.objects.get(condition) {
-            None => false,
-            Some(there) => share_one(here, there),
+        match self.objects.as_ref().get_index_of(condition) {
+            None => Ok(false),
+            Some(there) => self.have_common(here, there),
         }
+    }
+
+    /// Whether the types at these indices have an object in common. It is found once for each two of them.
+    fn have_common(&mut self, here: usize, there: usize) -> Result<bool, AllocError>
+        ensures common { IfOk result (λ r. r ≡ share_at self.old here there) }
+        ensures same { self.new ≡ self.old }
+    {
+        if let Some(known) = self.common.get(&(here, there)) {
+            return Ok(*known);
+        }
+        let found = common_at(self.objects.as_ref(), here, there);
+        self.common.insert((here, there), found)?;
+        Ok(found)
+    }
+}
+
+/// The possible types of a schema, if they are there, for one more document. They are shared and not copied, and nothing was
+/// asked of them yet. Fails where memory is refused.
+pub fn for_document(
+    alloc: Global,
+    possible: Option<&PossibleTypes>,
+) -> Result<Option<PossibleTypes>, AllocError>
+    ensures { IfOk result (λ r. r ≡ option_copied possible.entry) }
+{
+    match possible {
+        None => Ok(None),
+        Some(possible) => Ok(Some(PossibleTypes {
+            objects: possible.objects.clone()?,
+            common: IndexMap::new(alloc),
+        })),
+    }
+}
+
+/// Whether the types at these indices have an object in common.
+fn common_at(objects: &IndexMap<Name, IndexSet<Name>>, here: usize, there: usize) -> bool
+    ensures { result ≡ share_at (possible_in objects.now.entries) here there }
+{
+    let Some((_, here)) = objects.get_index(here) else {
+        return false;
+    };
+    match objects.get_index(there) {
+        None => false,
+        Some((_, there)) => share_one(here, there),
     }
 }
 

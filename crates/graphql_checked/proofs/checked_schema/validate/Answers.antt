@@ -13,14 +13,14 @@ use Rattle.graphql_checked.proofs.checked_schema.validate.Goals as goal
 pub returns-then-not-is_empty-clause-refused : goal.returns-then-not-is_empty-clause-refused
 returns-then-not-is_empty-clause-refused c =
     let document = meant_document (typed_document_tree c.args.document.now) in
-    let faults = diagnostics_of c.validate_executable_document.new.list in
+    let faults = diagnostics_of c.validate_with_possible_types.new.list in
     subst (λ (v : CheckedSchemaParts). IsTypedUnder (schema_tree v.schema) document → RefusesRules (schema_tree v.schema) document faults) c.schema.view_is
     (λ typed. refuses_rules (schema_tree c.schema.inside.schema) document (diagnostics_of c.new-faults.result) faults c.new-faults.ensures
-    (c.in_ok-validate_executable_document.ensures.told typed) (c.in_ok-validate_executable_document.ensures.accepts typed)
+    (c.in_ok-validate_with_possible_types.ensures.told typed) (c.in_ok-validate_with_possible_types.ensures.accepts typed)
     (λ e. let h = c.if-not-is_empty.ensures.1 e in absurd cc))
 
 pub returns-clause-valid : goal.returns-clause-valid
 returns-clause-valid c =
     let document = meant_document (typed_document_tree c.args.document.now) in
     subst (λ (v : CheckedSchemaParts). IsTypedUnder (schema_tree v.schema) document → IsValidDocument (schema_tree v.schema) document) c.schema.view_is
-    (λ typed. c.in_ok-validate_executable_document.ensures.silent typed (c.if-not-is_empty.ensures.0 refl ∙ sym c.new-faults.ensures))
+    (λ typed. c.in_ok-validate_with_possible_types.ensures.silent typed (c.if-not-is_empty.ensures.0 refl ∙ sym c.new-faults.ensures))

@@ -7,4 +7,5 @@ use Rattle.rule_fragments.specs.Applied.{invalid_fragment_spread}
 use Rattle.rule_fragments.proofs.applications.check_fragment_spreads.Given as goal
 
 abbrev pub invariant-loop-parent : goal.invariant-loop-parent
-invariant-loop-parent l = faults_of l.faults ≡ faults_of l.fn.faults ++ flat_map (invalid_fragment_spread (schema_tree l.schema) l.possible (meant_fragments l.fragments)) (map member_of (take l.parent-index l.parent-items))
+invariant-loop-parent l = (faults_of l.faults ≡ faults_of l.fn.faults ++ flat_map (invalid_fragment_spread (schema_tree l.schema) l.fn.possible (meant_fragments l.fragments)) (map member_of (take l.parent-index l.parent-items)))
+    × (l.possible ≡ l.fn.possible)

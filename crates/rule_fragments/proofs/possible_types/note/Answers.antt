@@ -5,7 +5,7 @@ use Rattle.indexmap.specs.Entry.{map_with_value, entry_value}
 use Rattle.graphql_names.specs.NameValue.{NameValue}
 use Rattle.schema_components.specs.Names.{same_text}
 use Rattle.schema_types.specs.TypeView.{name_text}
-use Rattle.rule_fragments.specs.Possible.{AddsEntries}
+use Rattle.rule_fragments.specs.Held.{AddsEntries}
 use Rattle.rule_fragments.proofs.Noted.{one_note}
 use Rattle.rule_fragments.proofs.possible_types.note.Goals as goal
 

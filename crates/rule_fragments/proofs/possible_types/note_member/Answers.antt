@@ -1,6 +1,6 @@
 use Rattle.std.proofs.Common.{Bool, [], ◌∷◌, ap, sym, subst, ◌∙◌, if◌then◌else◌}
 use Rattle.std.specs.Prelude.{OnOk}
-use Rattle.rule_fragments.specs.Possible.{AddsEntries}
+use Rattle.rule_fragments.specs.Held.{AddsEntries}
 use Rattle.rule_fragments.specs.Noting.{Notes}
 use Rattle.rule_fragments.proofs.possible_types.note_member.Goals as goal
 

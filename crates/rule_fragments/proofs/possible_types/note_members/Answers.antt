@@ -2,7 +2,7 @@ use Rattle.std.proofs.Common.{◌<◌, [], map, take, length, subst, arith}
 use Rattle.std.proofs.lemmas.List.{take_all}
 use Rattle.schema_components.specs.Given.{component_name_tree, given_name}
 use Rattle.rule_cycles.specs.in_schema.SchemaOf.{schema_tree}
-use Rattle.rule_fragments.specs.Possible.{AddsNotes}
+use Rattle.rule_fragments.specs.Held.{AddsNotes}
 use Rattle.rule_fragments.specs.Noting.{member_note, member_notes}
 use Rattle.rule_fragments.proofs.Noted.{no_notes, more_notes, names_more}
 use Rattle.rule_fragments.proofs.possible_types.note_members.Goals as goal

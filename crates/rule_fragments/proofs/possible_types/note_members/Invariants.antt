@@ -1,7 +1,7 @@
 use Rattle.std.proofs.Common.{map, take}
 use Rattle.schema_components.specs.Given.{component_name_tree, given_name}
 use Rattle.rule_cycles.specs.in_schema.SchemaOf.{schema_tree}
-use Rattle.rule_fragments.specs.Possible.{AddsNotes}
+use Rattle.rule_fragments.specs.Held.{AddsNotes}
 use Rattle.rule_fragments.specs.Noting.{member_notes}
 use Rattle.rule_fragments.proofs.possible_types.note_members.Given as goal
 

@@ -1,7 +1,7 @@
 use Rattle.std.proofs.Common.{◌<◌, ◌∷◌, [], map, take, length, subst, arith}
 use Rattle.std.proofs.lemmas.List.{take_all}
 use Rattle.schema_components.specs.Given.{component_name_tree, given_name}
-use Rattle.rule_fragments.specs.Possible.{AddsNotes}
+use Rattle.rule_fragments.specs.Held.{AddsNotes}
 use Rattle.rule_fragments.specs.Noting.{object_notes}
 use Rattle.rule_fragments.proofs.Noted.{more_notes, names_more}
 use Rattle.rule_fragments.proofs.possible_types.note_object.Goals as goal

@@ -1,6 +1,6 @@
 use Rattle.std.proofs.Common.{map, take}
 use Rattle.schema_components.specs.Given.{component_name_tree, given_name}
-use Rattle.rule_fragments.specs.Possible.{AddsNotes}
+use Rattle.rule_fragments.specs.Held.{AddsNotes}
 use Rattle.rule_fragments.specs.Noting.{object_notes}
 use Rattle.rule_fragments.proofs.possible_types.note_object.Given as goal
 

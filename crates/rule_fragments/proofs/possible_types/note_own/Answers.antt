@@ -2,7 +2,7 @@ use Rattle.std.proofs.Common.{Bool, [], map, ap, sym, subst, ◌∙◌, if◌the
 use Rattle.std.specs.Prelude.{OnOk}
 use Rattle.schema_components.specs.Given.{given_name}
 use Rattle.schema_types.specs.TypeView.{extended_type}
-use Rattle.rule_fragments.specs.Possible.{AddsEntries}
+use Rattle.rule_fragments.specs.Held.{AddsEntries}
 use Rattle.rule_fragments.specs.Noting.{Notes, object_notes}
 use Rattle.rule_fragments.proofs.possible_types.note_own.Goals as goal
 

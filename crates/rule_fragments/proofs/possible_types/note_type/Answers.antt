@@ -3,7 +3,7 @@ use Rattle.std.proofs.lemmas.Result.{on_ok_weaker}
 use Rattle.schema_components.specs.Given.{given_name}
 use Rattle.schema_types.specs.TypeView.{extended_type}
 use Rattle.rule_cycles.specs.in_schema.SchemaOf.{schema_tree}
-use Rattle.rule_fragments.specs.Possible.{AddsEntries}
+use Rattle.rule_fragments.specs.Held.{AddsEntries}
 use Rattle.rule_fragments.specs.Noting.{own_notes, member_notes}
 use Rattle.rule_fragments.proofs.Noted.{both_notes}
 use Rattle.rule_fragments.proofs.possible_types.note_type.Goals as goal

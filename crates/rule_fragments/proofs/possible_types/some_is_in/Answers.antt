@@ -1,6 +1,6 @@
 use Rattle.std.proofs.Common.{◌<◌, map, length, sym, ap, ◌∙◌, arith}
 use Rattle.schema_types.specs.TypeView.{name_text}
-use Rattle.rule_fragments.specs.Possible.{share_one}
+use Rattle.rule_fragments.specs.Held.{share_one}
 use Rattle.rule_fragments.proofs.Noted.{any_text}
 use Rattle.rule_fragments.proofs.Sharing.{passed, met}
 use Rattle.rule_fragments.proofs.possible_types.some_is_in.Goals as goal

@@ -1,6 +1,6 @@
 use Rattle.std.proofs.Common.{◌≡◌, map, drop}
 use Rattle.schema_types.specs.TypeView.{name_text}
-use Rattle.rule_fragments.specs.Possible.{share_one}
+use Rattle.rule_fragments.specs.Held.{share_one}
 use Rattle.rule_fragments.proofs.possible_types.some_is_in.Given as goal
 
 abbrev pub invariant-loop-name : goal.invariant-loop-name

@@ -1,4 +1,4 @@
-use Rattle.std.proofs.Common.{ℕ, List, [], ◌∷◌, map, ap, subst, ◌∙◌}
+use Rattle.std.proofs.Common.{◌↔◌, Contains, sym, ℕ, List, [], ◌∷◌, map, ap, subst, ◌∙◌}
 use Rattle.std.specs.Borrow.{Bor}
 use Rattle.std.specs.List.{flat_map}
 use Rattle.std.proofs.lemmas.List.{map-append}
@@ -10,10 +10,14 @@ use Rattle.schema_types.specs.TypeView.{name_text, extended_type}
 use Rattle.schema_types.specs.declared.extended_type.ExtendedType.{ExtendedType}
 use Rattle.rule_cycles.specs.in_schema.SchemaOf.{schema_tree}
 use Rattle.rule_cycles.proofs.in_schema.DistinctFacts.{distinct_entries}
-use Rattle.rule_fragments.specs.Possible.{AddsEntries}
+use Rattle.rule_definitions.specs.Judged.{judged}
+use Rattle.rule_document_definitions.specs.PossibleTypes.{CanBe}
+use Rattle.rule_fragments.specs.Held.{AddsEntries, possible_in}
+use Rattle.rule_fragments.specs.Possible.{objects_of}
 use Rattle.rule_fragments.specs.Noting.{type_notes}
 use Rattle.rule_fragments.proofs.Noted.{none_yet, more_notes}
 use Rattle.rule_fragments.proofs.Objects.{are_possible}
+use Rattle.rule_fragments.proofs.Seen.{seen_under}
 use Rattle.rule_fragments.proofs.possible_types.PossibleTypes.new.Goals as goal
 
 abbrev view : NameValue × ExtendedType → List ℕ × SchemaType Place
@@ -39,5 +43,7 @@ returns c = λ n x.
     let es = c.args.schema.now.types.entries in
     let noted = c.loop-name.objects.entries in
     let all = YieldsList-end (YieldsList-from_rest es c.into_iter-name-iterator.ensures.into_iter_gives.0) c.loop-name.yielded c.loop-name.name-iterator c.loop-name.yielded_by c.next.result c.next.new.self c.in-None.is c.next.ensures.steps in
-    are_possible s (distinct_entries extended_type es c.len-count.ensures.unique) noted
-    (subst (λ (l : List (NameValue × ExtendedType)). AddsEntries [] noted (flat_map (type_notes s) (map view l))) all.0 c.loop-name.invariant) n x
+    let right = are_possible s (distinct_entries extended_type es c.len-count.ensures.unique) noted
+    (subst (λ (l : List (NameValue × ExtendedType)). AddsEntries [] noted (flat_map (type_notes s) (map view l))) all.0 c.loop-name.invariant) n x in
+    subst (λ es. Contains (objects_of (possible_in es) n) x ↔ CanBe (judged s) n x) (λ i. (sym c.in_ok-new.ensures.ok i).entries)
+    (subst (λ l. Contains l x ↔ CanBe (judged s) n x) (sym (seen_under n noted)) right)

@@ -4,7 +4,7 @@ use Rattle.graphql_names.specs.NameValue.{NameValue}
 use Rattle.schema_types.specs.TypeView.{name_text, extended_type}
 use Rattle.schema_types.specs.declared.extended_type.ExtendedType.{ExtendedType}
 use Rattle.rule_cycles.specs.in_schema.SchemaOf.{schema_tree}
-use Rattle.rule_fragments.specs.Possible.{AddsEntries}
+use Rattle.rule_fragments.specs.Held.{AddsEntries}
 use Rattle.rule_fragments.specs.Noting.{type_notes}
 use Rattle.rule_fragments.proofs.possible_types.PossibleTypes.new.Given as goal
 

@@ -10,7 +10,7 @@ use Rattle.graphql_validation.specs.Operations.{all_told}
 use Rattle.graphql_validation.specs.TellsDocument.{IsTypedUnder, TellsDocument}
 use Rattle.rule_merging.proofs.Behind.{nothing_told, told_nothing, begins_same, refused_so}
 use Rattle.graphql_validation.proofs.WholeDocuments.{own_names, reaches_typed, tells_document, tells_merging, silent_is_valid, valid_is_silent, all_none, only_none}
-use Rattle.graphql_validation.proofs.document.validate_executable_document.Goals as goal
+use Rattle.graphql_validation.proofs.document.validate_with_possible_types.Goals as goal
 
 pub returns-in_err-faults-clause-begins : goal.returns-in_err-faults-clause-begins
 returns-in_err-faults-clause-begins c = refused_so _ (begins_same (diagnostics_of c.args.list.now))
