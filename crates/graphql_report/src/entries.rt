@@ -5,7 +5,7 @@ ghost use Rattle.graphql_faults.specs.DetailsView.{details_of, details_at};
 ghost use Rattle.graphql_report.specs.Reports.{Tells, HasPlaces};
 
 use crate::fields::fields_of;
-use crate::hints::hint_of;
+use crate::hints::{Hints, hint_of};
 use crate::operations::push_operation;
 use crate::told_places::places_of;
 use graphql_faults::Details;
@@ -17,6 +17,7 @@ use std::alloc::{AllocError, Global};
 /// The entry of a fault and its place. `path` is the name of the text where it has no place.
 pub(crate) fn entry_of(
     alloc: Global,
+    hints: &mut Hints,
     sources: &[Source<'_>],
     schema: Option<&Schema>,
     path: &str,
@@ -29,7 +30,7 @@ pub(crate) fn entry_of(
     entry.rule = details.name();
     entry.message = details.to_string(alloc)?;
     entry.related = related_of(alloc, sources, path, *place, details)?;
-    entry.hint = hint_of(alloc, sources, schema, *place, details)?;
+    entry.hint = hint_of(alloc, hints, sources, schema, *place, details)?;
     entry.fields = fields_of(alloc, details)?;
     Ok(entry)
 }

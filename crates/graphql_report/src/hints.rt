@@ -4,34 +4,90 @@ use crate::stood_there::stood_there;
 use fault_data::DiagnosticData;
 use fault_document_data::BuildError;
 use graphql_faults::Details;
-use graphql_names::{Name, Node, SourceSpan};
+use graphql_names::{FileId, Name, SourceSpan};
 use graphql_schema::{ExtendedType, Schema};
 use indexmap::IndexMap;
 use read_tokens::{NextToken, Token, TokenKind, next_token};
 use report_forms::{Closest, Source, source_at};
 use schema_coordinates::SchemaCoordinate;
 use std::alloc::{AllocError, Global};
-use tree_directives::InputValueDefinition;
+
+/// Where a name is in a text that comes after `$`, as that of a variable, or after `fragment`.
+#[derive(Clone, Copy)]
+pub(crate) struct TextName {
+    is_variable: bool,
+    start: usize,
+    end: usize,
+}
+
+/// How many further faults of a report may have a hint, and the names in the text that was read last for one: faults come text by
+/// text, so each text is read once.
+#[derive(Drop)]
+pub(crate) struct Hints {
+    pub(crate) left: usize,
+    pub(crate) file: FileId,
+    pub(crate) names: Vec<TextName>,
+}
+
+impl Hints {
+    /// The closest of the variables, or of the fragments, that the text of this file names.
+    fn name_in_text(
+        &mut self,
+        alloc: Global,
+        file: FileId,
+        text: &str,
+        is_variable: bool,
+        given: &Name,
+    ) -> Result<Option<String>, AllocError> {
+        if self.file != file {
+            self.names = names_in(alloc, text)?;
+            self.file = file;
+        }
+        let given = given.as_str();
+        let mut closest = Closest::new(alloc, given);
+        for one in &self.names {
+            if one.is_variable == is_variable
+                && let Some(name) = text.get(one.start..one.end)
+            {
+                closest.see(name);
+            }
+        }
+        closest.hint(if is_variable { "$" } else { "" })
+    }
+}
 
 /// A hint for the fault, if there is one.
 pub(crate) fn hint_of(
     alloc: Global,
+    hints: &mut Hints,
     sources: &[Source<'_>],
     schema: Option<&Schema>,
     place: Option<SourceSpan>,
     details: &Details,
 ) -> Result<Option<String>, AllocError> {
+    if hints.left == 0 {
+        return Ok(None);
+    }
+    hints.left -= 1;
     if let Some(span) = place
         && let Some(source) = source_at(sources, span)
     {
         let text = source.lines.text();
         match details {
             Details::Syntax(_) => return stood_there(alloc, text, span.offset),
-            Details::Data(DiagnosticData::UndefinedVariable { name }) => return name_after(
-                alloc, text, "$", name,
+            Details::Data(DiagnosticData::UndefinedVariable { name }) => return hints.name_in_text(
+                alloc,
+                span.file_id,
+                text,
+                true,
+                name,
             ),
-            Details::Data(DiagnosticData::UndefinedFragment { name }) => return name_after(
-                alloc, text, "fragment", name,
+            Details::Data(DiagnosticData::UndefinedFragment { name }) => return hints.name_in_text(
+                alloc,
+                span.file_id,
+                text,
+                false,
+                name,
             ),
             _ => {}
         }
@@ -132,36 +188,28 @@ fn argument_hint(
     coordinate: &SchemaCoordinate,
     given: &Name,
 ) -> Result<Option<String>, AllocError> {
-    match coordinate {
+    let arguments = match coordinate {
         SchemaCoordinate::TypeAttribute(field) => match schema.type_field(
             &field.ty,
             &field.attribute,
         ) {
-            Ok(field) => closest_argument(alloc, &field.node.content().arguments, given),
-            Err(_) => Ok(None),
+            Ok(field) => &field.node.content().arguments,
+            Err(_) => return Ok(None),
         },
         SchemaCoordinate::Directive(directive) => match schema
             .directive_definitions
             .get(&directive.directive)
         {
-            Some(directive) => closest_argument(alloc, &directive.content().arguments, given),
-            None => Ok(None),
+            Some(directive) => &directive.content().arguments,
+            None => return Ok(None),
         },
-        _ => Ok(None),
-    }
-}
-
-/// One of these arguments.
-fn closest_argument(
-    alloc: Global,
-    arguments: &[Node<InputValueDefinition>],
-    given: &Name,
-) -> Result<Option<String>, AllocError> {
+        _ => return Ok(None),
+    };
     let given = given.as_str();
     let mut closest = Closest::new(alloc, given);
     for argument in arguments {
         let name = argument.content().name.as_str();
-        closest.see(name)?;
+        closest.see(name);
     }
     closest.hint("")
 }
@@ -177,33 +225,34 @@ fn closest_key<V>(
     let mut closest = Closest::new(alloc, given);
     for (name, _) in named.iter() {
         let name = name.as_str();
-        closest.see(name)?;
+        closest.see(name);
     }
     closest.hint(sign)
 }
 
-/// A name that comes after such a token in the text.
-fn name_after(
-    alloc: Global,
-    text: &str,
-    before: &str,
-    given: &Name,
-) -> Result<Option<String>, AllocError> {
-    let given = given.as_str();
-    let mut closest = Closest::new(alloc, given);
-    let mut last = "";
+/// Where the variables and the fragments are that the text names, in order.
+fn names_in(alloc: Global, text: &str) -> Result<Vec<TextName>, AllocError> {
+    let mut names = Vec::new(alloc);
+    let mut before = "";
     let mut rest = text;
     for _ in 0..text.len() {
         let Some((token, behind)) = first_token(rest) else {
             break;
         };
-        if last == before && matches!(token.kind, TokenKind::Name) {
-            closest.see(token.text)?;
+        let is_variable = before == "$";
+        if matches!(token.kind, TokenKind::Name) && (is_variable || before == "fragment") {
+            let end = text.len().saturating_sub(behind.len());
+            let start = end.saturating_sub(token.text.len());
+            names.push(TextName {
+                is_variable,
+                start,
+                end,
+            })?;
         }
-        last = token.text;
+        before = token.text;
         rest = behind;
     }
-    closest.hint(if before == "$" { "$" } else { "" })
+    Ok(names)
 }
 
 /// The first token of a text, and what comes after it.

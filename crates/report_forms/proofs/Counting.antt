@@ -43,3 +43,26 @@ how_many-le p low mid (suc n) le = elim (leb_tells mid n) [
   | inl h ↦ omega (arith, how_many-le p low mid n h.1)
   | inr h ↦ let e : mid ≡ suc n = omega arith in subst (λ (m : ℕ). how_many p low m ≤ how_many p low (suc n)) (sym e) (omega arith)
 ]
+
+-- those up to a place between, and those behind it
+pub how_many-split : (p : ℕ → Bool) (low mid high : ℕ) → low ≤ mid → mid ≤ high → how_many p low high ≡ how_many p low mid + how_many p mid high
+how_many-split p low mid zero after before = let e : mid ≡ zero = omega arith in subst (λ (m : ℕ). how_many p low zero ≡ how_many p low m + how_many p m zero) (sym e) refl
+how_many-split p low mid (suc n) after before = elim (leb_tells mid n) [
+  | inl h ↦
+      let here : leb low n ≡ true = elim (leb_tells low n) [ inl g ↦ g.0 | inr g ↦ absurd (omega (arith, g.1, h.1, after)) ] in
+      let one : how_many p low (suc n) ≡ how_many p low n + one_if (p (suc n)) = ap (λ b. how_many p low n + one_if (b && p (suc n))) here in
+      let other : how_many p mid (suc n) ≡ how_many p mid n + one_if (p (suc n)) = ap (λ b. how_many p mid n + one_if (b && p (suc n))) h.0 in
+      omega (arith, one, other, how_many-split p low mid n after h.1)
+  | inr h ↦
+      let e : mid ≡ suc n = omega (arith, h.1) in
+      subst (λ (m : ℕ). how_many p low (suc n) ≡ how_many p low m + how_many p m (suc n)) (sym e) (omega (arith, how_many-self p (suc n)))
+]
+
+one_if-le : (b : Bool) → one_if b ≤ 1
+one_if-le true = omega arith
+one_if-le false = omega arith
+
+-- no more pass than there are
+pub how_many-bound : (p : ℕ → Bool) (low high : ℕ) → how_many p low high ≤ high
+how_many-bound p low zero = omega arith
+how_many-bound p low (suc n) = omega (arith, how_many-bound p low n, one_if-le (leb low n && p (suc n)))

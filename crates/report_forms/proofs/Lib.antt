@@ -1,4 +1,5 @@
 pub mod Counting
+pub mod Counts
 pub mod LineStarts
 pub mod PlacesBack
 pub mod ShownTexts

@@ -1,7 +1,13 @@
 //! Where line terminators and characters end.
 
-ghost use Rattle.std.specs.Prelude.{◌≡◌, ◌+◌, ◌<◌, ◌≤◌, length};
+ghost use Rattle.std.specs.Prelude.{◌≡◌, ◌+◌, ◌<◌, ◌≤◌, ◌/◌, length, IfOk};
 ghost use Rattle.report_forms.specs.Ends.{ends_line, ends_character, how_many};
+ghost use Rattle.report_forms.specs.Starts.{counts_up_to};
+
+use std::alloc::{AllocError, Global};
+
+/// How many bytes a piece of a text has.
+const PIECE: usize = 64;
 
 /// Whether a line terminator ends after byte `last`: it is a line feed, or a carriage return that no line feed follows
 /// (section 2.1.2).
@@ -41,4 +47,28 @@ pub(crate) fn characters_between(text: &[u8], from: usize, to: usize) -> usize
         }
     }
     count
+}
+
+/// How many characters end at or before the beginning of each piece of the text.
+pub(crate) fn counts_of(alloc: Global, text: &[u8]) -> Result<Vec<usize>, AllocError>
+    ensures { IfOk result (λ counts. counts.items ≡ counts_up_to text.now (length text.now / 64)) }
+{
+    let mut counts: Vec<usize> = vec![in alloc; 0]?;
+    let mut count = 0usize;
+    for piece in 0..text.len() / PIECE {
+        let start = piece * PIECE;
+        count += characters_between(text, start, start + PIECE);
+        counts.push(count)?;
+    }
+    Ok(counts)
+}
+
+/// How many characters end at or before the place, where these are the counts of the text.
+pub(crate) fn characters_up_to(text: &[u8], counts: &[usize], place: usize) -> usize
+    requires counts { counts.now ≡ counts_up_to text.now (length text.now / 64) }
+    requires within { place ≤ length text.now }
+    ensures { result ≡ how_many (ends_character text.now) 0 place }
+{
+    let piece = place / PIECE;
+    counts[piece] + characters_between(text, piece * PIECE, place)
 }

@@ -21,8 +21,10 @@ pub fn excerpt_at(
     let Some(source) = source_at(sources, span) else {
         return Ok(None);
     };
-    let (head, rest) = cut(source.lines.text(), span.offset);
-    let (inside, behind) = cut(rest, span.length);
+    let text = source.lines.text();
+    // all before, where it can't be cut there
+    let (head, rest) = text.split_at_checked(span.offset).unwrap_or((text, ""));
+    let (inside, behind) = rest.split_at_checked(span.length).unwrap_or((rest, ""));
     let marked = first_of_line(inside);
     let after = if marked.len() == inside.len() {
         first_of_line(behind)
@@ -36,18 +38,14 @@ pub fn excerpt_at(
     }))
 }
 
-/// The text before and after so many bytes; all before, where it can't be cut there.
-fn cut(text: &str, bytes: usize) -> (&str, &str) {
-    text.split_at_checked(bytes).unwrap_or((text, ""))
-}
-
 /// The characters at the beginning, up to the end of a line and not too many.
 fn first_of_line(text: &str) -> &str {
-    let line = before_terminator(text);
-    match line.char_indices().nth(MOST) {
-        None => line,
-        Some((end, _)) => line.get(..end).unwrap_or(line),
-    }
+    // cut first, so that no more is looked at
+    let near = match text.char_indices().nth(MOST) {
+        None => text,
+        Some((end, _)) => text.get(..end).unwrap_or(""),
+    };
+    before_terminator(near)
 }
 
 /// The characters at the end, from the beginning of a line on and not too many.

@@ -5,25 +5,30 @@ ghost use Rattle.std.specs.List.Sorted.{IsPartitionedBy, IsPartitionPoint};
 ghost use Rattle.report_forms.specs.Ends.{ends_line, how_many};
 ghost use Rattle.report_forms.specs.Positions.{IsLineStart, IsPosition, IsFirstPlace, IsColumn, IsFirstInLine};
 ghost use Rattle.report_forms.specs.LineTexts.{IsNumberedStart, IsFirstLine, IsLineText};
-ghost use Rattle.report_forms.specs.Starts.{starts_up_to};
+ghost use Rattle.report_forms.specs.Starts.{IsIndexed};
 
-use crate::ends::{characters_between, ends_character, ends_line};
+use crate::ends::{characters_up_to, counts_of, ends_character, ends_line};
 use crate::position::Position;
 use std::alloc::{AllocError, Global};
 use std::marker::Model;
 
-/// A text, with the places at which its lines begin, so that positions are found in time logarithmic in the lines and linear
-/// in the length of one.
+/// A text, with the places at which its lines begin and counts of its characters, so that a position is found in time logarithmic
+/// in the lines, however long one is.
 ///
 /// A contract sees it as the text.
 pub struct Lines<'a> {
     text: &'a str,
     starts: Vec<usize>,
+    counts: Vec<usize>,
 }
 
 impl Drop for Lines<'_> {
     fn drop(self) {
-        let Lines { text: _, starts: _ } = self;
+        let Lines {
+            text: _,
+            starts: _,
+            counts: _,
+        } = self;
     }
 }
 
@@ -32,7 +37,7 @@ impl<'a> Model for Lines<'a> {
 
     ghost view = { λ l. l.text.now };
 
-    ghost invariant = { λ l. l.starts.items ≡ starts_up_to l.text.now (length l.text.now) };
+    ghost invariant = { λ l. IsIndexed l.text.now l.starts.items l.counts.items };
 }
 
 impl<'a> Lines<'a> {
@@ -41,13 +46,18 @@ impl<'a> Lines<'a> {
         ensures { IfOk result (λ lines. lines ≡ text.now) }
     {
         let bytes = text.as_bytes();
+        let counts = counts_of(alloc, bytes)?;
         let mut starts: Vec<usize> = vec![in alloc; 0]?;
         for last in 0..bytes.len() {
             if ends_line(bytes, last) {
                 starts.push(last + 1)?;
             }
         }
-        Ok(Lines { text, starts })
+        Ok(Lines {
+            text,
+            starts,
+            counts,
+        })
     }
 
     /// The text.
@@ -65,9 +75,11 @@ impl<'a> Lines<'a> {
         let place = offset.min(text.len());
         let line = self.starts.partition_point(|start| *start <= place);
         let start = self.starts[line - 1];
+        let before = characters_up_to(text, &self.counts, start);
+        let characters = characters_up_to(text, &self.counts, place);
         Position {
             line,
-            column: characters_between(text, start, place) + 1,
+            column: characters - before + 1,
         }
     }
 

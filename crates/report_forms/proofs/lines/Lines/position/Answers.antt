@@ -7,6 +7,7 @@ use Rattle.std.specs.List.Sorted.{IsPartitionedBy, IsPartitionPoint}
 use Rattle.report_forms.specs.Ends.{ends_line, ends_character, how_many}
 use Rattle.report_forms.specs.Positions.{IsLineStart, IsPosition}
 use Rattle.report_forms.specs.Starts.{starts_up_to}
+use Rattle.report_forms.proofs.Counts.{counted_between, counted_bound}
 use Rattle.report_forms.proofs.LineStarts.{found_line, starts-parted, last_start-is, IsPosition-beyond}
 use Rattle.report_forms.proofs.lines.Lines.position.Goals as goal
 
@@ -45,35 +46,54 @@ at_place text offset place line start column is counted starts count =
 pub overflow_sub-line : goal.overflow_sub-line
 overflow_sub-line c =
     let place = c.min-place.result in
-    (found c.self.inside.text.now c.deref.result.now place c.partition_point-line.result (c.deref.ensures.value ∙ c.self.invariant)
+    (found c.self.inside.text.now c.deref.result.now place c.partition_point-line.result (c.deref.ensures.value ∙ c.self.invariant.of_lines)
     (omega (arith, c.min-place.ensures, ap length c.as_bytes-text.ensures.value)) c.partition_point-line.ensures.bound
     (λ parted. IsPartitionPoint-from_clause (λ y. nat_le y place) c.deref.result.now c.partition_point-line.result c.partition_point-line.ensures.partitioned parted (λ a r q k. search rules))).above
 
 pub index-start-requires : goal.index-start-requires
 index-start-requires c =
     let place = c.min-place.result in
-    let f = found c.self.inside.text.now c.deref.result.now place c.partition_point-line.result (c.deref.ensures.value ∙ c.self.invariant)
+    let f = found c.self.inside.text.now c.deref.result.now place c.partition_point-line.result (c.deref.ensures.value ∙ c.self.invariant.of_lines)
     (omega (arith, c.min-place.ensures, ap length c.as_bytes-text.ensures.value)) c.partition_point-line.ensures.bound
     (λ parted. IsPartitionPoint-from_clause (λ y. nat_le y place) c.deref.result.now c.partition_point-line.result c.partition_point-line.ensures.partitioned parted (λ a r q k. search rules)) in
     omega (arith, f.above, f.short, c.deref.ensures.len)
 
-pub characters_between-requires-clause-order : goal.characters_between-requires-clause-order
-characters_between-requires-clause-order c =
+pub characters_up_to-before-requires-clause-within : goal.characters_up_to-before-requires-clause-within
+characters_up_to-before-requires-clause-within c =
     let place = c.min-place.result in
-    let f = found c.self.inside.text.now c.deref.result.now place c.partition_point-line.result (c.deref.ensures.value ∙ c.self.invariant)
+    let f = found c.self.inside.text.now c.deref.result.now place c.partition_point-line.result (c.deref.ensures.value ∙ c.self.invariant.of_lines)
     (omega (arith, c.min-place.ensures, ap length c.as_bytes-text.ensures.value)) c.partition_point-line.ensures.bound
     (λ parted. IsPartitionPoint-from_clause (λ y. nat_le y place) c.deref.result.now c.partition_point-line.result c.partition_point-line.ensures.partitioned parted (λ a r q k. search rules)) in
-    (f.start c.index-start.result.now (subst (λ (l : List ℕ). c.index-start.result.now ≡ get_or l (c.partition_point-line.result - 1) c.index-start.result.now) (sym c.deref.ensures.value) c.index-start.ensures)).before
+    let starts = f.start c.index-start.result.now (subst (λ (l : List ℕ). c.index-start.result.now ≡ get_or l (c.partition_point-line.result - 1) c.index-start.result.now) (sym c.deref.ensures.value) c.index-start.ensures) in
+    omega (arith, starts.before, c.min-place.ensures)
+
+pub overflow_sub-result : goal.overflow_sub-result
+overflow_sub-result c =
+    let place = c.min-place.result in
+    let f = found c.self.inside.text.now c.deref.result.now place c.partition_point-line.result (c.deref.ensures.value ∙ c.self.invariant.of_lines)
+    (omega (arith, c.min-place.ensures, ap length c.as_bytes-text.ensures.value)) c.partition_point-line.ensures.bound
+    (λ parted. IsPartitionPoint-from_clause (λ y. nat_le y place) c.deref.result.now c.partition_point-line.result c.partition_point-line.ensures.partitioned parted (λ a r q k. search rules)) in
+    let starts = f.start c.index-start.result.now (subst (λ (l : List ℕ). c.index-start.result.now ≡ get_or l (c.partition_point-line.result - 1) c.index-start.result.now) (sym c.deref.ensures.value) c.index-start.ensures) in
+    omega (arith, counted_between c.as_bytes-text.result.now c.index-start.result.now place c.characters_up_to-before.result c.characters_up_to-characters.result starts.before c.characters_up_to-before.ensures c.characters_up_to-characters.ensures)
+
+pub overflow_add-result : goal.overflow_add-result
+overflow_add-result c =
+    omega (arith, counted_bound c.as_bytes-text.result.now c.min-place.result c.characters_up_to-characters.result c.characters_up_to-characters.ensures, c.min-place.ensures)
 
 pub returns : goal.returns
 returns c =
     let place = c.min-place.result in
     let text = c.self.inside.text.now in
-    let f = found text c.deref.result.now place c.partition_point-line.result (c.deref.ensures.value ∙ c.self.invariant)
+    let start = c.index-start.result.now in
+    let before = c.characters_up_to-before.result in
+    let upto = c.characters_up_to-characters.result in
+    let f = found text c.deref.result.now place c.partition_point-line.result (c.deref.ensures.value ∙ c.self.invariant.of_lines)
     (omega (arith, c.min-place.ensures, ap length c.as_bytes-text.ensures.value)) c.partition_point-line.ensures.bound
     (λ parted. IsPartitionPoint-from_clause (λ y. nat_le y place) c.deref.result.now c.partition_point-line.result c.partition_point-line.ensures.partitioned parted (λ a r q k. search rules)) in
-    subst (λ (t : List ℕ). IsPosition t c.args.offset (record { line = c.partition_point-line.result; column = c.characters_between.result + 1 })) c.self.view_is
-    (at_place text c.args.offset place c.partition_point-line.result c.index-start.result.now c.characters_between.result
-    (c.min-place.ensures ∙ ap (λ n. min c.args.offset n) (ap length c.as_bytes-text.ensures.value)) f.line
-    (f.start c.index-start.result.now (subst (λ (l : List ℕ). c.index-start.result.now ≡ get_or l (c.partition_point-line.result - 1) c.index-start.result.now) (sym c.deref.ensures.value) c.index-start.ensures))
-    (c.characters_between.ensures.value ∙ ap (λ (t : List ℕ). how_many (ends_character t) c.index-start.result.now place) c.as_bytes-text.ensures.value))
+    let starts = f.start start (subst (λ (l : List ℕ). start ≡ get_or l (c.partition_point-line.result - 1) start) (sym c.deref.ensures.value) c.index-start.ensures) in
+    let count : upto - before ≡ how_many (ends_character c.as_bytes-text.result.now) start place =
+    omega (arith, counted_between c.as_bytes-text.result.now start place before upto starts.before c.characters_up_to-before.ensures c.characters_up_to-characters.ensures) in
+    subst (λ (t : List ℕ). IsPosition t c.args.offset (record { line = c.partition_point-line.result; column = upto - before + 1 })) c.self.view_is
+    (at_place text c.args.offset place c.partition_point-line.result start (upto - before)
+    (c.min-place.ensures ∙ ap (λ n. min c.args.offset n) (ap length c.as_bytes-text.ensures.value)) f.line starts
+    (count ∙ ap (λ (t : List ℕ). how_many (ends_character t) start place) c.as_bytes-text.ensures.value))

@@ -27,13 +27,13 @@ returns-then-number-eq0-clause-found c = (
   λ e. cc,
   λ h. elim c.then-number-eq0.branch [
     | then-number-eq0-via-then-number-eq0 w ↦ absurd (omega (arith, w.if-number-eq0.true, h.0))
-    | then-number-eq0-via-else-number-eq0+then-number-len w ↦ absurd (omega (arith, w.if-number-len.true, w.len.ensures, h.1, size c.self.inside.text.now c.args.self.now c.self.inside.starts.items c.self.view_is c.self.invariant))
+    | then-number-eq0-via-else-number-eq0+then-number-len w ↦ absurd (omega (arith, w.if-number-len.true, w.len.ensures, h.1, size c.self.inside.text.now c.args.self.now c.self.inside.starts.items c.self.view_is c.self.invariant.of_lines))
   ],
 )
 
 pub returns-clause-found : goal.returns-clause-found
-returns-clause-found c = (λ e. (omega (arith, c.if-number-eq0.false), omega (arith, c.if-number-len.false, c.len.ensures, size c.self.inside.text.now c.args.self.now c.self.inside.starts.items c.self.view_is c.self.invariant)), λ h. refl)
+returns-clause-found c = (λ e. (omega (arith, c.if-number-eq0.false), omega (arith, c.if-number-len.false, c.len.ensures, size c.self.inside.text.now c.args.self.now c.self.inside.starts.items c.self.view_is c.self.invariant.of_lines)), λ h. refl)
 
 pub returns-clause-start : goal.returns-clause-start
 returns-clause-start c =
-    read c.self.inside.text.now c.args.self.now c.self.inside.starts.items c.args.number c.index.result.now c.self.view_is c.self.invariant c.if-number-eq0.false (omega (arith, c.if-number-len.false, c.len.ensures)) c.index.ensures
+    read c.self.inside.text.now c.args.self.now c.self.inside.starts.items c.args.number c.index.result.now c.self.view_is c.self.invariant.of_lines c.if-number-eq0.false (omega (arith, c.if-number-len.false, c.len.ensures)) c.index.ensures
