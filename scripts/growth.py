@@ -62,7 +62,7 @@ KNOWN = {
     "tower": Known(factor=6.3, cut="seconds"),
     "lists_heavy": Known(factor=8.1, cut="seconds"),
     "dag": Known(factor=10.7, cut="seconds"),
-    "apply": Known(factor=6.4, cut="seconds"),
+    "apply": Known(factor=3.5),
     "args": Known(factor=6.6, cut="seconds"),
     "locations": Known(factor=4.9),
     "told_args": Known(factor=3.5, cut="memory"),

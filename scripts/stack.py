@@ -21,6 +21,9 @@ type Query { q: Query, any(value: Any): Int, in(value: In): Int }
 
 DOCUMENT = "{ __typename }\n"
 
+# What several operations share is judged once, by another walk.
+SHARED = "query A { ...F } query B { ...F } fragment F on Query "
+
 LIMITS = (500, 1000)
 
 
@@ -34,6 +37,9 @@ KINDS = [
     ("fields", lambda n: (SCHEMA, nested(n - 1, "{ q ", "{ __typename }", " }"))),
     ("inline fragments", lambda n: (SCHEMA, "{ " + nested(n - 1, "... { ", "__typename", " }") + " }")),
     ("inline fragments with conditions", lambda n: (SCHEMA, "{ " + nested(n - 1, "... on Query { ", "__typename", " }") + " }")),
+    ("fields of a shared fragment", lambda n: (SCHEMA, SHARED + nested(n - 1, "{ q ", "{ __typename }", " }"))),
+    ("fields that stay of a shared fragment", lambda n: (SCHEMA, SHARED + nested(n - 1, "{ q ", "{ ...G }", " }") + " fragment G on Query { __typename }")),
+    ("inline fragments of a shared fragment", lambda n: (SCHEMA, SHARED + "{ " + nested(n - 1, "... { ", "...G", " }") + " } fragment G on Query { __typename }")),
     ("lists", lambda n: (SCHEMA, "{ any(value: " + nested(n - 2, "[", "1", "]") + ") }")),
     ("objects", lambda n: (SCHEMA, "{ any(value: " + nested(n - 2, "{ a: ", "1", " }") + ") }")),
     ("input objects", lambda n: (SCHEMA, "{ in(value: " + nested(n - 2, "{ in: ", "null", " }") + ") }")),
