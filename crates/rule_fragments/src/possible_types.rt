@@ -70,11 +70,7 @@ impl PossibleTypes {
 
     /// Whether a fragment on the type `condition` can apply where the type is `parent`: they are the same, or have an object in
     /// common.
-    pub(crate) fn may_apply(
-        &mut self,
-        parent: &Name,
-        condition: &Name,
-    ) -> Result<bool, AllocError>
+    pub(crate) fn may_apply(&mut self, parent: &Name, condition: &Name) -> Result<bool, AllocError>
         ensures applies { IfOk result (λ r. r ≡ may_apply self.old parent.now.text condition.now.text) }
         ensures same { self.new ≡ self.old }
     {

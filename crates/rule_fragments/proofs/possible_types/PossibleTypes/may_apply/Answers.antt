@@ -2,7 +2,7 @@ use Rattle.std.proofs.Common.{◌≡◌, ◌∙◌, false, is_some, slice_get, s
 use Rattle.std.specs.Map.{lookup, values_of}
 use Rattle.std.proofs.lemmas.Result.{IfOk-weaker}
 use Rattle.graphql_names.specs.NameValue.{NameValue}
-use Rattle.rule_fragments.specs.Held.{possible_in, share_at, may_apply}
+use Rattle.rule_fragments.specs.Held.{share_at, may_apply}
 use Rattle.rule_fragments.proofs.Seen.{applies_at, no_parent, no_condition}
 use Rattle.rule_fragments.proofs.possible_types.PossibleTypes.may_apply.Goals as goal
 
