@@ -179,7 +179,13 @@ fn typed(schema: &CheckedSchema, tree: &Document) -> Result<ExecutableDocument, 
     let (document, mut faults) = build(schema, tree)?;
     if !faults.is_empty() {
         let possible = Some(&schema.possible);
-        tell_lasting_faults(schema.alloc, &mut faults, &schema.schema, possible, &document)?;
+        tell_lasting_faults(
+            schema.alloc,
+            &mut faults,
+            &schema.schema,
+            possible,
+            &document,
+        )?;
         return Err(Refusal::Faults(faults));
     }
     Ok(document)
