@@ -11,14 +11,14 @@ use Rattle.tree_operations.specs.SelectionTree.{FieldHead, unplaced_head}
 use Rattle.rule_definitions.specs.Judged.{Judged}
 use Rattle.rule_definitions.specs.in_schema_types.Addresses.{under}
 use Rattle.rule_definitions.proofs.Lists.{mapped_some}
-use Rattle.rule_document_definitions.specs.Selected.{InOperation, StandingField, response_key, fragment_named, operation_name}
+use Rattle.rule_document_definitions.specs.Selected.{HasNone, InOperation, StandingField, response_key, fragment_named, operation_name}
 use Rattle.rule_document_definitions.specs.Reached.{IsFieldOf}
 use Rattle.rule_document_definitions.specs.SameValues.{SameGiven, SameArguments, plain_given}
 use Rattle.rule_document_definitions.specs.Merging.{FieldsMerge, Below, Starts, SameKey, MayShare, SameShape, SameName, SameNameAndArguments}
 use Rattle.rule_document_definitions.specs.Contents.{content, unplaced_content}
 use Rattle.rule_document_definitions.specs.Settled.{StandWhere, StartsStand}
 use Rattle.rule_document_definitions.specs.Written.{Written, written_at, written_in, written_along, field_written, spread_written, fields_written, spreads_written, SpreadsSet, IsSetFrom}
-use Rattle.rule_document_definitions.specs.ReadFields.{ReadHead, ReadField, read_field, ReadSet, nothing_read, read_set, ReadFields, no_reads, read_then, listed, joined, fields_in, spreads_in, head_read, whole_set, fields_read_at, fields_read, fields_read_along, set_read, field_read, fragments_read, ReadSameKey, ReadMayShare, ReadSameShape, ReadSameName, ReadSameNameAndArguments, SpreadsRead, IsReadFrom, SelectsRead, ReadBelow, ReadStarts, ReadsMerge, AreReadShapesStanding, AreReadSelectionsStanding, ReadFieldsMerge}
+use Rattle.rule_document_definitions.specs.ReadFields.{ReadHead, ReadField, read_field, ReadSet, nothing_read, read_set, ReadFields, no_reads, read_then, listed, joined, fields_in, spreads_in, head_read, whole_set, fields_read_at, fields_read, fields_read_along, set_read, list_read, field_read, fragments_read, ReadSameKey, ReadMayShare, ReadSameShape, ReadSameName, ReadSameNameAndArguments, SpreadsRead, IsReadFrom, SelectsRead, ReadBelow, ReadStarts, ReadsMerge, AreReadShapesStanding, AreReadSelectionsStanding, ReadFieldsMerge}
 use Rattle.rule_document_definitions.proofs.Along.{merge_back, merge_on}
 use Rattle.rule_document_definitions.proofs.Unplaced.{contains_map, contains_unmap, closed_map, closed_unmap, under_same}
 use Rattle.rule_document_definitions.proofs.MergingUnplaced.{twice, given_same, key_same}
@@ -62,6 +62,15 @@ module _ {P : Type 0} where
   pub spreads_of_read : (s : MeantSet P) → spreads_in (set_read s) ≡ spreads_written s
   spreads_of_read (meant_set t no_meant) = refl
   spreads_of_read (meant_set t (meant_then s ss)) = refl
+
+  -- a set with selections is read as any set is
+  pub listed_read : (s : MeantSet P) → (HasNone s → ⊥) → set_read s ≡ list_read s
+  listed_read (meant_set t no_meant) some = absurd (some tt)
+  listed_read (meant_set t (meant_then s ss)) some = refl
+
+  pub nothing_read_of : (s : MeantSet P) → HasNone s → set_read s ≡ nothing_read
+  nothing_read_of (meant_set t no_meant) none = refl
+  nothing_read_of (meant_set t (meant_then s ss)) none = absurd none
 
   -- ---- what is read says what merging asks
 

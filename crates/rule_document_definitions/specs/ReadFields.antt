@@ -91,6 +91,10 @@ module _ {P : Type 0} where
   abbrev pub set_read : MeantSet P → ReadSet
   set_read s = whole_set s (fields_read s)
 
+  -- the same of any set: one without selections is read as no fields and no spreads
+  abbrev pub list_read : MeantSet P → ReadSet
+  list_read s = read_set (fields_read s) (spreads_written s)
+
   abbrev pub field_read : StandingField P → ReadField
   field_read f = read_field (head_read f.parent f.definition f.head) (set_read f.set)
 

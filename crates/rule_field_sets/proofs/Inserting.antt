@@ -1,0 +1,87 @@
+-- What is inserted into a map whose values keep what they had: the first under each key stays.
+use Rattle.std.proofs.Common.{◌≡◌, ◌⊎◌, ◌∙◌, ◌↔◌, ℕ, zero, suc, ◌+◌, Bool, true, false, not, cond, List, [], ◌∷◌, ◌++◌, map, length, slice_get, nat_eq, Option, Some, None, Contains, refl, sym, ap, subst, inl, inr, true≢false, if◌then◌else◌, arith, IsTrue}
+use Rattle.std.specs.Prelude.{unwrap_or, option_map}
+use Rattle.std.specs.Option.{option_map_or}
+use Rattle.std.specs.Bool.{Decides}
+use Rattle.std.specs.List.{position_or_len}
+use Rattle.std.specs.Map.{lookup, keys_of}
+use Rattle.std.proofs.lemmas.Bool.Decides.{Decides-eqb}
+use Rattle.indexmap.specs.IndexMap.{insert_entry}
+use Rattle.rule_definitions.proofs.Lists.{not_in_nil, Contains-cons, Contains-first}
+use Rattle.rule_field_sets.specs.Tables.{Enters, keys_in}
+
+module _ {K V L W : Type 0} (u : K → L) (f : V → W) (eq : K → K → Bool) (decides : (a b : K) → Decides (eq a b) (u a ≡ u b)) where
+  -- entries, by what they say
+  abbrev pub said : List (K × V) → List (L × W)
+  said es = map (λ e. (u e.0, f e.1)) es
+
+  enters_cons : (e : L × W) (old new : List (L × W)) (k : L) (x : W) (n : ℕ) → (e.0 ≡ k → ⊥) → Enters old k x n new → Enters (e ∷ old) k x (suc n) (e ∷ new)
+  enters_cons e old new k x n differs (inl (w, (at, is))) = inl (w, (at, ap (λ l. e ∷ l) is))
+  enters_cons e old new k x n differs (inr (absent, (is, more))) = inr (
+    λ c. elim (Contains-cons e.0 (keys_in old) k c) [ inl s ↦ differs s | inr r ↦ absent r ],
+    (ap suc is, ap (λ l. e ∷ l) more),
+  )
+
+  -- a value that says what is known under the key, or else this
+  pub entered : (es : List (K × V)) (k : K) (v : V) (x : W) → f v ≡ unwrap_or (option_map f (lookup (eq k) es)) x
+      → Enters (said es) (u k) x (position_or_len (eq k) (keys_of es)) (said (insert_entry eq es k v))
+  entered [] k v x is = inr (λ c. not_in_nil (u k) c, (refl, ap (λ y. (u k, y) ∷ []) is))
+  entered (e ∷ es) k v x is = by (eq k e.0) refl is (entered es k v x)
+    where
+      by : (b : Bool) → eq k e.0 ≡ b → f v ≡ unwrap_or (option_map f (cond b (Some e.1) (lookup (eq k) es))) x
+          → (f v ≡ unwrap_or (option_map f (lookup (eq k) es)) x → Enters (said es) (u k) x (position_or_len (eq k) (keys_of es)) (said (insert_entry eq es k v)))
+          → Enters (said (e ∷ es)) (u k) x (cond (not b) (1 + position_or_len (eq k) (keys_of es)) 0) (said (if b then (e.0, v) ∷ es else e ∷ insert_entry eq es k v))
+      by true h i rest = inl (f e.1, (ap (λ y. Some (y, f e.1)) (sym ((decides k e.0).0 h)), ap (λ y. (u e.0, y) ∷ said es) i))
+      by false h i rest = subst (λ n. Enters (said (e ∷ es)) (u k) x n (said (e ∷ insert_entry eq es k v))) (omega arith)
+          (enters_cons (u e.0, f e.1) (said es) (said (insert_entry eq es k v)) (u k) x (position_or_len (eq k) (keys_of es)) (λ s. true≢false (sym ((decides k e.0).1 (sym s)) ∙ h)) (rest i))
+
+module _ {K V : Type 0} (node_of : V → ℕ) (eq : K → K → Bool) where
+  abbrev nodes : List (K × V) → List ℕ
+  nodes es = map (λ e. node_of e.1) es
+
+  -- the nodes after a value is inserted
+  pub noted_at : (es : List (K × V)) (k : K) (v : V) (m : ℕ) → slice_get (nodes (insert_entry eq es k v)) m ≡ (if nat_eq m (position_or_len (eq k) (keys_of es)) then Some (node_of v) else slice_get (nodes es) m)
+  noted_at [] k v zero = refl
+  noted_at [] k v (suc m) = refl
+  noted_at (e ∷ es) k v m = by (eq k e.0) m
+    where
+      by : (b : Bool) (m : ℕ) → slice_get (nodes (if b then (e.0, v) ∷ es else e ∷ insert_entry eq es k v)) m
+          ≡ (if nat_eq m (cond (not b) (1 + position_or_len (eq k) (keys_of es)) 0) then Some (node_of v) else slice_get (nodes (e ∷ es)) m)
+      by true zero = refl
+      by true (suc m) = refl
+      by false zero = sym (ap (λ b. if b then Some (node_of v) else Some (node_of e.1)) (zero_not (position_or_len (eq k) (keys_of es))))
+        where
+          zero_not : (n : ℕ) → nat_eq 0 (1 + n) ≡ false
+          zero_not n = ap (λ j. nat_eq 0 j) one_more
+            where
+              one_more : 1 + n ≡ suc n
+              one_more = omega arith
+      by false (suc m) = noted_at es k v m ∙ ap (λ n. if nat_eq (suc m) n then Some (node_of v) else slice_get (nodes es) m) one_more
+        where
+          one_more : suc (position_or_len (eq k) (keys_of es)) ≡ 1 + position_or_len (eq k) (keys_of es)
+          one_more = omega arith
+
+  -- the node that was found is the one at the place
+  pub found_at : (es : List (K × V)) (k : K) → option_map node_of (lookup (eq k) es) ≡ slice_get (nodes es) (position_or_len (eq k) (keys_of es))
+  found_at [] k = refl
+  found_at (e ∷ es) k = by (eq k e.0)
+    where
+      by : (b : Bool) → option_map node_of (cond b (Some e.1) (lookup (eq k) es)) ≡ slice_get (nodes (e ∷ es)) (cond (not b) (1 + position_or_len (eq k) (keys_of es)) 0)
+      by true = refl
+      by false = found_at es k ∙ ap (λ n. slice_get (nodes (e ∷ es)) n) one_more
+        where
+          one_more : suc (position_or_len (eq k) (keys_of es)) ≡ 1 + position_or_len (eq k) (keys_of es)
+          one_more = omega arith
+
+pub node_found : {V : Type 0} (node_of : V → ℕ) (known : Option V) (node : ℕ) → IsTrue (option_map_or (λ v. nat_eq (node_of v) node) known false) ↔ (option_map node_of known ≡ Some node)
+node_found node_of None node = (λ h. absurd h, λ e. cc)
+node_found node_of (Some v) node = (λ h. ap Some (decided.0 (is_true h)), λ e. to_true (decided.1 (some_same e)))
+  where
+    decided : Decides (nat_eq (node_of v) node) (node_of v ≡ node)
+    decided = Decides-eqb (node_of v) node
+    is_true : IsTrue (nat_eq (node_of v) node) → nat_eq (node_of v) node ≡ true
+    is_true h = h
+    to_true : nat_eq (node_of v) node ≡ true → IsTrue (nat_eq (node_of v) node)
+    to_true h = h
+    some_same : Some (node_of v) ≡ Some node → node_of v ≡ node
+    some_same e = cc
