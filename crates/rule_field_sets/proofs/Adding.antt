@@ -5,10 +5,10 @@ use Rattle.rule_cycle_search.specs.Paths.{HasNoRepeat}
 use Rattle.rule_definitions.specs.Judged.{Judged}
 use Rattle.rule_definitions.proofs.Lists.{index_found}
 use Rattle.rule_document_definitions.specs.Merging.{IsAbstract}
-use Rattle.rule_document_definitions.specs.ReadFields.{ReadHead, ReadField, read_field, ReadSet, nothing_read, read_set, ReadFields, no_reads, read_then, listed, head_of, set_of}
+use Rattle.rule_field_sets.specs.ReadFields.{ReadHead, ReadField, read_field, ReadSet, nothing_read, read_set, ReadFields, no_reads, read_then, listed, head_of, set_of}
 use Rattle.rule_field_sets.specs.declared.numbers.FieldKey.{FieldKey}
 use Rattle.rule_field_sets.specs.Tables.{Grows, Extends, EntriesExtend, Enters, keys_in, PartTables, Tables, SetParts, MeansField, MeansSet, IsSetNumber, IsFieldKey, IsSetKey, ArePartsApart, AreRight, AreJudged, PartsGrow, TablesGrow}
-use Rattle.rule_field_sets.proofs.Growing.{grows_same, extends_same, entries_same, entered_grows, entered_is, entered_from, stays, zip_map, contains_at}
+use Rattle.rule_field_sets.proofs.Growing.{grows_same, grows_on, extends_same, extends_on, entries_same, entries_on, entered_grows, entered_is, entered_from, stays, zip_map, contains_at}
 use Rattle.rule_field_sets.proofs.Once.{one_content, one_set_content}
 
 -- ---- what a number means it means in larger tables
@@ -84,6 +84,21 @@ parts_same old new e = record {
   types = extends_same old.types new.types (ap (λ (p : PartTables). p.types) e);
 }
 
+pub parts_on : (a b c : PartTables) → PartsGrow a b → PartsGrow b c → PartsGrow a c
+parts_on a b c g h = record {
+  keys = extends_on a.keys b.keys c.keys g.keys h.keys;
+  parents = entries_on a.parents b.parents c.parents g.parents h.parents;
+  calls = extends_on a.calls b.calls c.calls g.calls h.calls;
+  types = extends_on a.types b.types c.types g.types h.types;
+}
+
+pub tables_on : (a b c : Tables) → TablesGrow a b → TablesGrow b c → TablesGrow a c
+tables_on a b c g h = record {
+  parts = parts_on a.parts b.parts c.parts g.parts h.parts;
+  fields = grows_on a.fields b.fields c.fields g.fields h.fields;
+  sets = grows_on a.sets b.sets c.sets g.sets h.sets;
+}
+
 -- where each entry was there or is right
 grown_right : (t u : Tables) → TablesGrow t u → HasNoRepeat (keys_in u.fields) → HasNoRepeat (keys_in u.sets)
     → ((n : ℕ) (k : FieldKey) (c : ReadField) → slice_get u.fields n ≡ Some (k, c) → (slice_get t.fields n ≡ Some (k, c)) ⊎ IsFieldKey u k c)
@@ -106,6 +121,19 @@ parts_grow t p grow = record { parts = grow; fields = grows_same t.fields t.fiel
 
 pub parts_right : (t : Tables) (p : PartTables) → PartsGrow t.parts p → AreRight t → AreRight (with_parts t p)
 parts_right t p grow right = grown_right t (with_parts t p) (parts_grow t p grow) right.fields_apart right.sets_apart (λ n k c h. inl h) (λ n k c h. inl h) right
+
+-- where fields, or sets, are what they were
+pub fields_same : (t : Tables) (fields : List (FieldKey × ReadField)) → fields ≡ t.fields → AreRight t → (AreRight (record { parts = t.parts; fields = fields; sets = t.sets })) × (TablesGrow t (record { parts = t.parts; fields = fields; sets = t.sets }))
+fields_same t fields e right = (
+  subst (λ l. AreRight (record { parts = t.parts; fields = l; sets = t.sets })) (sym e) right,
+  record { parts = parts_same t.parts t.parts refl; fields = grows_same t.fields fields e; sets = grows_same t.sets t.sets refl },
+)
+
+pub sets_same : (t : Tables) (sets : List (SetParts × ReadSet)) → sets ≡ t.sets → AreRight t → (AreRight (record { parts = t.parts; fields = t.fields; sets = sets })) × (TablesGrow t (record { parts = t.parts; fields = t.fields; sets = sets }))
+sets_same t sets e right = (
+  subst (λ l. AreRight (record { parts = t.parts; fields = t.fields; sets = l })) (sym e) right,
+  record { parts = parts_same t.parts t.parts refl; fields = grows_same t.fields t.fields refl; sets = grows_same t.sets sets e },
+)
 
 -- a field with this key is entered
 module _ (t : Tables) (k : FieldKey) (c : ReadField) (n : ℕ) (fields : List (FieldKey × ReadField)) (enters : Enters t.fields k c n fields) where

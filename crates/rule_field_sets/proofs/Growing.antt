@@ -104,6 +104,9 @@ module _ {K V : Type 0} where
   pub entries_same : (old new : List (K × V)) → new ≡ old → EntriesExtend old new
   entries_same old new e = record { grown = grows_same old new e; apart = λ h. subst (λ l. HasNoRepeat (keys_in l)) (sym e) h }
 
+  pub entries_on : (old mid new : List (K × V)) → EntriesExtend old mid → EntriesExtend mid new → EntriesExtend old new
+  entries_on old mid new a b = record { grown = grows_on old mid new a.grown b.grown; apart = λ h. b.apart (a.apart h) }
+
   -- what is entered
   pub entered_grows : (old new : List (K × V)) (k : K) (v : V) (n : ℕ) → Enters old k v n new → EntriesExtend old new
   entered_grows old new k v n (inl (w, (at, e))) = entries_same old new e

@@ -35,6 +35,28 @@ module _ {K V L W : Type 0} (u : K → L) (f : V → W) (eq : K → K → Bool) 
       by false h i rest = subst (λ n. Enters (said (e ∷ es)) (u k) x n (said (e ∷ insert_entry eq es k v))) (omega arith)
           (enters_cons (u e.0, f e.1) (said es) (said (insert_entry eq es k v)) (u k) x (position_or_len (eq k) (keys_of es)) (λ s. true≢false (sym ((decides k e.0).1 (sym s)) ∙ h)) (rest i))
 
+  -- the value is there
+  pub inserted_at : (es : List (K × V)) (k : K) (v : V) → slice_get (said (insert_entry eq es k v)) (position_or_len (eq k) (keys_of es)) ≡ Some (u k, f v)
+  inserted_at [] k v = refl
+  inserted_at (e ∷ es) k v = by (eq k e.0) refl (inserted_at es k v)
+    where
+      by : (b : Bool) → eq k e.0 ≡ b → slice_get (said (insert_entry eq es k v)) (position_or_len (eq k) (keys_of es)) ≡ Some (u k, f v)
+          → slice_get (said (if b then (e.0, v) ∷ es else e ∷ insert_entry eq es k v)) (cond (not b) (1 + position_or_len (eq k) (keys_of es)) 0) ≡ Some (u k, f v)
+      by true h rest = ap (λ y. Some (y, f v)) (sym ((decides k e.0).0 h))
+      by false h rest = subst (λ n. slice_get (said (e ∷ insert_entry eq es k v)) n ≡ Some (u k, f v)) one_more rest
+        where
+          one_more : suc (position_or_len (eq k) (keys_of es)) ≡ 1 + position_or_len (eq k) (keys_of es)
+          one_more = omega arith
+
+-- what is mapped of something or else of this
+pub map_or : {A B C : Type 0} (g : A → B) (h : B → C) (o : Option A) (x : B) → h (unwrap_or (option_map g o) x) ≡ unwrap_or (option_map (λ a. h (g a)) o) (h x)
+map_or g h None x = refl
+map_or g h (Some a) x = refl
+
+pub map_itself : {A : Type 0} (o : Option A) → option_map (λ a. a) o ≡ o
+map_itself None = refl
+map_itself (Some a) = refl
+
 module _ {K V : Type 0} (node_of : V → ℕ) (eq : K → K → Bool) where
   abbrev nodes : List (K × V) → List ℕ
   nodes es = map (λ e. node_of e.1) es

@@ -1,6 +1,8 @@
+pub mod WrittenFacts
+pub mod ReadFacts
 pub mod Growing
 pub mod Inserting
 pub mod Equal
-pub mod Kinds
+pub mod Abstract
 pub mod Once
 pub mod Adding

@@ -5,6 +5,7 @@
 #![tactic(auto)]
 
 mod kinds;
+pub mod laws;
 mod member;
 mod numbers;
 

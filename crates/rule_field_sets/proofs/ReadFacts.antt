@@ -17,13 +17,13 @@ use Rattle.rule_document_definitions.specs.SameValues.{SameGiven, SameArguments,
 use Rattle.rule_document_definitions.specs.Merging.{FieldsMerge, Below, Starts, SameKey, MayShare, SameShape, SameName, SameNameAndArguments}
 use Rattle.rule_document_definitions.specs.Contents.{content, unplaced_content}
 use Rattle.rule_document_definitions.specs.Settled.{StandWhere, StartsStand}
-use Rattle.rule_document_definitions.specs.Written.{Written, written_at, written_in, written_along, field_written, spread_written, fields_written, spreads_written, SpreadsSet, IsSetFrom}
-use Rattle.rule_document_definitions.specs.ReadFields.{ReadHead, ReadField, read_field, ReadSet, nothing_read, read_set, ReadFields, no_reads, read_then, listed, joined, fields_in, spreads_in, head_read, whole_set, fields_read_at, fields_read, fields_read_along, set_read, list_read, field_read, fragments_read, ReadSameKey, ReadMayShare, ReadSameShape, ReadSameName, ReadSameNameAndArguments, SpreadsRead, IsReadFrom, SelectsRead, ReadBelow, ReadStarts, ReadsMerge, AreReadShapesStanding, AreReadSelectionsStanding, ReadFieldsMerge}
+use Rattle.rule_field_sets.specs.Written.{Written, written_at, written_in, written_along, field_written, spread_written, fields_written, spreads_written, SpreadsSet, IsSetFrom}
+use Rattle.rule_field_sets.specs.ReadFields.{ReadHead, ReadField, read_field, ReadSet, nothing_read, read_set, ReadFields, no_reads, read_then, listed, joined, fields_in, spreads_in, head_read, whole_set, fields_read_at, fields_read, fields_read_along, set_read, list_read, field_read, fragments_read, ReadSameKey, ReadMayShare, ReadSameShape, ReadSameName, ReadSameNameAndArguments, SpreadsRead, IsReadFrom, SelectsRead, ReadBelow, ReadStarts, ReadsMerge, AreReadShapesStanding, AreReadSelectionsStanding, ReadFieldsMerge}
 use Rattle.rule_document_definitions.proofs.Along.{merge_back, merge_on}
 use Rattle.rule_document_definitions.proofs.Unplaced.{contains_map, contains_unmap, closed_map, closed_unmap, under_same}
 use Rattle.rule_document_definitions.proofs.MergingUnplaced.{twice, given_same, key_same}
 use Rattle.rule_document_definitions.proofs.SettledFacts.{standing_merge}
-use Rattle.rule_document_definitions.proofs.WrittenFacts.{written_from}
+use Rattle.rule_field_sets.proofs.WrittenFacts.{written_from}
 
 -- ---- lists
 
