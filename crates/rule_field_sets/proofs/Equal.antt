@@ -8,6 +8,7 @@ use Rattle.std.proofs.lemmas.Bool.Decides.{Decides-eqb}
 use Rattle.std.proofs.lemmas.Slice.Eq.{bytes_eq-Decides}
 use Rattle.graphql_names.specs.NameValue.{NameValue}
 use Rattle.tree_directives.specs.DirectiveTree.{argument_tree, unplaced_argument}
+use Rattle.tree_literals.specs.TypeTree.{TypeTree}
 use Rattle.tree_literals.specs.declared.ty.«Type».{«Type»}
 use Rattle.schema_types.proofs.in_values.Decided.{through, pair_decides, nodes_decide}
 use Rattle.schema_types.proofs.in_values.DirectiveEquality.{argument_eq, argument_eq-Decides}
@@ -27,7 +28,7 @@ name_eq a b = pointwise nat_eq a.now.text b.now.text
 pub name_decides : (a b : Bor NameValue) → Decides (name_eq a b) (text_of a ≡ text_of b)
 name_decides a b = bytes_eq-Decides a.now.text b.now.text
 
-abbrev pub type_of : Bor «Type» → _
+abbrev pub type_of : Bor «Type» → TypeTree (Unit {0})
 type_of t = type_read t.now
 
 abbrev pub type_same : Bor «Type» → Bor «Type» → Bool

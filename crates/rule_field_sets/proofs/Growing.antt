@@ -95,8 +95,8 @@ module _ {T V : Type 0} (f : T → V) (eq : T → T → Bool) (decides : (a b : 
       by true h = extends_same (map f old) (map f old) refl
       by false h = subst (Extends (map f old)) (sym (map-append f old (k ∷ []))) (extends_push (map f old) (f k) (none_equal old k h))
 
-  pub set_number_is : (new : List T) (k : T) (n : ℕ) → (x : T) × ((slice_get new n ≡ Some x) × (eq k x ≡ true)) → slice_get (map f new) n ≡ Some (f k)
-  set_number_is new k n (x, (at, e)) = slice_get-map f new n ∙ (ap (option_map f) at ∙ ap (λ y. Some y) (sym ((decides k x).0 e)))
+  pub set_number_is : (old new : List T) (k : T) (n : ℕ) → new ≡ insert_key eq old k → (x : T) × ((slice_get new n ≡ Some x) × (eq k x ≡ true)) → slice_get (map f new) n ≡ Some (f k)
+  set_number_is old new k n is (x, (at, e)) = slice_get-map f new n ∙ (ap (option_map f) at ∙ ap (λ y. Some y) (sym ((decides k x).0 e)))
 
 -- ---- maps
 

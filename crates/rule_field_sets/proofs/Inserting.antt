@@ -1,7 +1,8 @@
 -- What is inserted into a map whose values keep what they had: the first under each key stays.
-use Rattle.std.proofs.Common.{◌≡◌, ◌⊎◌, ◌∙◌, ◌↔◌, ℕ, zero, suc, ◌+◌, Bool, true, false, not, cond, List, [], ◌∷◌, ◌++◌, map, length, slice_get, nat_eq, Option, Some, None, Contains, refl, sym, ap, subst, inl, inr, true≢false, if◌then◌else◌, arith, IsTrue}
+use Rattle.std.proofs.Common.{◌≡◌, ◌⊎◌, ◌∙◌, ◌↔◌, ℕ, zero, suc, ◌+◌, Bool, true, false, not, cond, List, [], ◌∷◌, ◌++◌, map, length, slice_get, nat_eq, Option, Some, None, Result, Ok, Err, Contains, refl, sym, ap, subst, inl, inr, true≢false, if◌then◌else◌, arith, IsTrue}
 use Rattle.std.specs.Prelude.{unwrap_or, option_map}
 use Rattle.std.specs.Option.{option_map_or}
+use Rattle.std.specs.Result.{OnErr}
 use Rattle.std.specs.Bool.{Decides}
 use Rattle.std.specs.List.{position_or_len}
 use Rattle.std.specs.Map.{lookup, keys_of}
@@ -61,42 +62,45 @@ module _ {K V : Type 0} (node_of : V → ℕ) (eq : K → K → Bool) where
   abbrev nodes : List (K × V) → List ℕ
   nodes es = map (λ e. node_of e.1) es
 
-  -- the nodes after a value is inserted
-  pub noted_at : (es : List (K × V)) (k : K) (v : V) (m : ℕ) → slice_get (nodes (insert_entry eq es k v)) m ≡ (if nat_eq m (position_or_len (eq k) (keys_of es)) then Some (node_of v) else slice_get (nodes es) m)
-  noted_at [] k v zero = refl
-  noted_at [] k v (suc m) = refl
-  noted_at (e ∷ es) k v m = by (eq k e.0) m
+  one_more : (n : ℕ) → suc n ≡ 1 + n
+  one_more n = omega arith
+
+  -- the node of what is inserted is there
+  pub noted_there : (es : List (K × V)) (k : K) (v : V) → slice_get (nodes (insert_entry eq es k v)) (position_or_len (eq k) (keys_of es)) ≡ Some (node_of v)
+  noted_there [] k v = refl
+  noted_there (e ∷ es) k v = by (noted_there es k v) (eq k e.0)
     where
-      by : (b : Bool) (m : ℕ) → slice_get (nodes (if b then (e.0, v) ∷ es else e ∷ insert_entry eq es k v)) m
-          ≡ (if nat_eq m (cond (not b) (1 + position_or_len (eq k) (keys_of es)) 0) then Some (node_of v) else slice_get (nodes (e ∷ es)) m)
-      by true zero = refl
-      by true (suc m) = refl
-      by false zero = sym (ap (λ b. if b then Some (node_of v) else Some (node_of e.1)) (zero_not (position_or_len (eq k) (keys_of es))))
-        where
-          zero_not : (n : ℕ) → nat_eq 0 (1 + n) ≡ false
-          zero_not n = ap (λ j. nat_eq 0 j) one_more
-            where
-              one_more : 1 + n ≡ suc n
-              one_more = omega arith
-      by false (suc m) = noted_at es k v m ∙ ap (λ n. if nat_eq (suc m) n then Some (node_of v) else slice_get (nodes es) m) one_more
-        where
-          one_more : suc (position_or_len (eq k) (keys_of es)) ≡ 1 + position_or_len (eq k) (keys_of es)
-          one_more = omega arith
+      by : slice_get (nodes (insert_entry eq es k v)) (position_or_len (eq k) (keys_of es)) ≡ Some (node_of v)
+          → (b : Bool) → slice_get (nodes (if b then (e.0, v) ∷ es else e ∷ insert_entry eq es k v)) (cond (not b) (1 + position_or_len (eq k) (keys_of es)) 0) ≡ Some (node_of v)
+      by rest true = refl
+      by rest false = subst (λ n. slice_get (nodes (e ∷ insert_entry eq es k v)) n ≡ Some (node_of v)) (one_more (position_or_len (eq k) (keys_of es))) rest
+
+  -- all others stay
+  pub noted_others : (es : List (K × V)) (k : K) (v : V) (m : ℕ) → (m ≡ position_or_len (eq k) (keys_of es) → ⊥) → slice_get (nodes (insert_entry eq es k v)) m ≡ slice_get (nodes es) m
+  noted_others [] k v zero differ = absurd (differ refl)
+  noted_others [] k v (suc m) differ = refl
+  noted_others (e ∷ es) k v m differ = by (noted_others es k v) (eq k e.0) m differ
+    where
+      by : ((j : ℕ) → (j ≡ position_or_len (eq k) (keys_of es) → ⊥) → slice_get (nodes (insert_entry eq es k v)) j ≡ slice_get (nodes es) j)
+          → (b : Bool) (m : ℕ) → (m ≡ cond (not b) (1 + position_or_len (eq k) (keys_of es)) 0 → ⊥)
+          → slice_get (nodes (if b then (e.0, v) ∷ es else e ∷ insert_entry eq es k v)) m ≡ slice_get (nodes (e ∷ es)) m
+      by rest true zero d = absurd (d refl)
+      by rest true (suc m) d = refl
+      by rest false zero d = refl
+      by rest false (suc m) d = rest m (λ i. d (ap suc i ∙ one_more (position_or_len (eq k) (keys_of es))))
 
   -- the node that was found is the one at the place
   pub found_at : (es : List (K × V)) (k : K) → option_map node_of (lookup (eq k) es) ≡ slice_get (nodes es) (position_or_len (eq k) (keys_of es))
   found_at [] k = refl
-  found_at (e ∷ es) k = by (eq k e.0)
+  found_at (e ∷ es) k = by (found_at es k) (eq k e.0)
     where
-      by : (b : Bool) → option_map node_of (cond b (Some e.1) (lookup (eq k) es)) ≡ slice_get (nodes (e ∷ es)) (cond (not b) (1 + position_or_len (eq k) (keys_of es)) 0)
-      by true = refl
-      by false = found_at es k ∙ ap (λ n. slice_get (nodes (e ∷ es)) n) one_more
-        where
-          one_more : suc (position_or_len (eq k) (keys_of es)) ≡ 1 + position_or_len (eq k) (keys_of es)
-          one_more = omega arith
+      by : option_map node_of (lookup (eq k) es) ≡ slice_get (nodes es) (position_or_len (eq k) (keys_of es))
+          → (b : Bool) → option_map node_of (cond b (Some e.1) (lookup (eq k) es)) ≡ slice_get (nodes (e ∷ es)) (cond (not b) (1 + position_or_len (eq k) (keys_of es)) 0)
+      by rest true = refl
+      by rest false = rest ∙ ap (λ n. slice_get (nodes (e ∷ es)) n) (one_more (position_or_len (eq k) (keys_of es)))
 
 pub node_found : {V : Type 0} (node_of : V → ℕ) (known : Option V) (node : ℕ) → IsTrue (option_map_or (λ v. nat_eq (node_of v) node) known false) ↔ (option_map node_of known ≡ Some node)
-node_found node_of None node = (λ h. absurd h, λ e. cc)
+node_found node_of None node = (λ h. cc, λ e. cc)
 node_found node_of (Some v) node = (λ h. ap Some (decided.0 (is_true h)), λ e. to_true (decided.1 (some_same e)))
   where
     decided : Decides (nat_eq (node_of v) node) (node_of v ≡ node)
@@ -107,3 +111,8 @@ node_found node_of (Some v) node = (λ h. ap Some (decided.0 (is_true h)), λ e.
     to_true h = h
     some_same : Some (node_of v) ≡ Some node → node_of v ≡ node
     some_same e = cc
+
+-- what is so is so of an error
+pub on_error : {A E P : Type 0} (r : Result A E) → P → OnErr r P
+on_error (Ok a) p = tt
+on_error (Err e) p = p

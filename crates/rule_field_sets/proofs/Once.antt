@@ -12,12 +12,15 @@ use Rattle.rule_field_sets.specs.Tables.{Tables, SetParts, MeansField, MeansSet,
 key_at : {K V : Type 0} (es : List (K × V)) (n : ℕ) (k : K) (v : V) → slice_get es n ≡ Some (k, v) → slice_get (keys_in es) n ≡ Some k
 key_at {K} {V} es n k v h = slice_get-map (λ (e : K × V). e.0) es n ∙ ap (option_map (λ (e : K × V). e.0)) h
 
+inside : {A : Type 0} (x y : A) → Some x ≡ Some y → x ≡ y
+inside x y e = cc
+
 -- each number means one content
 pub one_content : (t : Tables) (n : ℕ) (c d : ReadField) → MeansField t n c → MeansField t n d → c ≡ d
-one_content t n c d (k, a) (j, b) = let same : Some (k, c) ≡ Some (j, d) = sym a ∙ b in cc
+one_content t n c d (k, a) (j, b) = ap (λ (p : FieldKey × ReadField). p.1) (inside (k, c) (j, d) (sym a ∙ b))
 
 pub one_set_content : (t : Tables) (n : ℕ) (c d : ReadSet) → MeansSet t n c → MeansSet t n d → c ≡ d
-one_set_content t n c d (k, a) (j, b) = let same : Some (k, c) ≡ Some (j, d) = sym a ∙ b in cc
+one_set_content t n c d (k, a) (j, b) = ap (λ (p : SetParts × ReadSet). p.1) (inside (k, c) (j, d) (sym a ∙ b))
 
 same_key : (a b : FieldKey) → a.key ≡ b.key → a.parent ≡ b.parent → a.call ≡ b.call → a.ty ≡ b.ty → a.set ≡ b.set → a ≡ b
 same_key a b key parent call ty set = λ i. record { key = key i; parent = parent i; call = call i; ty = ty i; set = set i }

@@ -1,5 +1,5 @@
 -- What contracts see of numbers: the tables, in which each number means what is read of the first field or set that got it.
-use Rattle.std.specs.Prelude.{◌≡◌, ◌↔◌, ℕ, Bool, IsTrue, false, ◌&&◌, List, map, Option, None, Some, unwrap_or, option_map, slice_get, nat_eq, if◌then◌else◌}
+use Rattle.std.specs.Prelude.{◌≡◌, ◌↔◌, ℕ, Bool, IsTrue, false, ◌&&◌, List, map, Option, None, Some, unwrap_or, option_map, slice_get, nat_eq}
 use Rattle.std.specs.Cmp.Lexicographic.{pointwise}
 use Rattle.std.specs.Borrow.{Bor}
 use Rattle.std.specs.Map.{lookup}
@@ -119,13 +119,14 @@ pub record ArePartNumbers (t : PartTables) (n : PartNumbers) (h : ReadHead) : Ty
   pub ty : slice_get t.types n.ty ≡ Some h.ty
 
 -- it is this field, with its number and those of its parts, and this node below it
-pub record IsMember (t : Tables) (selection : FieldSelection) (below : Option ℕ) (m : Member) : Type 0 where
-  pub selection : m.selection ≡ selection
+pub record IsMember (t : Tables) (x : FieldSelection) (node : Option ℕ) (m : Member) : Type 0 where
+  pub selection : m.selection ≡ x
   pub number : MeansField t m.number (read_of m.selection)
   pub parts : ArePartNumbers t.parts (record { key = m.key; parent = m.parent; is_shared = m.is_shared; call = m.call; ty = m.ty }) (head_of (read_of m.selection))
-  pub below : m.below ≡ below
+  pub below : m.below ≡ node
 
--- the node is noted at the number, whether it was there before is told
+-- the node is noted at this number, and nothing else changes; whether it was there before is told
 pub record NotesNode (old : List ℕ) (n node : ℕ) (was_there : Bool) (new : List ℕ) : Type 0 where
-  pub noted : (m : ℕ) → slice_get new m ≡ (if nat_eq m n then Some node else slice_get old m)
+  pub noted : slice_get new n ≡ Some node
+  pub others : (m : ℕ) → (m ≡ n → ⊥) → slice_get new m ≡ slice_get old m
   pub told : IsTrue was_there ↔ (slice_get old n ≡ Some node)

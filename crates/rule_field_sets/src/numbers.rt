@@ -215,7 +215,7 @@ fn first_field<'doc>(
 
 /// Whether this node has the field already.
 fn has_field(known: Option<KnownField<'_>>, node: usize) -> bool
-    ensures { result ≡ node_is known node }
+    ensures { result ≡ node_is known.entry node }
 {
     match known {
         Some(known) => known.node == node,
@@ -298,7 +298,7 @@ impl<'doc> Numbers<'doc> {
     ) -> Result<(Member<'doc>, bool), AllocError>
         requires right { AreRight (tables_of self.old) }
         requires judged { AreJudged (judged (schema_tree schema.now)) (tables_of self.old).parts.parents }
-        requires set { IsSetNumber (tables_of self.old) set (set_of (read_of selection.entry)) }
+        requires set { IsSetNumber (tables_of self.old) set (set_of (read_of selection)) }
         ensures right { AreRight (tables_of self.new) }
         ensures grown { TablesGrow (tables_of self.old) (tables_of self.new) }
         ensures judged { AreJudged (judged (schema_tree schema.now)) (tables_of self.new).parts.parents }
@@ -343,7 +343,7 @@ impl<'doc> Numbers<'doc> {
         set: &'doc SelectionSet,
     ) -> Result<usize, AllocError>
         requires right { AreRight (tables_of self.old) }
-        requires read { ReadsAs (tables_of self.old) fields.items (texts_of spreads.entry.items) (meant_of set.now) }
+        requires read { ReadsAs (tables_of self.old) fields.items (texts_of spreads.items) (meant_of set.now) }
         ensures right { AreRight (tables_of self.new) }
         ensures grown { TablesGrow (tables_of self.old) (tables_of self.new) }
         ensures parts { (tables_of self.new).parts ≡ (tables_of self.old).parts }

@@ -10,7 +10,7 @@ returns-clause-grown c = set_extends call_read call_eq call_decides c.args.calls
 pub returns-clause-number : goal.returns-clause-number
 returns-clause-number c =
     let stored = c.in_ok-number.ensures.stored in
-    set_number_is call_read call_eq call_decides c.insert_full.new.self.keys _ c.in_ok-number.number (stored.0, (stored.1, stored.2))
+    set_number_is call_read call_eq call_decides c.args.calls.now.keys c.insert_full.new.self.keys _ c.in_ok-number.number c.in_ok-number.ensures.keys (stored.0, (stored.1, stored.2))
 
 pub returns-in_err-number-clause-grown : goal.returns-in_err-number-clause-grown
 returns-in_err-number-clause-grown c = extends_same (calls_of c.args.calls.now.keys) (calls_of c.insert_full.new.self.keys) (ap calls_of c.in_err-number.ensures.err)

@@ -1,5 +1,5 @@
 use Rattle.std.proofs.Common.{◌≡◌, ◌∙◌, refl, sym, ap, subst, Some, IsTrue}
-use Rattle.std.specs.Prelude.{unwrap_or, option_map, slice_get, nat_eq, if◌then◌else◌}
+use Rattle.std.specs.Prelude.{unwrap_or, option_map, slice_get}
 use Rattle.std.specs.List.{position_or_len}
 use Rattle.std.specs.Map.{lookup, keys_of}
 use Rattle.indexmap.specs.IndexMap.{insert_entry}
@@ -9,7 +9,7 @@ use Rattle.rule_field_sets.specs.declared.numbers.FieldKey.{FieldKey}
 use Rattle.rule_field_sets.specs.declared.numbers.KnownField.{KnownField}
 use Rattle.rule_field_sets.specs.Numbered.{firsts_of, nodes_in, read_of, same_field_key, node_is}
 use Rattle.rule_field_sets.proofs.Equal.{field_key_decides}
-use Rattle.rule_field_sets.proofs.Inserting.{entered, map_or, noted_at, found_at, node_found}
+use Rattle.rule_field_sets.proofs.Inserting.{entered, map_or, noted_there, noted_others, found_at, node_found}
 use Rattle.rule_field_sets.proofs.numbers.field_number.Goals as goal
 
 pub returns : goal.returns
@@ -34,9 +34,10 @@ returns c =
     record {
       number = enters;
       noted = record {
-        noted = λ m. ap (λ es. slice_get (nodes_in es) m) c.in_ok-number.ensures.entries
-            ∙ (noted_at (λ (v : KnownField). v.node) same_field_key old k value m
-            ∙ ap (λ j. if nat_eq m j then Some c.args.node else slice_get (nodes_in old) m) (sym c.in_ok-number.ensures.index));
+        noted = subst (λ es. slice_get (nodes_in es) n ≡ Some c.args.node) (sym c.in_ok-number.ensures.entries)
+            (subst (λ m. slice_get (nodes_in (insert_entry same_field_key old k value)) m ≡ Some c.args.node) (sym c.in_ok-number.ensures.index) (noted_there (λ (v : KnownField). v.node) same_field_key old k value));
+        others = λ m differ. ap (λ es. slice_get (nodes_in es) m) c.in_ok-number.ensures.entries
+            ∙ noted_others (λ (v : KnownField). v.node) same_field_key old k value m (λ e. differ (e ∙ sym c.in_ok-number.ensures.index));
         told = (λ h. sym place ∙ told.0 (subst IsTrue is h), λ e. subst IsTrue (sym is) (told.1 (place ∙ e)));
       };
       refused = tt;

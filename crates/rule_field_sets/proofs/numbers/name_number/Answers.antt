@@ -10,7 +10,7 @@ returns-clause-grown c = set_extends text_of name_eq name_decides c.args.names.n
 pub returns-clause-number : goal.returns-clause-number
 returns-clause-number c =
     let stored = c.in_ok-number.ensures.stored in
-    set_number_is text_of name_eq name_decides c.insert_full.new.self.keys c.args.name c.in_ok-number.number (stored.0, (stored.1, stored.2))
+    set_number_is text_of name_eq name_decides c.args.names.now.keys c.insert_full.new.self.keys c.args.name c.in_ok-number.number c.in_ok-number.ensures.keys (stored.0, (stored.1, stored.2))
 
 pub returns-in_err-number-clause-grown : goal.returns-in_err-number-clause-grown
 returns-in_err-number-clause-grown c = extends_same (texts_of c.args.names.now.keys) (texts_of c.insert_full.new.self.keys) (ap texts_of c.in_err-number.ensures.err)

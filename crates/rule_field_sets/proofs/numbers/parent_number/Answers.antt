@@ -37,11 +37,8 @@ returns c =
       number = at;
     }
 
-pub returns-in_err-number : goal.returns-in_err-number
-returns-in_err-number c =
-    let same = ap parents_of c.in_err-number.ensures.err in
-    record {
-      grown = entries_same (parents_of c.args.parents.now.entries) (parents_of c.insert_full.new.self.entries) same;
-      judged = subst (AreJudged (judged (schema_tree c.args.schema.now))) (sym same) c.requires.judged;
-      number = tt;
-    }
+pub returns-in_err-number-clause-grown : goal.returns-in_err-number-clause-grown
+returns-in_err-number-clause-grown c = entries_same (parents_of c.args.parents.now.entries) (parents_of c.insert_full.new.self.entries) (ap parents_of c.in_err-number.ensures.err)
+
+pub returns-in_err-number-clause-judged : goal.returns-in_err-number-clause-judged
+returns-in_err-number-clause-judged c = subst (AreJudged (judged (schema_tree c.args.schema.now))) (sym (ap parents_of c.in_err-number.ensures.err)) c.requires.judged

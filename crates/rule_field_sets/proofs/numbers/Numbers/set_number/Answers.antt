@@ -12,7 +12,7 @@ returns c =
     let s = c.args.set.now in
     let k : SetParts = (c.args.fields.items, texts_of c.args.spreads.items) in
     let is : IsSetKey t k (read_list s) = (fields_read (meant_of s), (ap (λ ns. read_set (fields_read (meant_of s)) ns) (sym c.requires.read.names), c.requires.read.numbers)) in
-    let sets = first_sets_of c.list_number-number.new.sets.entries in
+    let sets = first_sets_of c.list_number.new.sets.entries in
     let n = c.in_ok-number.number in
     let enters = c.in_ok-number.ensures.number in
     record {
@@ -23,8 +23,10 @@ returns c =
       number = set_means t k (read_list s) n sets enters is c.requires.right;
     }
 
-pub returns-in_err-number : goal.returns-in_err-number
-returns-in_err-number c =
-    let t = tables_of c.args.self.now in
-    let both = sets_same t (first_sets_of c.list_number-number.new.sets.entries) (ap first_sets_of c.in_err-number.ensures.refused) c.requires.right in
-    record { right = both.0; grown = both.1; parts = refl; nodes = refl; number = tt }
+pub returns-in_err-number-clause-right : goal.returns-in_err-number-clause-right
+returns-in_err-number-clause-right c =
+    (sets_same (tables_of c.args.self.now) (first_sets_of c.list_number.new.sets.entries) (ap first_sets_of c.in_err-number.ensures.refused) c.requires.right).0
+
+pub returns-in_err-number-clause-grown : goal.returns-in_err-number-clause-grown
+returns-in_err-number-clause-grown c =
+    (sets_same (tables_of c.args.self.now) (first_sets_of c.list_number.new.sets.entries) (ap first_sets_of c.in_err-number.ensures.refused) c.requires.right).1
