@@ -1,8 +1,7 @@
-pub mod WrittenFacts
-pub mod ReadFacts
 pub mod Growing
 pub mod Inserting
 pub mod Equal
 pub mod Abstract
 pub mod Once
 pub mod Adding
+pub mod Reading

@@ -4,7 +4,7 @@ use Rattle.std.specs.Option.{option_map}
 use Rattle.std.specs.List.{AllZip}
 use Rattle.tree_directives.specs.DirectiveTree.{Arguments}
 use Rattle.rule_definitions.proofs.Lists.{slice_get-map}
-use Rattle.rule_field_sets.specs.ReadFields.{ReadHead, ReadField, read_field, ReadSet, nothing_read, read_set, ReadFields, no_reads, read_then, listed, head_of, set_of}
+use Rattle.rule_document_definitions.specs.ReadFields.{ReadHead, ReadField, read_field, ReadSet, nothing_read, read_set, ReadFields, no_reads, read_then, listed, head_of, set_of}
 use Rattle.rule_field_sets.specs.declared.numbers.FieldKey.{FieldKey}
 use Rattle.rule_field_sets.specs.Tables.{Tables, SetParts, MeansField, MeansSet, IsSetNumber, IsFieldKey, IsSetKey, AreRight, keys_in}
 

@@ -1,5 +1,3 @@
 pub mod Kinds
-pub mod Written
-pub mod ReadFields
 pub mod Tables
 pub mod Numbered

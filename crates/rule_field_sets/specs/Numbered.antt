@@ -14,7 +14,7 @@ use Rattle.document_typed_selections.specs.declared.selection.Field.{Field}
 use Rattle.document_typed_selections.specs.declared.selection.SelectionSet.{SelectionSet}
 use Rattle.rule_document_definitions.specs.in_document_meaning.MeantTree.{MeantSet, meant_of_set}
 use Rattle.rule_definitions.specs.Judged.{Judged}
-use Rattle.rule_field_sets.specs.ReadFields.{ReadHead, ReadField, ReadSet, head_of, field_read, list_read}
+use Rattle.rule_document_definitions.specs.ReadFields.{ReadHead, ReadField, ReadSet, head_of, field_read, list_read}
 use Rattle.rule_document_ground.specs.Fields.{field_of}
 use Rattle.rule_document_ground.specs.declared.field_selection.FieldSelection.{FieldSelection}
 use Rattle.rule_field_sets.specs.Kinds.{is_abstract}

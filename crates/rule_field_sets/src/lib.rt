@@ -5,7 +5,6 @@
 #![tactic(auto)]
 
 mod kinds;
-pub mod laws;
 mod member;
 mod numbers;
 

@@ -2,7 +2,7 @@
 ghost use Rattle.std.specs.Prelude.{◌≡◌, [], ◌∷◌, Some, slice_get, length, IfOk, OnErr};
 ghost use Rattle.rule_document_ground.specs.in_schema.SchemaOf.{schema_tree};
 ghost use Rattle.rule_definitions.specs.Judged.{judged, Judged};
-ghost use Rattle.rule_field_sets.specs.ReadFields.{head_of, set_of, list_read};
+ghost use Rattle.rule_document_definitions.specs.ReadFields.{head_of, set_of, list_read};
 ghost use Rattle.rule_field_sets.specs.Tables.{Extends, EntriesExtend, Enters, AreJudged, PartsGrow, IsSetNumber, ReadsAs, MeansSet, AreRight, TablesGrow};
 ghost use Rattle.rule_field_sets.specs.Numbered.{texts_of, parents_of, calls_of, types_of, parts_of, firsts_of, first_sets_of, nodes_of, nodes_in, tables_of, field_call, type_read, read_of, read_list, set_parts, meant_of, kind_known, first_known, first_listed, node_is, ArePartNumbers, IsMember, NotesNode};
 

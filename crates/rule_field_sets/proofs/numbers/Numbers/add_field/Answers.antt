@@ -1,5 +1,5 @@
 use Rattle.std.proofs.Common.{refl, ap}
-use Rattle.rule_field_sets.specs.ReadFields.{set_of}
+use Rattle.rule_document_definitions.specs.ReadFields.{set_of}
 use Rattle.rule_field_sets.specs.declared.numbers.FieldKey.{FieldKey}
 use Rattle.rule_field_sets.specs.Tables.{Tables, IsFieldKey, AreRight, TablesGrow}
 use Rattle.rule_field_sets.specs.Numbered.{tables_of, parts_of, firsts_of, nodes_in, read_of}

@@ -1,6 +1,6 @@
 -- What is written in a selection set: its selections and those of its inline fragments, at any depth, in the order of the text (GraphQL, October 2021, sections 2.4 and 2.8).
 -- What a spread names is written elsewhere: in a set to which spreads lead.
-use Rattle.std.specs.Prelude.{◌≡◌, ℕ, List, [], ◌∷◌, ◌++◌, flat_map, Option, None, Some, option_map, option_to_list, Contains}
+use Rattle.std.specs.Prelude.{◌≡◌, ℕ, List, [], ◌∷◌, ◌++◌, flat_map, None, Some, option_map, option_to_list, Contains}
 use Rattle.document_meaning.specs.in_components.Names.{Entries}
 use Rattle.rule_definitions.specs.in_schema_types.Addresses.{under}
 use Rattle.document_meaning.specs.MeantTree.{MeantSelection, MeantField, MeantSpread, MeantInline, MeantSet, meant_set, MeantSelections, no_meant, meant_then, MeantFragment, MeantDocument}

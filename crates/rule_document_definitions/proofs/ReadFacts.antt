@@ -1,33 +1,33 @@
 -- What is read of fields says all that merging asks, and what lies below a field is read of what is below it; so fields merge exactly
 -- if what is read of them does.
-use Rattle.std.proofs.Common.{◌≡◌, ◌↔◌, ◌∙◌, ℕ, List, [], ◌∷◌, ◌++◌, map, Contains, refl, sym, ap, ap₂, subst, append_assoc, append-nil}
+use Rattle.std.proofs.Common.{◌≡◌, ◌↔◌, ◌∙◌, ℕ, List, [], ◌∷◌, ◌++◌, map, Contains, refl, sym, ap, ap₂, subst, append_assoc}
 use Rattle.std.specs.Prelude.{Option, Some, None, flat_map, option_map}
 use Rattle.std.proofs.lemmas.List.{map-append}
-use Rattle.graphql_names.specs.Placed.{Place, Placed, Text, unplaced_text, unplaced_node}
-use Rattle.tree_directives.specs.DirectiveTree.{ArgumentTree, Arguments, unplaced_argument, unplaced_arguments}
+use Rattle.graphql_names.specs.Placed.{Text, unplaced_text}
+use Rattle.tree_directives.specs.DirectiveTree.{Arguments, unplaced_arguments}
 use Rattle.document_meaning.specs.MeantTree.{Definition, MeantSelection, MeantField, MeantSpread, MeantInline, MeantSet, meant_set, MeantSelections, no_meant, meant_then, MeantOperation, MeantFragment, MeantDocument}
 use Rattle.document_meaning.specs.Unplaced.{unplaced_meant, unplaced_set, unplaced_members}
 use Rattle.tree_operations.specs.SelectionTree.{FieldHead, unplaced_head}
 use Rattle.rule_definitions.specs.Judged.{Judged}
 use Rattle.rule_definitions.specs.in_schema_types.Addresses.{under}
 use Rattle.rule_definitions.proofs.Lists.{mapped_some}
-use Rattle.rule_document_definitions.specs.Selected.{HasNone, InOperation, StandingField, response_key, fragment_named, operation_name}
+use Rattle.rule_document_definitions.specs.Selected.{HasNone, InOperation, StandingField, operation_name}
 use Rattle.rule_document_definitions.specs.Reached.{IsFieldOf}
 use Rattle.rule_document_definitions.specs.SameValues.{SameGiven, SameArguments, plain_given}
 use Rattle.rule_document_definitions.specs.Merging.{FieldsMerge, Below, Starts, SameKey, MayShare, SameShape, SameName, SameNameAndArguments}
 use Rattle.rule_document_definitions.specs.Contents.{content, unplaced_content}
 use Rattle.rule_document_definitions.specs.Settled.{StandWhere, StartsStand}
-use Rattle.rule_field_sets.specs.Written.{Written, written_at, written_in, written_along, field_written, spread_written, fields_written, spreads_written, SpreadsSet, IsSetFrom}
-use Rattle.rule_field_sets.specs.ReadFields.{ReadHead, ReadField, read_field, ReadSet, nothing_read, read_set, ReadFields, no_reads, read_then, listed, joined, fields_in, spreads_in, head_read, whole_set, fields_read_at, fields_read, fields_read_along, set_read, list_read, field_read, fragments_read, ReadSameKey, ReadMayShare, ReadSameShape, ReadSameName, ReadSameNameAndArguments, SpreadsRead, IsReadFrom, SelectsRead, ReadBelow, ReadStarts, ReadsMerge, AreReadShapesStanding, AreReadSelectionsStanding, ReadFieldsMerge}
+use Rattle.rule_document_definitions.specs.Written.{written_at, written_along, field_written, spread_written, fields_written, spreads_written, SpreadsSet, IsSetFrom}
+use Rattle.rule_document_definitions.specs.ReadFields.{ReadField, read_field, ReadSet, nothing_read, read_set, ReadFields, no_reads, read_then, listed, joined, fields_in, spreads_in, head_read, whole_set, fields_read_at, fields_read, fields_read_along, set_read, list_read, field_read, fragments_read, ReadSameKey, ReadMayShare, ReadSameShape, ReadSameName, ReadSameNameAndArguments, SpreadsRead, IsReadFrom, SelectsRead, ReadBelow, ReadStarts, ReadsMerge, AreReadShapesStanding, AreReadSelectionsStanding, ReadFieldsMerge}
 use Rattle.rule_document_definitions.proofs.Along.{merge_back, merge_on}
 use Rattle.rule_document_definitions.proofs.Unplaced.{contains_map, contains_unmap, closed_map, closed_unmap, under_same}
-use Rattle.rule_document_definitions.proofs.MergingUnplaced.{twice, given_same, key_same}
+use Rattle.rule_document_definitions.proofs.MergingUnplaced.{twice, given_same}
 use Rattle.rule_document_definitions.proofs.SettledFacts.{standing_merge}
-use Rattle.rule_field_sets.proofs.WrittenFacts.{written_from}
+use Rattle.rule_document_definitions.proofs.WrittenFacts.{written_from}
 
 -- ---- lists
 
-flat_map-append : {X Y : Type 0} (f : X → List Y) (xs ys : List X) → flat_map f (xs ++ ys) ≡ flat_map f xs ++ flat_map f ys
+pub flat_map-append : {X Y : Type 0} (f : X → List Y) (xs ys : List X) → flat_map f (xs ++ ys) ≡ flat_map f xs ++ flat_map f ys
 flat_map-append f [] ys = refl
 flat_map-append f (x ∷ xs) ys = ap (λ l. f x ++ l) (flat_map-append f xs ys) ∙ sym (append_assoc (f x) (flat_map f xs) (flat_map f ys))
 

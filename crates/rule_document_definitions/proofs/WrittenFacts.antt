@@ -1,13 +1,13 @@
 -- The fields that a set has through fragments are those that are written in the sets to which spreads lead.
-use Rattle.std.proofs.Common.{◌≡◌, ◌↔◌, ◌∙◌, ◌⊎◌, ℕ, suc, List, [], ◌∷◌, ◌++◌, Contains, refl, sym, ap, subst, inl, inr}
-use Rattle.std.specs.Prelude.{Option, Some, None, flat_map, option_map, option_to_list}
+use Rattle.std.proofs.Common.{◌≡◌, ◌↔◌, ◌∙◌, ℕ, suc, List, [], ◌∷◌, Contains, refl, sym, ap, subst, inl, inr}
+use Rattle.std.specs.Prelude.{Option, Some, None, option_map, option_to_list}
 use Rattle.std.proofs.lemmas.List.Elements.{Contains-append_left, Contains-append_right, Contains-append_cases}
 use Rattle.document_meaning.specs.MeantTree.{MeantSelection, MeantField, MeantSpread, MeantInline, MeantSet, meant_set, MeantSelections, no_meant, meant_then, MeantFragment, MeantDocument}
 use Rattle.rule_definitions.proofs.Lists.{not_in_nil, Contains-cons, Contains-first, only, is_only, found_in, given_in, mapped_some}
 use Rattle.rule_document_definitions.specs.Selected.{Position, InOperation, InFragment, SelectionAt, Standing, StandingField, stand, standing_in, field_there, as_field, in_inline, spread_name, fragment_named}
 use Rattle.rule_document_definitions.specs.Reached.{Closed, first, next, InFragmentOf}
 use Rattle.rule_document_definitions.specs.Contents.{content}
-use Rattle.rule_field_sets.specs.Written.{Written, written_at, written_in, written_along, field_written, spread_written, fields_written, spreads_written, IsSetFrom, IsWrittenFrom, HasContent}
+use Rattle.rule_document_definitions.specs.Written.{Written, written_at, written_in, written_along, field_written, spread_written, IsSetFrom, IsWrittenFrom, HasContent}
 
 -- what an option has
 from_option : {A : Type 0} (o : Option A) (x : A) → Contains (option_to_list o) x → o ≡ Some x

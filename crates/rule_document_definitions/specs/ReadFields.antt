@@ -16,7 +16,7 @@ use Rattle.rule_document_definitions.specs.SameValues.{SameArguments}
 use Rattle.rule_document_definitions.specs.Chains.{Merge}
 use Rattle.rule_document_definitions.specs.Merging.{IsAbstract, SameType, FieldsMerge}
 use Rattle.rule_document_definitions.specs.Settled.{IsSettledIn, StandWhere, StartsStand}
-use Rattle.rule_field_sets.specs.Written.{spreads_written}
+use Rattle.rule_document_definitions.specs.Written.{spreads_written}
 
 -- a field without what it selects
 pub record ReadHead : Type 0 where
