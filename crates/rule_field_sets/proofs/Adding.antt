@@ -1,13 +1,13 @@
 -- Tables stay right while they grow: what is added has the numbers of its parts.
-use Rattle.std.proofs.Common.{◌≡◌, ◌⊎◌, ◌∙◌, ◌↔◌, ℕ, Bool, List, [], ◌∷◌, ◌++◌, map, slice_get, Option, Some, None, Contains, refl, sym, ap, subst, inl, inr, IsTrue}
+use Rattle.std.proofs.Common.{◌≡◌, ◌⊎◌, ◌∙◌, ◌↔◌, ℕ, Bool, List, [], ◌∷◌, slice_get, Option, Some, None, refl, sym, ap, subst, inl, inr, IsTrue}
 use Rattle.std.specs.List.{AllZip}
 use Rattle.rule_cycle_search.specs.Paths.{HasNoRepeat}
 use Rattle.rule_definitions.specs.Judged.{Judged}
 use Rattle.rule_definitions.proofs.Lists.{index_found}
 use Rattle.rule_document_definitions.specs.Merging.{IsAbstract}
-use Rattle.rule_document_definitions.specs.ReadFields.{ReadHead, ReadField, read_field, ReadSet, nothing_read, read_set, ReadFields, no_reads, read_then, listed, head_of, set_of}
+use Rattle.rule_document_definitions.specs.ReadFields.{ReadField, read_field, ReadSet, read_set, ReadFields, no_reads, read_then, listed, head_of, set_of}
 use Rattle.rule_field_sets.specs.declared.numbers.FieldKey.{FieldKey}
-use Rattle.rule_field_sets.specs.Tables.{Grows, Extends, EntriesExtend, Enters, keys_in, PartTables, Tables, SetParts, MeansField, MeansSet, IsSetNumber, IsFieldKey, IsSetKey, ArePartsApart, AreRight, AreJudged, PartsGrow, TablesGrow}
+use Rattle.rule_field_sets.specs.Tables.{Enters, keys_in, PartTables, Tables, SetParts, MeansField, MeansSet, IsSetNumber, IsFieldKey, IsSetKey, ArePartsApart, AreRight, AreJudged, PartsGrow, TablesGrow}
 use Rattle.rule_field_sets.proofs.Growing.{grows_same, grows_on, extends_same, extends_on, entries_same, entries_on, entered_grows, entered_is, entered_from, stays, zip_map, contains_at}
 use Rattle.rule_field_sets.proofs.Once.{one_content, one_set_content}
 

@@ -1,17 +1,15 @@
 -- Lists that grow: what was there stays at its place.
-use Rattle.std.proofs.Common.{◌≡◌, ◌⊎◌, ◌∙◌, ℕ, zero, suc, ◌<◌, Bool, true, false, ◌||◌, List, [], ◌∷◌, ◌++◌, map, length, get_or, slice_get, Some, None, Contains, refl, sym, ap, subst, append-nil, append_assoc, inl, inr, true≢false, if◌then◌else◌, arith}
+use Rattle.std.proofs.Common.{◌≡◌, ◌⊎◌, ◌∙◌, ℕ, zero, suc, ◌<◌, Bool, true, false, ◌||◌, List, [], ◌∷◌, ◌++◌, map, length, get_or, slice_get, Some, Contains, refl, sym, ap, subst, append-nil, append_assoc, inl, inr, true≢false, if◌then◌else◌, arith}
 use Rattle.std.specs.Option.{option_map}
 use Rattle.std.specs.List.{list_any, AllZip}
 use Rattle.std.specs.Bool.{Decides}
 use Rattle.std.proofs.lemmas.Bool.{cases_lt}
 use Rattle.std.proofs.lemmas.List.{length_push, get_or_append_left, map-append}
 use Rattle.std.proofs.lemmas.Option.{slice_get_within, slice_get-get_or, get_or_from_slice_get}
-use Rattle.std.proofs.lemmas.List.Elements.{Contains-append_right, Contains-append_cases}
 use Rattle.std.proofs.Math.Seq.{get_or-append_seam}
 use Rattle.indexmap.specs.IndexSet.{insert_key}
 use Rattle.rule_cycle_search.specs.Paths.{HasNoRepeat}
-use Rattle.rule_definitions.proofs.Lists.{not_in_nil, Contains-cons, Contains-first, index_given, slice_get-map}
-use Rattle.rule_document_definitions.proofs.Unplaced.{contains_unmap}
+use Rattle.rule_definitions.proofs.Lists.{not_in_nil, Contains-cons, slice_get-map}
 use Rattle.rule_field_sets.specs.Tables.{Grows, Extends, EntriesExtend, Enters, keys_in}
 
 module _ {X : Type 0} where

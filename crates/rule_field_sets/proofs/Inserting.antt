@@ -1,5 +1,5 @@
 -- What is inserted into a map whose values keep what they had: the first under each key stays.
-use Rattle.std.proofs.Common.{◌≡◌, ◌⊎◌, ◌∙◌, ◌↔◌, ℕ, zero, suc, ◌+◌, Bool, true, false, not, cond, List, [], ◌∷◌, ◌++◌, map, length, slice_get, nat_eq, Option, Some, None, Result, Ok, Err, Contains, refl, sym, ap, subst, inl, inr, true≢false, if◌then◌else◌, arith, IsTrue}
+use Rattle.std.proofs.Common.{◌≡◌, ◌∙◌, ◌↔◌, ℕ, zero, suc, ◌+◌, Bool, true, false, not, cond, List, [], ◌∷◌, map, slice_get, nat_eq, Option, Some, None, Result, Ok, Err, refl, sym, ap, subst, inl, inr, true≢false, if◌then◌else◌, arith, IsTrue}
 use Rattle.std.specs.Prelude.{unwrap_or, option_map}
 use Rattle.std.specs.Option.{option_map_or}
 use Rattle.std.specs.Result.{OnErr}
@@ -8,7 +8,7 @@ use Rattle.std.specs.List.{position_or_len}
 use Rattle.std.specs.Map.{lookup, keys_of}
 use Rattle.std.proofs.lemmas.Bool.Decides.{Decides-eqb}
 use Rattle.indexmap.specs.IndexMap.{insert_entry}
-use Rattle.rule_definitions.proofs.Lists.{not_in_nil, Contains-cons, Contains-first}
+use Rattle.rule_definitions.proofs.Lists.{not_in_nil, Contains-cons}
 use Rattle.rule_field_sets.specs.Tables.{Enters, keys_in}
 
 module _ {K V L W : Type 0} (u : K → L) (f : V → W) (eq : K → K → Bool) (decides : (a b : K) → Decides (eq a b) (u a ≡ u b)) where

@@ -5,3 +5,4 @@ pub mod Abstract
 pub mod Once
 pub mod Adding
 pub mod Reading
+pub mod Comparing

@@ -1,18 +1,17 @@
 -- In right tables equal contents have one number, and each number one content.
-use Rattle.std.proofs.Common.{◌≡◌, ◌∙◌, ℕ, List, [], ◌∷◌, map, slice_get, Option, Some, None, refl, sym, ap, subst}
+use Rattle.std.proofs.Common.{◌≡◌, ◌∙◌, ℕ, List, [], ◌∷◌, slice_get, Option, Some, None, refl, sym, ap, subst}
 use Rattle.std.specs.Option.{option_map}
 use Rattle.std.specs.List.{AllZip}
-use Rattle.tree_directives.specs.DirectiveTree.{Arguments}
 use Rattle.rule_definitions.proofs.Lists.{slice_get-map}
-use Rattle.rule_document_definitions.specs.ReadFields.{ReadHead, ReadField, read_field, ReadSet, nothing_read, read_set, ReadFields, no_reads, read_then, listed, head_of, set_of}
+use Rattle.rule_document_definitions.specs.ReadFields.{ReadField, read_field, ReadSet, nothing_read, read_set, ReadFields, no_reads, read_then, listed}
 use Rattle.rule_field_sets.specs.declared.numbers.FieldKey.{FieldKey}
-use Rattle.rule_field_sets.specs.Tables.{Tables, SetParts, MeansField, MeansSet, IsSetNumber, IsFieldKey, IsSetKey, AreRight, keys_in}
+use Rattle.rule_field_sets.specs.Tables.{Tables, SetParts, MeansField, MeansSet, IsSetNumber, AreRight, keys_in}
 
 -- the key at a place
-key_at : {K V : Type 0} (es : List (K × V)) (n : ℕ) (k : K) (v : V) → slice_get es n ≡ Some (k, v) → slice_get (keys_in es) n ≡ Some k
+pub key_at : {K V : Type 0} (es : List (K × V)) (n : ℕ) (k : K) (v : V) → slice_get es n ≡ Some (k, v) → slice_get (keys_in es) n ≡ Some k
 key_at {K} {V} es n k v h = slice_get-map (λ (e : K × V). e.0) es n ∙ ap (option_map (λ (e : K × V). e.0)) h
 
-inside : {A : Type 0} (x y : A) → Some x ≡ Some y → x ≡ y
+pub inside : {A : Type 0} (x y : A) → Some x ≡ Some y → x ≡ y
 inside x y e = cc
 
 -- each number means one content

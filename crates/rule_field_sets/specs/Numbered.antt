@@ -1,5 +1,5 @@
 -- What contracts see of numbers: the tables, in which each number means what is read of the first field or set that got it.
-use Rattle.std.specs.Prelude.{◌≡◌, ◌↔◌, ℕ, Bool, IsTrue, false, ◌&&◌, List, map, Option, None, Some, unwrap_or, option_map, slice_get, nat_eq}
+use Rattle.std.specs.Prelude.{◌≡◌, ◌↔◌, ℕ, Bool, IsTrue, false, ◌&&◌, List, map, Option, Some, unwrap_or, option_map, slice_get, nat_eq}
 use Rattle.std.specs.Cmp.Lexicographic.{pointwise}
 use Rattle.std.specs.Borrow.{Bor}
 use Rattle.std.specs.Map.{lookup}
@@ -8,7 +8,7 @@ use Rattle.graphql_names.specs.NameValue.{NameValue}
 use Rattle.graphql_names.specs.Placed.{Place, node_tree}
 use Rattle.tree_literals.specs.TypeTree.{TypeTree, type_tree, unplaced_type}
 use Rattle.tree_literals.specs.declared.ty.«Type».{«Type»}
-use Rattle.tree_directives.specs.DirectiveTree.{Arguments, argument_tree, unplaced_arguments}
+use Rattle.tree_directives.specs.DirectiveTree.{argument_tree, unplaced_arguments}
 use Rattle.document_typed_selections.specs.TypedTree.{typed_set_tree}
 use Rattle.document_typed_selections.specs.declared.selection.Field.{Field}
 use Rattle.document_typed_selections.specs.declared.selection.SelectionSet.{SelectionSet}

@@ -9,7 +9,7 @@ use Rattle.rule_definitions.specs.Judged.{Judged}
 use Rattle.rule_document_definitions.specs.in_document_meaning.MeantTree.{MeantSet}
 use Rattle.rule_document_definitions.specs.Merging.{IsAbstract}
 use Rattle.rule_document_definitions.specs.Written.{spreads_written}
-use Rattle.rule_document_definitions.specs.ReadFields.{ReadHead, ReadField, ReadSet, nothing_read, read_set, ReadFields, listed, head_of, set_of, fields_read}
+use Rattle.rule_document_definitions.specs.ReadFields.{ReadField, ReadSet, nothing_read, read_set, ReadFields, listed, head_of, set_of, fields_read}
 use Rattle.rule_field_sets.specs.declared.numbers.FieldKey.{FieldKey}
 
 -- ---- lists that grow

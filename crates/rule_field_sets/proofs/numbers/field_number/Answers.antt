@@ -1,9 +1,7 @@
-use Rattle.std.proofs.Common.{◌≡◌, ◌∙◌, refl, sym, ap, subst, Some, IsTrue}
+use Rattle.std.proofs.Common.{◌≡◌, ◌∙◌, sym, ap, subst, Some, IsTrue}
 use Rattle.std.specs.Prelude.{unwrap_or, option_map, slice_get}
-use Rattle.std.specs.List.{position_or_len}
-use Rattle.std.specs.Map.{lookup, keys_of}
+use Rattle.std.specs.Map.{lookup}
 use Rattle.indexmap.specs.IndexMap.{insert_entry}
-use Rattle.rule_document_ground.specs.declared.field_selection.FieldSelection.{FieldSelection}
 use Rattle.rule_field_sets.specs.Tables.{Enters}
 use Rattle.rule_field_sets.specs.declared.numbers.FieldKey.{FieldKey}
 use Rattle.rule_field_sets.specs.declared.numbers.KnownField.{KnownField}

@@ -1,7 +1,7 @@
 use Rattle.std.proofs.Common.{refl, ap}
 use Rattle.rule_document_definitions.specs.ReadFields.{set_of}
 use Rattle.rule_field_sets.specs.declared.numbers.FieldKey.{FieldKey}
-use Rattle.rule_field_sets.specs.Tables.{Tables, IsFieldKey, AreRight, TablesGrow}
+use Rattle.rule_field_sets.specs.Tables.{IsFieldKey, AreRight, TablesGrow}
 use Rattle.rule_field_sets.specs.Numbered.{tables_of, parts_of, firsts_of, nodes_in, read_of}
 use Rattle.rule_field_sets.proofs.Inserting.{on_error}
 use Rattle.rule_field_sets.proofs.Adding.{with_parts, parts_grow, parts_right, set_number_on, tables_on, field_grows, field_right, field_means, fields_same}

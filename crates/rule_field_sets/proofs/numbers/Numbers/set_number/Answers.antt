@@ -1,7 +1,6 @@
-use Rattle.std.proofs.Common.{◌≡◌, refl, ap, subst, sym}
-use Rattle.std.specs.List.{AllZip}
-use Rattle.rule_document_definitions.specs.ReadFields.{list_read, fields_read, listed, read_set}
-use Rattle.rule_field_sets.specs.Tables.{MeansField, IsSetKey, SetParts}
+use Rattle.std.proofs.Common.{refl, ap, sym}
+use Rattle.rule_document_definitions.specs.ReadFields.{fields_read, read_set}
+use Rattle.rule_field_sets.specs.Tables.{IsSetKey, SetParts}
 use Rattle.rule_field_sets.specs.Numbered.{tables_of, first_sets_of, texts_of, meant_of, read_list}
 use Rattle.rule_field_sets.proofs.Adding.{set_grows, set_right, set_means, sets_same}
 use Rattle.rule_field_sets.proofs.numbers.Numbers.set_number.Goals as goal
