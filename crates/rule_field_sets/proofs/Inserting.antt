@@ -105,10 +105,13 @@ node_found node_of (Some v) node = (λ h. ap Some (decided.0 (is_true h)), λ e.
   where
     decided : Decides (nat_eq (node_of v) node) (node_of v ≡ node)
     decided = Decides-eqb (node_of v) node
+
     is_true : IsTrue (nat_eq (node_of v) node) → nat_eq (node_of v) node ≡ true
     is_true h = h
+
     to_true : nat_eq (node_of v) node ≡ true → IsTrue (nat_eq (node_of v) node)
     to_true h = h
+
     some_same : Some (node_of v) ≡ Some node → node_of v ≡ node
     some_same e = cc
 
