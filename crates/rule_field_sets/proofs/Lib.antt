@@ -1,0 +1,4 @@
+pub mod Members
+pub mod Opening
+pub mod AllOpened
+pub mod Places
