@@ -2,12 +2,13 @@
 use Rattle.std.proofs.Common.{◌≡◌, ◌∙◌, ◌++◌, ◌+◌, ◌<◌, ◌≤◌, ℕ, Bool, true, false, List, [], ◌∷◌, map, take, drop, suc, length, get_or, refl, ap, sym, subst, append-nil, append_assoc, length-append, inl, inr, arith, Contains, true≢false}
 use Rattle.std.specs.Prelude.{Option, Some, None, MatchOption, flat_map, slice_get}
 use Rattle.std.specs.List.{sum_by}
+use Rattle.std.specs.Option.{option_map}
 use Rattle.std.specs.Borrow.{Bor}
 use Rattle.std.proofs.lemmas.Grind.{flat_map-append}
 use Rattle.std.proofs.lemmas.List.{map-append, take-append-le, take_all, length_push, length-map, length-take, drop-append-le, drop_more}
 use Rattle.std.proofs.lemmas.List.Elements.{Contains-append_left, Contains-append_cases}
 use Rattle.std.proofs.lemmas.List.Sums.{sum_by-append, sum_by-cons}
-use Rattle.std.proofs.lemmas.Option.{slice_get_within}
+use Rattle.std.proofs.lemmas.Option.{slice_get_within, slice_get-map, slice_get-get_or, get_or_from_slice_get}
 use Rattle.graphql_names.specs.Placed.{Place, Text}
 use Rattle.document_typed_selections.specs.TypedTree.{TypedSelection, TypedField, TypedSpread, TypedInline, TypedSet, typed_set, TypedSelections, no_typed, typed_then, typed_set_tree}
 use Rattle.document_typed_selections.specs.declared.selection.SelectionSet.{SelectionSet}
@@ -61,7 +62,7 @@ mutual
       (weights_append (members_of false ty x) (members_along false ty xs) _ _ (within_one ty x) (within_all ty xs))
 
 -- fewer are left when the next one is opened
-pub fewer_to_open : (sets : List (TypedSet Place)) (k : ℕ) (s : TypedSet Place) → k < length sets → s ≡ get_or sets k s
+fewer_to_open : (sets : List (TypedSet Place)) (k : ℕ) (s : TypedSet Place) → k < length sets → s ≡ get_or sets k s
     → weights (drop (k + 1) (sets ++ flat_map sets_below (members_in false s))) < weights (drop k sets)
 fewer_to_open sets k s within at =
     let added = flat_map sets_below (members_in false s) in
@@ -72,6 +73,14 @@ fewer_to_open sets k s within at =
     omega (arith, before, after, within_set s)
 
 -- ---- one that is opened
+
+-- nothing of it is found at first
+pub begins : (w : Finding) (v : FoundSet) → v.fields.items ≡ [] → v.spreads.items ≡ [] → state_of w v ≡ begun (set_at v) w
+begins w v fields spreads = λ i. record (begun (set_at v) w) {
+  fields = ap (λ l. fields_of (map (λ (f : FoundField). f.selection) l)) fields i;
+  below = ap below_of fields i;
+  spreads = ap texts_of spreads i;
+}
 
 -- what is found of a set alone
 pub record IsOpened (s : TypedSet Place) (old : Finding) (new : Finding) (v : FoundSet) : Type 0 where
@@ -126,7 +135,7 @@ each_placed i sets (e ∷ es) x within c =
 
 -- ---- those that were opened, and one more
 
-pub opened_more : (set s : TypedSet Place) (old new : Finding) (found : List FoundSet) (v : FoundSet) → length found < length (typed_sets old.sets.items)
+opened_more : (set s : TypedSet Place) (old new : Finding) (found : List FoundSet) (v : FoundSet) → length found < length (typed_sets old.sets.items)
     → s ≡ get_or (typed_sets old.sets.items) (length found) s → IsOpened s old new v → AreOpened set (typed_sets old.sets.items) found → AreOpened set (typed_sets new.sets.items) (found ++ v ∷ [])
 opened_more set s old new found v within at one so_far =
     let S = typed_sets old.sets.items in
@@ -157,7 +166,36 @@ opened_more set s old new found v within at one so_far =
       ]);
     }
 
-pub none_opened : (set : TypedSet Place) (sets : List (TypedSet Place)) → slice_get sets 0 ≡ Some set → AreOpened set sets []
+-- the next one is opened: fewer are left
+pub record OneMore (old new : Finding) (found more : List FoundSet) : Type 0 where
+  pub none_left : left_of new.left.items ≡ []
+  pub opened : (set : TypedSet Place) → AreOpened set (typed_sets old.sets.items) found → AreOpened set (typed_sets new.sets.items) more
+  pub fewer : weights (drop (length more) (typed_sets new.sets.items)) < weights (drop (length found) (typed_sets old.sets.items))
+
+typed_at : (sets : List (Bor SelectionSet)) (k : ℕ) (x : Bor SelectionSet) → k < length sets → x ≡ get_or sets k x → typed_set_tree x.now ≡ get_or (typed_sets sets) k (typed_set_tree x.now)
+typed_at sets k x within at =
+    ap (λ (y : Bor SelectionSet). typed_set_tree y.now) at
+    ∙ sym (get_or_from_slice_get (typed_sets sets) k (typed_set_tree (get_or sets k x).now) (typed_set_tree x.now)
+    (slice_get-map (λ (y : Bor SelectionSet). typed_set_tree y.now) sets k ∙ ap (option_map (λ (y : Bor SelectionSet). typed_set_tree y.now)) (slice_get-get_or sets k x within)))
+
+pub one_more : (old new : Finding) (found more : List FoundSet) (v : FoundSet) (x : Bor SelectionSet) (k : ℕ) → k ≡ length found → k < length old.sets.items → x ≡ get_or old.sets.items k x → left_of old.left.items ≡ []
+    → state_of new v ≡ with_set (typed_set_tree x.now) (begun (typed_set_tree x.now) old) → more ≡ found ++ v ∷ [] → OneMore old new found more
+one_more old new found more v x k last within at none went pushed =
+    let s = typed_set_tree x.now in
+    let S = typed_sets old.sets.items in
+    let one = opened s old new v none went in
+    let here : s ≡ get_or S k s = typed_at old.sets.items k x within at in
+    let there : length found < length S = omega (arith, within, last, length-map old.sets.items (λ (y : Bor SelectionSet). typed_set_tree y.now)) in
+    let here' : s ≡ get_or S (length found) s = here ∙ ap (λ j. get_or S j s) last in
+    record {
+      none_left = one.none_left;
+      opened = λ set so_far. subst (AreOpened set (typed_sets new.sets.items)) (sym pushed) (opened_more set s old new found v there here' one so_far);
+      fewer =
+          subst (λ l. weights (drop (length more) l) < weights (drop (length found) S)) (sym one.sets)
+          (subst (λ n. weights (drop n (S ++ flat_map sets_below (members_in false s))) < weights (drop (length found) S)) (sym (ap length pushed ∙ length_push found v)) (fewer_to_open S (length found) s there here'));
+    }
+
+none_opened : (set : TypedSet Place) (sets : List (TypedSet Place)) → slice_get sets 0 ≡ Some set → AreOpened set sets []
 none_opened set sets first = record {
   first = first;
   same = refl;
@@ -165,6 +203,12 @@ none_opened set sets first = record {
   spreads = λ v c. absurd (not_in_nil v c);
   below = λ i v here f c. absurd (omega (arith, slice_get_within [] i v here));
 }
+
+-- none are at first
+pub opened_begun : (set : Bor SelectionSet) (none sets : List (Bor SelectionSet)) (found : List FoundSet) → none ≡ [] → sets ≡ none ++ set ∷ [] → found ≡ [] → AreOpened (typed_set_tree set.now) (typed_sets sets) found
+opened_begun set none sets found empty pushed nothing =
+    subst (AreOpened (typed_set_tree set.now) (typed_sets sets)) (sym nothing)
+    (none_opened (typed_set_tree set.now) (typed_sets sets) (ap (λ l. slice_get (typed_sets l) 0) (pushed ∙ ap (λ l. l ++ set ∷ []) empty)))
 
 -- all are opened
 pub all_opened : (set : TypedSet Place) (sets : List (TypedSet Place)) (found : List FoundSet) → length sets ≤ length found → AreOpened set sets found → AreFound set found

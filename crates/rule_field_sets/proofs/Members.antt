@@ -1,5 +1,5 @@
 -- Members of lists, by their places.
-use Rattle.std.proofs.Common.{◌≡◌, ◌⊎◌, ◌∙◌, ℕ, ◌+◌, ◌<◌, List, [], ◌∷◌, ◌++◌, length, get_or, take, Contains, refl, sym, ap, subst, inl, inr, arith}
+use Rattle.std.proofs.Common.{◌≡◌, ◌⊎◌, ◌∙◌, ℕ, ◌+◌, ◌<◌, List, [], ◌∷◌, ◌++◌, length, get_or, take, Contains, refl, sym, ap, subst, inl, inr, arith, length-append}
 use Rattle.std.specs.Prelude.{Some, slice_get}
 use Rattle.std.proofs.lemmas.Bool.{cases_lt}
 use Rattle.std.proofs.lemmas.List.{take_more, length_push, get_or_append_left}
@@ -25,11 +25,8 @@ taken_more xs i x h e = take_more xs i x h ∙ ap (λ y. take i xs ++ y ∷ []) 
 pub stands_more : {X : Type 0} (xs ys : List X) (i : ℕ) (x : X) → slice_get xs i ≡ Some x → slice_get (xs ++ ys) i ≡ Some x
 stands_more xs ys i x h =
     let within : i < length xs = slice_get_within xs i x h in
-    slice_get-get_or (xs ++ ys) i x (length_more xs ys i within)
+    slice_get-get_or (xs ++ ys) i x (omega (arith, within, length-append xs ys))
     ∙ ap (λ a. Some a) (get_or_append_left xs ys x i within ∙ get_or_from_slice_get xs i x x h)
-  where
-    length_more : {X : Type 0} (xs ys : List X) (i : ℕ) → i < length xs → i < length (xs ++ ys)
-    length_more xs ys i within = omega (arith, within)
 
 pub stands_mid : {X : Type 0} (xs : List X) (x : X) (ys : List X) → slice_get (xs ++ x ∷ ys) (length xs) ≡ Some x
 stands_mid [] x ys = refl

@@ -11,13 +11,13 @@ use Rattle.graphql_names.specs.Node.{content}
 use Rattle.graphql_names.specs.declared.node.Node.{Node}
 use Rattle.document_typed_selections.specs.TypedTree.{TypedField, TypedSpread, TypedInline, TypedSet, typed_selection_tree, typed_set_tree, holds_none}
 use Rattle.document_typed_selections.specs.declared.selection.Selection.{Selection}
-use Rattle.document_typed_selections.specs.declared.selection.Selection.TheOpen.{Selection-F, Field as FieldOf, FragmentSpread as SpreadOf, InlineFragment as InlineOf}
-use Rattle.document_typed_selections.specs.declared.selection.Selection.TheViews.{out-Selection}
+use Rattle.document_typed_selections.specs.declared.selection.Selection.TheOpen.{FragmentSpread as SpreadOf}
+use Rattle.document_typed_selections.specs.declared.selection.Selection.TheViews.{out-Selection, Field as Field', InlineFragment as InlineFragment'}
 use Rattle.document_typed_selections.specs.declared.selection.Field.{Field}
 use Rattle.document_typed_selections.specs.declared.selection.FragmentSpread.{FragmentSpread}
 use Rattle.document_typed_selections.specs.declared.selection.InlineFragment.{InlineFragment}
 use Rattle.document_typed_selections.specs.declared.selection.SelectionSet.{SelectionSet}
-use Rattle.document_typed_selections.proofs.TypedTrees.{tree_here, typed_selection_tree_out}
+use Rattle.document_typed_selections.proofs.TypedTrees.{tree_here, typed_selection_tree_out, typed_tree_field, typed_tree_inline}
 use Rattle.document_walks.specs.Reached.{Member, members_in, spread_names}
 use Rattle.document_walks.specs.Left.{members_from, bare_selections}
 use Rattle.document_walks.specs.WalkView.{lent_member, members_on}
@@ -80,12 +80,6 @@ set_below old new s is pushed =
 
 -- ---- a selection that is passed
 
-abbrev Layer : Type 0
-Layer = Selection-F Selection Field InlineFragment SelectionSet
-
-tree_at : (s : Selection) (x : Layer) → out-Selection s ≡ x → typed_selection_tree s ≡ tree_here x
-tree_at s x e = typed_selection_tree_out s ∙ ap tree_here e
-
 abbrev pub selections_in_order : List FoundField → List FieldSelection
 selections_in_order fields = map (λ (f : FoundField). f.selection) fields
 
@@ -106,8 +100,8 @@ field_added x old new sets w pushed fields below at more =
     ∙ ap (λ b. w.below ++ (set_of x, b) ∷ []) at in
     λ i. record w { sets = more i; fields = each i; below = places i; spreads = sym (append-nil w.spreads) i }
 
-pub field_passed : (ty : NameValue) (n : Node Field) (s : Selection) (w new : OpenState) → out-Selection s ≡ FieldOf n → new ≡ with_field (name_tree ty) n w → new ≡ passed (name_tree ty, typed_selection_tree s) w
-field_passed ty n s w new is went = went ∙ ap (λ t. passed (name_tree ty, t) w) (sym (tree_at s (FieldOf n) is))
+pub field_passed : (ty : NameValue) (n : Node Field) (s : Selection) (w new : OpenState) → s ≡ Field' n → new ≡ with_field (name_tree ty) n w → new ≡ passed (name_tree ty, typed_selection_tree s) w
+field_passed ty n s w new is went = went ∙ ap (λ t. passed (name_tree ty, t) w) (sym (ap typed_selection_tree is ∙ typed_tree_field n))
 
 pub spread_passed : (ty : NameValue) (n : Node FragmentSpread) (k : Bor NameValue) (s : Selection) (old new : List (Bor NameValue)) (w : OpenState) → out-Selection s ≡ SpreadOf n → k.now ≡ (content {A = FragmentSpread} n).fragment_name
     → new ≡ old ++ k ∷ [] → w.spreads ≡ texts_of old
@@ -124,9 +118,9 @@ spread_passed ty n k s old new w is named pushed here =
       below = sym (append-nil w.below) i;
       spreads = all i;
     })
-    ∙ ap (λ t. passed (name_tree ty, t) w) (sym (tree_at s (SpreadOf n) is))
+    ∙ ap (λ t. passed (name_tree ty, t) w) (sym (typed_selection_tree_out s ∙ ap tree_here is))
 
-pub inline_passed : (ty : NameValue) (n : Node InlineFragment) (f : InlineFragment) (s : Selection) (left : List (Member Place)) (w : OpenState) → out-Selection s ≡ InlineOf n → f ≡ content {A = InlineFragment} n
+pub inline_passed : (ty : NameValue) (n : Node InlineFragment) (f : InlineFragment) (s : Selection) (left : List (Member Place)) (w : OpenState) → s ≡ InlineFragment' n → f ≡ content {A = InlineFragment} n
     → left ≡ members_in false (typed_set_tree f.selection_set) ++ w.left → record w { left = left } ≡ passed (name_tree ty, typed_selection_tree s) w
 inline_passed ty n f s left w is of went =
     let all : left ≡ members_in false (typed_set_tree (content {A = InlineFragment} n).selection_set) ++ w.left = went ∙ ap (λ (g : InlineFragment). members_in false (typed_set_tree g.selection_set) ++ w.left) of in
@@ -137,7 +131,7 @@ inline_passed ty n f s left w is of went =
       below = sym (append-nil w.below) i;
       spreads = sym (append-nil w.spreads) i;
     })
-    ∙ ap (λ t. passed (name_tree ty, t) w) (sym (tree_at s (InlineOf n) is))
+    ∙ ap (λ t. passed (name_tree ty, t) w) (sym (ap typed_selection_tree is ∙ typed_tree_inline n))
 
 -- ---- all selections of a set
 

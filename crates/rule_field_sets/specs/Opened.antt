@@ -1,5 +1,5 @@
 -- Private: leads to `AreFound`. How sets are opened, one after the other, for those of their fields.
-use Rattle.std.specs.Prelude.{◌≡◌, ◌≤◌, ◌×◌, ◌+◌, ◌++◌, ◌∷◌, ℕ, false, List, [], map, fold, flat_map, take, length, Option, Some, None, Contains, slice_get, if◌then◌else◌}
+use Rattle.std.specs.Prelude.{◌≡◌, ◌≤◌, ◌+◌, ◌++◌, ◌∷◌, ℕ, false, List, [], map, fold, flat_map, take, length, Option, Some, None, Contains, slice_get, if◌then◌else◌}
 use Rattle.std.specs.Borrow.{Bor}
 use Rattle.graphql_names.specs.Node.{content}
 use Rattle.graphql_names.specs.NameValue.{NameValue}

@@ -7,10 +7,9 @@ use Rattle.rule_field_sets.proofs.Opening.{field_passed, spread_passed, inline_p
 use Rattle.rule_field_sets.proofs.found.Finding.pass.Goals as goal
 
 pub returns-in-Field : goal.returns-in-Field
-unfolding out-Selection denote.Hole.Carrier.out
 returns-in-Field c =
     ok_so c.push_field.result
-    (λ went. field_passed c.args.ty.now c.in-Field.field.now c.args.selection.now (state_of c.args.self.now c.args.found.now) (state_of c.push_field.new.self c.push_field.new.found) (ap out-Selection c.in-Field.is) went)
+    (λ went. field_passed c.args.ty.now c.in-Field.field c.args.selection.now (state_of c.args.self.now c.args.found.now) (state_of c.push_field.new.self c.push_field.new.found) c.in-Field.is went)
     c.push_field.ensures
 
 pub returns-in_ok-push-in-FragmentSpread : goal.returns-in_ok-push-in-FragmentSpread
@@ -20,9 +19,8 @@ returns-in_ok-push-in-FragmentSpread c =
     (ap out-Selection c.in-FragmentSpread.is) (ap (λ (f : FragmentSpread). f.fragment_name) c.content.ensures) c.in_ok-push-in-FragmentSpread.ensures.items refl
 
 pub returns-in-InlineFragment : goal.returns-in-InlineFragment
-unfolding out-Selection denote.Hole.Carrier.out
 returns-in-InlineFragment c =
     ok_so c.push_selections.result
-    (λ went. inline_passed c.args.ty.now c.in-InlineFragment.inline c.content.result.now c.args.selection.now (left_of c.push_selections.new.left.items) (state_of c.args.self.now c.args.found.now)
-    (ap out-Selection c.in-InlineFragment.is) c.content.ensures went)
+    (λ went. inline_passed c.args.ty.now c.in-InlineFragment.inline c.content-in-InlineFragment.result.now c.args.selection.now (left_of c.push_selections.new.left.items) (state_of c.args.self.now c.args.found.now)
+    c.in-InlineFragment.is c.content-in-InlineFragment.ensures went)
     c.push_selections.ensures
