@@ -52,7 +52,7 @@ state_of w v = record {
   spreads = texts_of v.spreads.items;
 }
 
--- the place of a set that comes at this one, unless it has no selections; and the set, likewise
+-- the place of a set that comes at this one, and the set itself, unless it has no selections
 abbrev pub place_for : ℕ → TypedSet Place → Option ℕ
 place_for n s = if holds_none s then None else Some n
 
@@ -65,7 +65,7 @@ sets_below (ty, TypedField p d h s) = own_set s
 sets_below (ty, TypedSpread p n ds) = []
 sets_below (ty, TypedInline p c ds s) = []
 
--- the same with its place, if it comes at this one
+-- that set with its place, if it comes at this one
 abbrev pub placed : ℕ → Member Place → List (TypedSet Place × Option ℕ)
 placed n (ty, TypedField p d h s) = (s, place_for n s) ∷ []
 placed n (ty, TypedSpread p d ds) = []

@@ -123,11 +123,7 @@ impl<'doc> Finding<'doc> {
     }
 
     /// Opens a set: what is written in it and in its inline fragments.
-    fn open(
-        &mut self,
-        alloc: Global,
-        set: &'doc SelectionSet,
-    ) -> Result<FoundSet<'doc>, AllocError>
+    fn open(&mut self, alloc: Global, set: &'doc SelectionSet) -> Result<FoundSet<'doc>, AllocError>
         ensures { IfOk result (λ found. state_of self.new found ≡ with_set (typed_set_tree set.now) (begun (typed_set_tree set.now) self.old)) }
     {
         let mut found = FoundSet {
@@ -140,11 +136,7 @@ impl<'doc> Finding<'doc> {
     }
 
     /// Opens the sets that are to be opened, and those that are found on the way.
-    fn open_all(
-        &mut self,
-        alloc: Global,
-        found: &mut Vec<FoundSet<'doc>>,
-    ) -> Result<(), AllocError>
+    fn open_all(&mut self, alloc: Global, found: &mut Vec<FoundSet<'doc>>) -> Result<(), AllocError>
         requires { left_of self.old.left.items ≡ [] }
         ensures { OnOk result (GoesOn self.old found.old.items found.new.items) }
     {
