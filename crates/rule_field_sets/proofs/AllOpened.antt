@@ -1,23 +1,20 @@
 -- The sets that are found from one set on: that they come to an end, and where they stand.
-use Rattle.std.proofs.Common.{◌≡◌, ◌∙◌, ◌++◌, ◌+◌, ◌<◌, ◌≤◌, ℕ, Bool, true, false, List, [], ◌∷◌, map, take, drop, suc, length, get_or, refl, ap, sym, subst, append-nil, append_assoc, length-append, inl, inr, arith, Contains, true≢false}
-use Rattle.std.specs.Prelude.{Option, Some, None, MatchOption, flat_map, slice_get}
+use Rattle.std.proofs.Common.{◌≡◌, ◌∙◌, ◌++◌, ◌+◌, ◌<◌, ◌≤◌, ℕ, true, false, List, [], ◌∷◌, map, take, drop, suc, length, get_or, refl, ap, sym, subst, append-nil, append_assoc, length-append, inl, inr, arith, Contains}
+use Rattle.std.specs.Prelude.{Option, Some, None, flat_map, slice_get}
 use Rattle.std.specs.List.{sum_by}
 use Rattle.std.specs.Option.{option_map}
 use Rattle.std.specs.Borrow.{Bor}
 use Rattle.std.proofs.lemmas.Grind.{flat_map-append}
-use Rattle.std.proofs.lemmas.List.{map-append, take-append-le, take_all, length_push, length-map, length-take, drop-append-le, drop_more}
-use Rattle.std.proofs.lemmas.List.Elements.{Contains-append_left, Contains-append_cases}
+use Rattle.std.proofs.lemmas.List.{map-append, take-append-le, take_all, length_push, length-map, drop-append-le, drop_more}
+use Rattle.std.proofs.lemmas.List.Elements.{Contains-append_cases}
 use Rattle.std.proofs.lemmas.List.Sums.{sum_by-append, sum_by-cons}
 use Rattle.std.proofs.lemmas.Option.{slice_get_within, slice_get-map, slice_get-get_or, get_or_from_slice_get}
 use Rattle.graphql_names.specs.Placed.{Place, Text}
 use Rattle.document_typed_selections.specs.TypedTree.{TypedSelection, TypedField, TypedSpread, TypedInline, TypedSet, typed_set, TypedSelections, no_typed, typed_then, typed_set_tree}
 use Rattle.document_typed_selections.specs.declared.selection.SelectionSet.{SelectionSet}
-use Rattle.document_meaning.specs.MeantTree.{meant_of_set}
 use Rattle.document_walks.specs.Reached.{Member, members_in, members_of, members_along, selections_in, spread_names}
-use Rattle.document_walks.specs.Left.{bare_selections}
 use Rattle.document_walks.proofs.Finding.{not_in_nil}
 use Rattle.document_walks.proofs.Passing.{bare_in}
-use Rattle.rule_document_definitions.specs.Selected.{HasNone}
 use Rattle.rule_document_definitions.proofs.Unplaced.{contains_map}
 use Rattle.rule_document_ground.specs.Fields.{fields_of}
 use Rattle.rule_document_ground.specs.Lent.{fields_lent}
@@ -25,7 +22,7 @@ use Rattle.rule_field_sets.specs.declared.found.FoundField.{FoundField}
 use Rattle.rule_field_sets.specs.declared.found.FoundSet.{FoundSet}
 use Rattle.rule_field_sets.specs.declared.found.Finding.{Finding}
 use Rattle.rule_field_sets.specs.Found.{set_of, selections_of, texts_of, set_at, sets_at, IsBelow, AreFound}
-use Rattle.rule_field_sets.specs.Opened.{OpenState, left_of, typed_sets, below_of, state_of, own_set, place_for, sets_below, placed, all_placed, at_end, with_set, begun, AreOpened, GoesOn}
+use Rattle.rule_field_sets.specs.Opened.{OpenState, left_of, typed_sets, below_of, state_of, own_set, place_for, sets_below, placed, all_placed, at_end, with_set, begun, AreOpened}
 use Rattle.rule_field_sets.proofs.Members.{only, taken_more, stands_more, stands_mid, stands_push_cases}
 
 -- ---- how many are to be opened

@@ -1,6 +1,6 @@
 -- A set that is opened: what is left of it, and what is found of it.
-use Rattle.std.proofs.Common.{◌≡◌, ◌∙◌, ◌++◌, ◌+◌, ◌<◌, ℕ, Bool, true, false, List, [], ◌∷◌, map, drop, suc, length, get_or, refl, ap, sym, subst, append-nil, append_assoc, length-append, arith, if◌then◌else◌}
-use Rattle.std.specs.Prelude.{Option, Some, None, flat_map}
+use Rattle.std.proofs.Common.{◌≡◌, ◌∙◌, ◌++◌, ◌<◌, ℕ, true, false, List, [], ◌∷◌, map, drop, suc, length, get_or, refl, ap, sym, subst, append-nil, append_assoc, length-append, arith, if◌then◌else◌}
+use Rattle.std.specs.Prelude.{Some, None, flat_map}
 use Rattle.std.specs.Borrow.{Bor}
 use Rattle.std.proofs.Math.Seq.{drop-cons}
 use Rattle.std.proofs.lemmas.List.{map-append}

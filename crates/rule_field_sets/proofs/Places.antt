@@ -1,13 +1,13 @@
 -- The places of fragments in a document, by their names.
-use Rattle.std.proofs.Common.{◌≡◌, ◌∙◌, ◌++◌, ◌+◌, ◌<◌, ℕ, Bool, true, false, List, [], ◌∷◌, map, take, length, get_or, refl, ap, sym, subst, inl, inr, arith, true≢false, Contains, if◌then◌else◌}
-use Rattle.std.specs.Prelude.{Option, Some, None, IsSome, nat_eq, slice_get}
-use Rattle.std.specs.List.{position, find, list_any}
+use Rattle.std.proofs.Common.{◌≡◌, ◌∙◌, ◌++◌, ◌+◌, ◌<◌, ℕ, Bool, true, false, List, [], ◌∷◌, map, take, length, get_or, refl, ap, sym, subst, inl, inr, true≢false, if◌then◌else◌}
+use Rattle.std.specs.Prelude.{Option, Some, None, IsSome, nat_eq}
+use Rattle.std.specs.List.{position, list_any}
 use Rattle.std.specs.Option.{option_map_or}
 use Rattle.std.specs.Str.{bytes_eq}
 use Rattle.std.specs.Borrow.{Bor}
 use Rattle.std.proofs.lemmas.Cmp.{nat_eq_equiv}
 use Rattle.std.proofs.lemmas.List.{map-append}
-use Rattle.std.proofs.lemmas.List.Elements.{Contains-append_left, Contains-append_right, Contains-append_cases}
+use Rattle.std.proofs.lemmas.List.Elements.{Contains-append_left, Contains-append_cases}
 use Rattle.std.proofs.lemmas.Map.Views.{Contains-from_any, list_any-from_Contains, exact_unsigned_eq}
 use Rattle.indexmap.specs.IndexSet.{insert_key}
 use Rattle.graphql_names.specs.NameValue.{NameValue}
@@ -15,7 +15,6 @@ use Rattle.graphql_names.specs.Placed.{Place}
 use Rattle.document_walks.specs.Reached.{NamedSet, Fragments, fragment_named}
 use Rattle.document_walks.specs.Left.{note}
 use Rattle.document_walks.proofs.Finding.{not_in_nil, found_at, missing, position-map}
-use Rattle.rule_cycle_search.specs.Paths.{HasNoRepeat}
 use Rattle.rule_field_sets.specs.Found.{texts_of, IsPlaceOf, ArePlaces}
 use Rattle.rule_field_sets.proofs.Members.{only, in_last, taken_more, none_twice, apart_more}
 

@@ -1,11 +1,10 @@
 -- Private: leads to `AreFound`. How sets are opened, one after the other, for those of their fields.
-use Rattle.std.specs.Prelude.{◌≡◌, ◌≤◌, ◌+◌, ◌++◌, ◌∷◌, ℕ, false, List, [], map, fold, flat_map, take, length, Option, Some, None, Contains, slice_get, if◌then◌else◌}
+use Rattle.std.specs.Prelude.{◌≡◌, ◌+◌, ◌++◌, ◌∷◌, ℕ, false, List, [], map, fold, flat_map, take, length, Option, Some, None, Contains, slice_get, if◌then◌else◌}
 use Rattle.std.specs.Borrow.{Bor}
-use Rattle.graphql_names.specs.Node.{content}
 use Rattle.graphql_names.specs.NameValue.{NameValue}
 use Rattle.graphql_names.specs.Placed.{Place, Text}
 use Rattle.graphql_names.specs.declared.node.Node.{Node}
-use Rattle.document_typed_selections.specs.TypedTree.{TypedSelection, TypedField, TypedSpread, TypedInline, TypedSet, typed_set_tree, holds_none}
+use Rattle.document_typed_selections.specs.TypedTree.{TypedField, TypedSpread, TypedInline, TypedSet, typed_set_tree, holds_none}
 use Rattle.document_typed_selections.specs.TypedParts.{typed_field_node}
 use Rattle.document_typed_selections.specs.declared.selection.Field.{Field}
 use Rattle.document_typed_selections.specs.declared.selection.Selection.{Selection}
