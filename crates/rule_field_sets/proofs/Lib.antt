@@ -6,3 +6,7 @@ pub mod Once
 pub mod Adding
 pub mod Reading
 pub mod Comparing
+pub mod Members
+pub mod Opening
+pub mod AllOpened
+pub mod Places

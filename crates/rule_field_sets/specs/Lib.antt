@@ -1,3 +1,5 @@
 pub mod Kinds
 pub mod Tables
 pub mod Numbered
+pub mod Found
+pub mod Opened

@@ -1,9 +1,14 @@
-//! Numbers of fields and of selection sets, by what merging reads of them (section 5.3.2): equal numbers are equal contents, and
-//! the other way round, so that nothing that is nested is compared once numbers are there.
+//! The selection sets of a document, each with a number, and the fields in them: what merging reads of them (section 5.3.2). Equal
+//! numbers are equal contents, and the other way round, so that nothing that is nested is compared once numbers are there.
 //!
-//! Begin with `specs/Tables.antt` and `numbers.rt`.
+//! For the modules above: `found_sets` gives a set and all sets of fields within it, each before those within it (`AreFound` of
+//! `specs/Found.antt`), `places_of` the places of fragments by their names (`ArePlaces` there). `Numbers` gives fields and sets their
+//! numbers, bottom up (`AreRight` of `specs/Tables.antt`).
+//!
+//! Begin with `specs/Tables.antt`, `found.rt` and `numbers.rt`.
 #![tactic(auto)]
 
+mod found;
 mod kinds;
 mod member;
 mod numbers;
