@@ -3,3 +3,5 @@ pub mod Tables
 pub mod Numbered
 pub mod Found
 pub mod Opened
+pub mod Nodes
+pub mod Added

@@ -8,12 +8,14 @@
 //! Begin with `specs/Tables.antt`, `found.rt` and `numbers.rt`.
 #![tactic(auto)]
 
+mod field_sets;
 mod found;
 mod kinds;
 mod member;
 mod numbers;
 
-pub use member::Member;
+pub use field_sets::FieldSets;
+pub use member::{Member, SetNode};
 
 // Of the crates below, for those above.
 pub use rule_document_ground::{FieldSelection, Schema};

@@ -1,5 +1,6 @@
-//! A field in a numbered set.
+//! Fields in numbered sets.
 
+use document_typed_selections::SelectionSet;
 use rule_document_ground::FieldSelection;
 
 /// A field of a set.
@@ -20,4 +21,27 @@ pub struct Member<'doc> {
     pub is_shared: bool,
     /// The node of its set, unless that has no selections.
     pub below: Option<usize>,
+}
+
+/// A selection set of a document, by its fields and spreads.
+pub struct SetNode<'doc> {
+    pub set: &'doc SelectionSet,
+    /// The number of what is written in it.
+    pub number: usize,
+    /// Its fields and those of its inline fragments, each number once.
+    pub members: Vec<Member<'doc>>,
+    /// The fragments that these spread, by their places in the document, each once.
+    pub spreads: Vec<usize>,
+}
+
+// Not derived: a derived drop is proved again in each crate that drops one.
+impl Drop for SetNode<'_> {
+    fn drop(self) {
+        let SetNode {
+            set: _,
+            number: _,
+            members: _,
+            spreads: _,
+        } = self;
+    }
 }
