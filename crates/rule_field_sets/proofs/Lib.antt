@@ -10,3 +10,8 @@ pub mod Members
 pub mod Opening
 pub mod AllOpened
 pub mod Places
+pub mod Kept
+pub mod Passing
+pub mod Putting
+pub mod Among
+pub mod NextFragment

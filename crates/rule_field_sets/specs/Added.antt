@@ -10,7 +10,7 @@ use Rattle.rule_document_definitions.specs.Selected.{HasNone}
 use Rattle.rule_document_ground.specs.Fields.{fields_of}
 use Rattle.rule_document_ground.specs.Lent.{fields_lent}
 use Rattle.rule_document_ground.specs.declared.field_selection.FieldSelection.{FieldSelection}
-use Rattle.rule_field_sets.specs.Tables.{Grows, MeansField, TablesGrow}
+use Rattle.rule_field_sets.specs.Tables.{Grows, Tables, MeansField, TablesGrow}
 use Rattle.rule_field_sets.specs.Numbered.{read_of, tables_of, nodes_of, IsMember}
 use Rattle.rule_field_sets.specs.Found.{set_of, selections_of, texts_of, set_at, AreFound}
 use Rattle.rule_field_sets.specs.Nodes.{own_set, typed_at, IsNodeOf, IsNodeBelow, AreMembers, set_nodes, fragment_nodes, fragments_in}
@@ -56,20 +56,26 @@ abbrev pub with_new : Bool → Member → List Member → List Member
 with_new is_repeated m ms = if is_repeated then ms else ms ++ m ∷ []
 
 -- of the node that was begun these fields were passed
-pub record AreAdded (w : FieldSets) (passed : List FieldSelection) (v : NodeFields) : Type 0 where
-  pub numbers : AllZip (λ n x. MeansField (tables_of w.numbers) n (read_of x)) v.numbers.items passed
-  pub members : AreMembers (fields_of passed) v.members.items
-  pub each : (m : Member) → Contains v.members.items m → IsMember (tables_of w.numbers) m.selection m.below m
-  pub below : (m : Member) → Contains v.members.items m → IsNodeBelow (set_nodes w) (length (set_nodes w)) (own_set m.selection) m.below
-  pub noted : (n : ℕ) → (slice_get (nodes_of w.numbers) n ≡ Some w.begun) ↔ Contains (map (λ (m : Member). m.number) v.members.items) n
+pub record AreAdded (t : Tables) (met : List ℕ) (begun : ℕ) (nodes : List SetNode) (passed : List FieldSelection) (numbers : List ℕ) (members : List Member) : Type 0 where
+  pub numbers : AllZip (λ n x. MeansField t n (read_of x)) numbers passed
+  pub members : AreMembers (fields_of passed) members
+  pub each : (m : Member) → Contains members m → IsMember t m.selection m.below m
+  pub below : (m : Member) → Contains members m → IsNodeBelow nodes (length nodes) (own_set m.selection) m.below
+  pub met : (n : ℕ) → (slice_get met n ≡ Some begun) ↔ Contains (map (λ (m : Member). m.number) members) n
+
+abbrev pub HasAdded : FieldSets → List FieldSelection → NodeFields → Type 0
+HasAdded w passed v = AreAdded (tables_of w.numbers) (nodes_of w.numbers) w.begun (set_nodes w) passed v.numbers.items v.members.items
 
 -- this field more is passed
 abbrev pub PassesField : FieldSets → NodeFields → FieldSelection → FieldSets → NodeFields → Type 0
-PassesField w v x w' v' = (xs : List FieldSelection) → AreAdded w xs v → AreAdded w' (xs ++ x ∷ []) v'
+PassesField w v x w' v' = (xs : List FieldSelection) → HasAdded w xs v → HasAdded w' (xs ++ x ∷ []) v'
+
+abbrev pub selections_in_order : List FoundField → List FieldSelection
+selections_in_order fields = map (λ (f : FoundField). f.selection) fields
 
 -- these more are
 abbrev pub PassesFields : FieldSets → NodeFields → List FoundField → FieldSets → NodeFields → Type 0
-PassesFields w v fs w' v' = (xs : List FieldSelection) → AreAdded w xs v → AreAdded w' (xs ++ map (λ (f : FoundField). f.selection) fs) v'
+PassesFields w v fs w' v' = (xs : List FieldSelection) → HasAdded w xs v → HasAdded w' (xs ++ selections_in_order fs) v'
 
 -- no field of the node that was begun was passed
 abbrev pub IsFresh : FieldSets → Type 0

@@ -83,13 +83,20 @@ pub record AreStarts (fragments : Fragments Place) (nodes : List SetNode) (start
   pub within : length starts ≤ length fragments
   pub each : (i n : ℕ) → slice_get starts i ≡ Some n → (f : NamedSet Place) × ((slice_get fragments i ≡ Some f) × IsNodeOf nodes n f.1)
 
--- numbers and nodes are right; a node is begun after all nodes in which a field was met
-pub record AreSets (w : FieldSets) : Type 0 where
-  pub right : AreRight (tables_of w.numbers)
-  pub judged : AreJudged (schema_in w) (tables_of w.numbers).parts.parents
-  pub nodes : (i : ℕ) (v : SetNode) → slice_get (set_nodes w) i ≡ Some v → IsNode (tables_of w.numbers) (fragments_in w) (set_nodes w) i v
-  pub starts : AreStarts (fragments_in w) (set_nodes w) (fragment_nodes w)
-  pub begun : (n m : ℕ) → slice_get (nodes_of w.numbers) n ≡ Some m → m ≤ w.begun
+-- numbers and nodes are right, and no field was met in a node that is to come
+pub record AreNodes (s : Judged) (fragments : Fragments Place) (t : Tables) (met : List ℕ) (begun : ℕ) (nodes : List SetNode) (starts : List ℕ) : Type 0 where
+  pub right : AreRight t
+  pub judged : AreJudged s t.parts.parents
+  pub nodes : (i : ℕ) (v : SetNode) → slice_get nodes i ≡ Some v → IsNode t fragments nodes i v
+  pub starts : AreStarts fragments nodes starts
+  pub met : (n m : ℕ) → slice_get met n ≡ Some m → m ≤ begun
+
+abbrev pub AreSets : FieldSets → Type 0
+AreSets w = AreNodes (schema_in w) (fragments_in w) (tables_of w.numbers) (nodes_of w.numbers) w.begun (set_nodes w) (fragment_nodes w)
+
+-- it is a member of one of the nodes
+abbrev pub HasMember : FieldSets → Member → Type 0
+HasMember w m = (i : ℕ) × ((v : SetNode) × ((slice_get (set_nodes w) i ≡ Some v) × Contains v.members.items m))
 
 -- each fragment of the document has a node
 abbrev pub HasAllStarts : FieldSets → Type 0

@@ -3,10 +3,9 @@ ghost use Rattle.std.specs.Prelude.{◌≡◌, ◌<◌, ◌≤◌, ◌+◌, ◌+
 ghost use Rattle.graphql_names.specs.Placed.{Place};
 ghost use Rattle.document_typed_selections.specs.TypedTree.{TypedSet, typed_set_tree};
 ghost use Rattle.document_walks.specs.WalkView.{fragments_tree};
-ghost use Rattle.rule_field_sets.specs.declared.found.FoundField.{FoundField};
 ghost use Rattle.rule_field_sets.specs.Found.{set_of, set_at};
 ghost use Rattle.rule_field_sets.specs.Nodes.{AreSets, SetsGrow, IsNodeOf, set_nodes, fragment_nodes, HasAllStarts};
-ghost use Rattle.rule_field_sets.specs.Added.{OnlyNumbers, NodesGrow, IsFoundBelow, AreReadyBelow, IsReady, AreAllFound, AreAdded, PassesField, PassesFields, IsFresh, IsSetBelow, node_at, with_new, AddsNode, IsNextFragment};
+ghost use Rattle.rule_field_sets.specs.Added.{OnlyNumbers, NodesGrow, IsFoundBelow, AreReadyBelow, IsReady, AreAllFound, HasAdded, selections_in_order, PassesField, PassesFields, IsFresh, IsSetBelow, node_at, with_new, AddsNode, IsNextFragment};
 
 use crate::found::{FoundField, FoundSet, found_sets, places_of};
 use crate::member::{Member, SetNode};
@@ -217,7 +216,7 @@ impl<'doc> FieldSets<'doc> {
         requires fresh { IsFresh self.old }
         ensures sets { AreSets self.new }
         ensures same { OnlyNumbers self.old self.new }
-        ensures added { IfOk result (λ fields. AreAdded self.new (map (λ (f : FoundField). f.selection) found.now) fields) }
+        ensures added { IfOk result (λ fields. HasAdded self.new (selections_in_order found.now) fields) }
     {
         let mut fields = NodeFields {
             members: Vec::new(self.alloc),
