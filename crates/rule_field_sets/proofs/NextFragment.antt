@@ -21,12 +21,15 @@ none_behind [] i e = omega arith
 none_behind (x ∷ xs) zero e = cc
 none_behind (x ∷ xs) (suc i) e = omega (none_behind xs i e, arith)
 
+abbrev named : NameValue × Node Fragment → NamedSet Place
+named e = (e.0.text, fragment_set e.1)
+
+entries_of : (a : FieldSets) → length (fragments_in a) ≡ length a.fragments.now.entries
+entries_of a = length-map a.fragments.now.entries named
+
 module _ (a w : FieldSets) (same : w.fragments ≡ a.fragments) (i : ℕ) (last : i ≡ length (fragment_nodes w)) where
   fragments_same : fragments_in a ≡ fragments_in w
   fragments_same = λ j. fragments_tree (sym same j).now
-
-  named : NameValue × Node Fragment → NamedSet Place
-  named e = (e.0.text, fragment_set e.1)
 
   -- the fragment at the place is the next one
   pub next_found : (k : NameValue) (n : Node Fragment) (f : Fragment) → Some (k, n) ≡ slice_get a.fragments.now.entries i → f ≡ content {A = Fragment} n → IsNextFragment w (typed_set_tree f.selection_set)
@@ -41,8 +44,15 @@ module _ (a w : FieldSets) (same : w.fragments ≡ a.fragments) (i : ℕ) (last 
 
   -- where there is none, all have nodes
   pub none_next : None ≡ slice_get a.fragments.now.entries i → length (fragments_in w) ≤ length (fragment_nodes w)
-  none_next e = omega (none_behind a.fragments.now.entries i e, length-map a.fragments.now.entries named, ap length fragments_same, last, arith)
+  none_next e =
+      let behind : length a.fragments.now.entries ≤ i = none_behind a.fragments.now.entries i e in
+      let count : length (fragments_in a) ≡ length a.fragments.now.entries = entries_of a in
+      let same_count : length (fragments_in a) ≡ length (fragments_in w) = ap length fragments_same in
+      omega (behind, count, same_count, last, arith)
 
   -- and where there is one, fewer are left with one node more
   pub fewer_next : (f : TypedSet Place) (b : FieldSets) → IsNextFragment w f → length (fragment_nodes b) ≡ length (fragment_nodes w) + 1 → length (fragments_in a) - length (fragment_nodes b) < length (fragments_in a) - length (fragment_nodes w)
-  fewer_next f b next more = omega (slice_get_within (fragments_in w) (length (fragment_nodes w)) next.0 next.1.0, ap length fragments_same, more, arith)
+  fewer_next f b next more =
+      let within : length (fragment_nodes w) < length (fragments_in w) = slice_get_within (fragments_in w) (length (fragment_nodes w)) next.0 next.1.0 in
+      let same_count : length (fragments_in a) ≡ length (fragments_in w) = ap length fragments_same in
+      omega (within, same_count, more, arith)

@@ -1,5 +1,5 @@
 -- A field more of a node that is being added.
-use Rattle.std.proofs.Common.{◌≡◌, ◌⊎◌, ◌↔◌, ◌∙◌, ◌++◌, ◌∷◌, [], ℕ, ◌-◌, ◌<◌, ◌≤◌, Bool, true, false, IsTrue, List, map, length, Contains, get_or, slice_get, Option, Some, None, Result, Ok, Err, refl, sym, ap, subst, inl, inr, arith}
+use Rattle.std.proofs.Common.{◌≡◌, ◌⊎◌, ◌↔◌, ◌∙◌, ◌++◌, ◌∷◌, [], ℕ, ◌-◌, ◌<◌, ◌≤◌, Bool, true, false, IsTrue, List, map, length, Contains, get_or, slice_get, Option, Some, None, Result, Ok, Err, refl, sym, ap, subst, inl, inr, true≢false, arith}
 use Rattle.std.specs.Prelude.{MatchOption, OnOk}
 use Rattle.std.specs.List.{AllZip}
 use Rattle.std.proofs.lemmas.Bool.{cases_eq}
@@ -130,18 +130,7 @@ none_passed t met begun nodes numbers members fresh e d =
       met = λ n. (λ h. absurd (fresh n h), λ c. absurd (not_in_nil n c));
     }))
 
-module _
-  (t u : Tables)
-  (old new : List ℕ)
-  (begun : ℕ)
-  (nodes : List SetNode)
-  (x : FieldSelection)
-  (below : Option ℕ)
-  (m : Member)
-  (grow : TablesGrow t u)
-  (is : IsMember u x below m)
-  (there : IsNodeBelow nodes (length nodes) (own_set x) below)
-where
+module _ (t u : Tables) (old new : List ℕ) (begun : ℕ) (nodes : List SetNode) (x : FieldSelection) (below : Option ℕ) (m : Member) (grow : TablesGrow t u) (is : IsMember u x below m) (there : IsNodeBelow nodes (length nodes) (own_set x) below) where
   own : IsMember u m.selection m.below m
   own = record { selection = refl; number = is.number; parts = is.parts; below = refl }
 
@@ -160,7 +149,7 @@ where
 
     passed_again : NotesNode old m.number begun true new → AreAdded u new begun nodes (xs ++ x ∷ []) (numbers ++ m.number ∷ []) members
     passed_again notes =
-        let here : Contains (map number_of members) m.number = (so_far.met m.number).0 (notes.told.0 tt) in
+        let here : Contains (map number_of members) m.number = (so_far.met m.number).0 (notes.told.0 refl) in
         let k = member_with members m.number here in
         let first : MeansField u m.number (read_of k.0.selection) = subst (λ n. MeansField u n (read_of k.0.selection)) k.1.1 (means_on t u grow k.0.number (read_of k.0.selection) (so_far.each k.0 k.1.0).number) in
         record {
@@ -177,7 +166,7 @@ where
     passed_first : NotesNode old m.number begun false new → AreAdded u new begun nodes (xs ++ x ∷ []) (numbers ++ m.number ∷ []) (members ++ m ∷ [])
     passed_first notes =
         let more : map number_of (members ++ m ∷ []) ≡ map number_of members ++ m.number ∷ [] = map-append number_of members (m ∷ []) in
-        let absent : Contains (map number_of members) m.number → ⊥ = λ c. absurd (notes.told.1 ((so_far.met m.number).1 c)) in
+        let absent : Contains (map number_of members) m.number → ⊥ = λ c. true≢false (sym (notes.told.1 ((so_far.met m.number).1 c))) in
         record {
           numbers = zipped;
           members = subst (λ l. AreMembers l (members ++ m ∷ [])) (sym one_longer) (added (fields_of xs) (field_of x) members so_far.members m (ap field_of is.selection) absent);

@@ -56,12 +56,12 @@ abbrev pub with_new : Bool → Member → List Member → List Member
 with_new is_repeated m ms = if is_repeated then ms else ms ++ m ∷ []
 
 -- of the node that was begun these fields were passed
-pub record AreAdded (t : Tables) (met : List ℕ) (begun : ℕ) (nodes : List SetNode) (passed : List FieldSelection) (numbers : List ℕ) (members : List Member) : Type 0 where
-  pub numbers : AllZip (λ n x. MeansField t n (read_of x)) numbers passed
-  pub members : AreMembers (fields_of passed) members
-  pub each : (m : Member) → Contains members m → IsMember t m.selection m.below m
-  pub below : (m : Member) → Contains members m → IsNodeBelow nodes (length nodes) (own_set m.selection) m.below
-  pub met : (n : ℕ) → (slice_get met n ≡ Some begun) ↔ Contains (map (λ (m : Member). m.number) members) n
+pub record AreAdded (t : Tables) (ms : List ℕ) (begun : ℕ) (vs : List SetNode) (xs : List FieldSelection) (ns : List ℕ) (us : List Member) : Type 0 where
+  pub numbers : AllZip (λ n x. MeansField t n (read_of x)) ns xs
+  pub members : AreMembers (fields_of xs) us
+  pub each : (m : Member) → Contains us m → IsMember t m.selection m.below m
+  pub below : (m : Member) → Contains us m → IsNodeBelow vs (length vs) (own_set m.selection) m.below
+  pub met : (n : ℕ) → (slice_get ms n ≡ Some begun) ↔ Contains (map (λ (m : Member). m.number) us) n
 
 abbrev pub HasAdded : FieldSets → List FieldSelection → NodeFields → Type 0
 HasAdded w passed v = AreAdded (tables_of w.numbers) (nodes_of w.numbers) w.begun (set_nodes w) passed v.numbers.items v.members.items

@@ -84,12 +84,12 @@ pub record AreStarts (fragments : Fragments Place) (nodes : List SetNode) (start
   pub each : (i n : ℕ) → slice_get starts i ≡ Some n → (f : NamedSet Place) × ((slice_get fragments i ≡ Some f) × IsNodeOf nodes n f.1)
 
 -- numbers and nodes are right, and no field was met in a node that is to come
-pub record AreNodes (s : Judged) (fragments : Fragments Place) (t : Tables) (met : List ℕ) (begun : ℕ) (nodes : List SetNode) (starts : List ℕ) : Type 0 where
+pub record AreNodes (s : Judged) (fragments : Fragments Place) (t : Tables) (ms : List ℕ) (begun : ℕ) (vs : List SetNode) (ns : List ℕ) : Type 0 where
   pub right : AreRight t
   pub judged : AreJudged s t.parts.parents
-  pub nodes : (i : ℕ) (v : SetNode) → slice_get nodes i ≡ Some v → IsNode t fragments nodes i v
-  pub starts : AreStarts fragments nodes starts
-  pub met : (n m : ℕ) → slice_get met n ≡ Some m → m ≤ begun
+  pub nodes : (i : ℕ) (v : SetNode) → slice_get vs i ≡ Some v → IsNode t fragments vs i v
+  pub starts : AreStarts fragments vs ns
+  pub met : (n m : ℕ) → slice_get ms n ≡ Some m → m ≤ begun
 
 abbrev pub AreSets : FieldSets → Type 0
 AreSets w = AreNodes (schema_in w) (fragments_in w) (tables_of w.numbers) (nodes_of w.numbers) w.begun (set_nodes w) (fragment_nodes w)

@@ -79,7 +79,7 @@ fn push_new<'doc>(
     member: Member<'doc>,
     is_repeated: bool,
 ) -> Result<(), AllocError>
-    ensures { OnOk result (members.new.items ≡ with_new is_repeated member members.old.items) }
+    ensures { OnOk result (members.new.items ≡ with_new is_repeated member.entry members.old.items) }
 {
     if is_repeated {
         return Ok(());
@@ -91,8 +91,8 @@ fn push_new<'doc>(
 impl<'doc> NodeFields<'doc> {
     /// Adds a field, which is a member unless its number is there.
     fn add(&mut self, member: Member<'doc>, is_repeated: bool) -> Result<(), AllocError>
-        ensures numbers { OnOk result (self.new.numbers.items ≡ self.old.numbers.items ++ member.number ∷ []) }
-        ensures members { OnOk result (self.new.members.items ≡ with_new is_repeated member self.old.members.items) }
+        ensures numbers { OnOk result (self.new.numbers.items ≡ self.old.numbers.items ++ member.entry.number ∷ []) }
+        ensures members { OnOk result (self.new.members.items ≡ with_new is_repeated member.entry self.old.members.items) }
     {
         self.numbers.push(member.number)?;
         push_new(&mut self.members, member, is_repeated)
@@ -175,7 +175,7 @@ impl<'doc> FieldSets<'doc> {
         requires below { IsFoundBelow self.old.nodes.items last (set_of field) field.below }
         ensures sets { AreSets self.new }
         ensures same { OnlyNumbers self.old self.new }
-        ensures added { OnOk result (PassesField self.old fields.old field.selection self.new fields.new) }
+        ensures added { OnOk result (PassesField self.old fields.old field.entry.selection self.new fields.new) }
     {
         let below = node_below(field.below, last);
         let set = self.number_below(below);
@@ -232,9 +232,10 @@ impl<'doc> FieldSets<'doc> {
         requires ready { IsReady self.old.nodes.items last found }
         ensures sets { AreSets self.new }
         ensures grown { NodesGrow self.old self.new }
-        ensures node { OnOk result (AddsNode self.old (set_at found) self.new) }
+        ensures node { OnOk result (AddsNode self.old (set_at found.entry) self.new) }
     {
-        self.begun = one_more(self.begun)?;
+        let begun = one_more(self.begun)?;
+        self.begun = begun;
         let fields = self.fields_of(&found.fields, last)?;
         let spreads = places_of(self.alloc, self.fragments, &found.spreads)?;
         let NodeFields { members, numbers } = fields;

@@ -41,12 +41,11 @@ loop-field-preserved c =
           (c.in_ok-add_field.ensures.added (xs ++ selections_in_order (take i fs)) (c.loop-field.invariant.added xs so_far));
     }
 
-pub returns-in_err-add_field : goal.returns-in_err-add_field
-returns-in_err-add_field c = record {
-  sets = c.add_field.ensures.sets;
-  same = only_on c.args.self.now c.loop-field.self c.add_field.new.self c.loop-field.invariant.same c.add_field.ensures.same;
-  added = tt;
-}
+pub returns-in_err-add_field-clause-sets : goal.returns-in_err-add_field-clause-sets
+returns-in_err-add_field-clause-sets c = c.add_field.ensures.sets
+
+pub returns-in_err-add_field-clause-same : goal.returns-in_err-add_field-clause-same
+returns-in_err-add_field-clause-same c = only_on c.args.self.now c.loop-field.self c.add_field.new.self c.loop-field.invariant.same c.add_field.ensures.same
 
 pub returns : goal.returns
 returns c =

@@ -8,11 +8,11 @@ use Rattle.rule_field_sets.proofs.Kept.{with_tables, noted_within, same_within}
 use Rattle.rule_field_sets.proofs.Passing.{number_is, node_is_there, place_is_there, node_is_below, both_ok, field_passed}
 use Rattle.rule_field_sets.proofs.field_sets.FieldSets.add_field.Goals as goal
 
-pub node_below-requires : goal.node_below-requires
-node_below-requires c = place_is_there (set_nodes c.args.self.now) c.args.last (set_of c.args.field) c.args.field.below c.requires.below
+pub node_below-below-requires : goal.node_below-below-requires
+node_below-below-requires c = place_is_there (set_nodes c.args.self.now) c.args.last (set_of c.args.field) c.args.field.below c.requires.below
 
-pub number_below-requires : goal.number_below-requires
-number_below-requires c =
+pub number_below-set-requires : goal.number_below-set-requires
+number_below-set-requires c =
     let nodes = set_nodes c.args.self.now in
     subst (λ (o : Option ℕ). MatchOption o (Unit {0}) (λ n. n < length nodes)) (sym c.node_below-below.ensures) (node_is_there nodes c.args.last (set_of c.args.field) c.args.field.below c.requires.below)
 
@@ -50,13 +50,12 @@ returns c =
       xs c.args.fields.now.numbers.items c.args.fields.now.members.items so_far b c.add.new.self.numbers.items c.add.new.self.members.items e.noted more_numbers more_members);
     }
 
-pub returns-in_err-member : goal.returns-in_err-member
-returns-in_err-member c =
+pub returns-in_err-member-clause-sets : goal.returns-in_err-member-clause-sets
+returns-in_err-member-clause-sets c =
     let w = c.args.self.now in
     let numbers = c.add_field.new.self in
-    record {
-      sets = with_tables (schema_in w) (fragments_in w) (tables_of w.numbers) (tables_of numbers) (nodes_of w.numbers) (nodes_of numbers) w.begun (set_nodes w) (fragment_nodes w)
-      c.add_field.ensures.grown c.add_field.ensures.right c.add_field.ensures.judged (same_within (nodes_of w.numbers) (nodes_of numbers) w.begun c.in_err-member.ensures.refused c.requires.sets.met) c.requires.sets;
-      same = record { schema = refl; fragments = refl; tables = c.add_field.ensures.grown; nodes = refl; starts = refl; begun = refl };
-      added = tt;
-    }
+    with_tables (schema_in w) (fragments_in w) (tables_of w.numbers) (tables_of numbers) (nodes_of w.numbers) (nodes_of numbers) w.begun (set_nodes w) (fragment_nodes w)
+    c.add_field.ensures.grown c.add_field.ensures.right c.add_field.ensures.judged (same_within (nodes_of w.numbers) (nodes_of numbers) w.begun c.in_err-member.ensures.refused c.requires.sets.met) c.requires.sets
+
+pub returns-in_err-member-clause-same : goal.returns-in_err-member-clause-same
+returns-in_err-member-clause-same c = record { schema = refl; fragments = refl; tables = c.add_field.ensures.grown; nodes = refl; starts = refl; begun = refl }

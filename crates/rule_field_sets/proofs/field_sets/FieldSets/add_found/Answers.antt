@@ -36,12 +36,11 @@ loop-next-smaller c =
     let popped : c.loop-next.found.items ≡ c.pop.new.self.items ++ c.in-Some.next ∷ [] = c.pop.ensures.items ∙ ap (λ o. c.pop.new.self.items ++ option_to_list o) c.in-Some.is in
     fewer_left (set_nodes c.loop-next.self) c.args.last c.args.found.now.items c.loop-next.found.items c.pop.new.self.items c.in-Some.next popped c.loop-next.invariant.left
 
-pub returns-in_err-add_node : goal.returns-in_err-add_node
-returns-in_err-add_node c = record {
-  sets = c.add_node.ensures.sets;
-  grown = nodes_on c.args.self.now c.loop-next.self c.add_node.new.self c.loop-next.invariant.grown c.add_node.ensures.grown;
-  node = tt;
-}
+pub returns-in_err-add_node-clause-sets : goal.returns-in_err-add_node-clause-sets
+returns-in_err-add_node-clause-sets c = c.add_node.ensures.sets
+
+pub returns-in_err-add_node-clause-grown : goal.returns-in_err-add_node-clause-grown
+returns-in_err-add_node-clause-grown c = nodes_on c.args.self.now c.loop-next.self c.add_node.new.self c.loop-next.invariant.grown c.add_node.ensures.grown
 
 pub returns : goal.returns
 returns c =

@@ -29,22 +29,25 @@ returns c =
       more = ap length pushed ∙ length_push (fragment_nodes w) n ∙ ap (λ l. length l + 1) grown.starts;
     }
 
-pub returns-in_err-start : goal.returns-in_err-start
-returns-in_err-start c = record { sets = c.add_nodes.ensures.sets; grown = nodes_sets c.args.self.now c.add_nodes.new.self c.add_nodes.ensures.grown; more = tt }
+pub returns-in_err-start-clause-sets : goal.returns-in_err-start-clause-sets
+returns-in_err-start-clause-sets c = c.add_nodes.ensures.sets
 
-pub returns-in_err-push : goal.returns-in_err-push
-returns-in_err-push c =
-    let a = c.args.self.now in
+pub returns-in_err-start-clause-grown : goal.returns-in_err-start-clause-grown
+returns-in_err-start-clause-grown c = nodes_sets c.args.self.now c.add_nodes.new.self c.add_nodes.ensures.grown
+
+pub returns-in_err-push-clause-sets : goal.returns-in_err-push-clause-sets
+returns-in_err-push-clause-sets c =
     let w = c.add_nodes.new.self in
+    subst (AreNodes (schema_in w) (fragments_in w) (tables_of w.numbers) (nodes_of w.numbers) w.begun (set_nodes w)) (sym c.in_err-push.ensures.items) c.add_nodes.ensures.sets
+
+pub returns-in_err-push-clause-grown : goal.returns-in_err-push-clause-grown
+returns-in_err-push-clause-grown c =
+    let a = c.args.self.now in
     let grown = c.add_nodes.ensures.grown in
     record {
-      sets = subst (AreNodes (schema_in w) (fragments_in w) (tables_of w.numbers) (nodes_of w.numbers) w.begun (set_nodes w)) (sym c.in_err-push.ensures.items) c.add_nodes.ensures.sets;
-      grown = record {
-        schema = grown.schema;
-        fragments = grown.fragments;
-        tables = grown.tables;
-        nodes = grown.nodes;
-        starts = grows_same (fragment_nodes a) c.push.new.self.items (c.in_err-push.ensures.items ∙ grown.starts);
-      };
-      more = tt;
+      schema = grown.schema;
+      fragments = grown.fragments;
+      tables = grown.tables;
+      nodes = grown.nodes;
+      starts = grows_same (fragment_nodes a) c.push.new.self.items (c.in_err-push.ensures.items ∙ grown.starts);
     }
