@@ -15,3 +15,4 @@ pub mod Passing
 pub mod Putting
 pub mod Among
 pub mod NextFragment
+pub mod NoNodes
