@@ -1,17 +1,18 @@
 -- Lists that are kept: those of a pair, and longer ones.
-use Rattle.std.proofs.Common.{◌≡◌, ◌⊎◌, ◌∙◌, ℕ, ◌<◌, ◌≤◌, min, max, Bool, true, false, cond, ◌==◌, List, [], ◌∷◌, ◌++◌, map, length, slice_get, Some, Result, Ok, Err, IfOk, OnErr, Contains, refl, sym, ap, ap₂, subst, append_assoc, arith, inl, inr, eq-eqb, ne_eqb}
+use Rattle.std.proofs.Common.{◌≡◌, ◌⊎◌, ◌∙◌, ℕ, ◌<◌, ◌≤◌, min, max, Bool, true, false, cond, ◌==◌, List, [], ◌∷◌, ◌++◌, map, length, get_or, slice_get, Some, Vec, Result, Ok, Err, IfOk, OnErr, Contains, refl, sym, ap, ap₂, subst, append_assoc, arith, inl, inr, eq-eqb, ne_eqb}
+use Rattle.std.specs.Global.{Global}
 use Rattle.std.specs.List.Sorted.{IsPermutation}
 use Rattle.std.proofs.lemmas.Bool.{cases_eq, cases_order}
 use Rattle.std.proofs.lemmas.List.Elements.{Contains-append_left, Contains-append_right, Contains-append_cases}
-use Rattle.std.proofs.lemmas.List.Sorted.{IsPermutation-refl, IsPermutation-sym, IsPermutation-map, IsPermutation-to_front, IsPermutation-append_left, IsPermutation-keeps, IsPermutation-cons}
+use Rattle.std.proofs.lemmas.List.Sorted.{IsPermutation-refl, IsPermutation-sym, IsPermutation-map, IsPermutation-to_front, IsPermutation-append_left}
 use Rattle.rule_cycle_search.specs.Paths.{HasNoRepeat}
 use Rattle.rule_cycle_search.proofs.Lists.{not_in_nil, Contains-cons, Contains-first}
 use Rattle.rule_number_lists.specs.NumberPairs.{KeepsPair}
 use Rattle.rule_number_lists.specs.NumberLists.{HaveSame, list_of, IsKeptFor, Keeps}
 use Rattle.rule_number_lists.proofs.Standing.{in_map, of_map, same_sym, same_trans, same_order}
 use Rattle.rule_number_lists.proofs.Few.{in_rest, no_longer, Differ, differ_cons, differ_order}
-use Rattle.rule_number_lists.proofs.Rising.{IsPutLast}
-use Rattle.rule_number_lists.proofs.Rows.{exchanged_two}
+use Rattle.rule_number_lists.proofs.Rising.{IsPutLast, items_of}
+use Rattle.rule_number_lists.proofs.Rows.{exchanged_two, with_first}
 
 -- ---- the list of a pair
 
@@ -29,8 +30,8 @@ short a b = elim (cases_eq a b) [
 
 pub not_empty : (a b : ℕ) → list_of (a, b) ≡ [] → ⊥
 not_empty a b none = elim (cases_eq a b) [
-  | inl e ↦ let no : ⊥ = omega (arith, ap length (sym (list_of-one a b e) ∙ none)) in no
-  | inr ne ↦ let no : ⊥ = omega (arith, ap length (sym (list_of-two a b ne) ∙ none)) in no
+  | inl e ↦ let never : ⊥ = omega (arith, ap length (sym (list_of-one a b e) ∙ none)) in never
+  | inr ne ↦ let never : ⊥ = omega (arith, ap length (sym (list_of-two a b ne) ∙ none)) in never
 ]
 
 -- its members are those of the pair
@@ -66,7 +67,7 @@ two_cases a b one other le (inr p) (inr q) (inr r) (inl s) = (omega (arith, le, 
 two_cases a b one other le (inr p) (inr q) (inr r) (inr s) = (omega (arith, le, p, q, r, s), omega (arith, le, p, q, r, s))
 
 -- lists of two pairs have the same members only where the pairs are the same
-pub same_pair : (p : ℕ × ℕ) (one other : ℕ) → p.1 ≤ p.0 → HaveSame (list_of p) (list_of (one, other)) → p ≡ (max one other, min one other)
+pub same_pair : (p : ℕ × ℕ) (one other : ℕ) → p.1 ≤ p.0 → HaveSame (list_of p) (list_of (one, other)) → p ≡ with_first (max one other) (min one other)
 same_pair p one other le same =
     let whole : HaveSame (p.0 ∷ p.1 ∷ []) (one ∷ other ∷ []) =
         same_trans (p.0 ∷ p.1 ∷ []) (list_of p) (one ∷ other ∷ []) (same_sym (list_of p) (p.0 ∷ p.1 ∷ []) (as_two p.0 p.1)) (same_trans (list_of p) (list_of (one, other)) (one ∷ other ∷ []) same (as_two one other)) in
@@ -75,26 +76,32 @@ same_pair p one other le same =
     let third = Contains-first one (other ∷ []) one refl in
     let fourth = in_rest one (other ∷ []) other (Contains-first other [] other refl) in
     let are = two_cases p.0 p.1 one other le (one_of one other p.0 ((whole p.0).0 first)) (one_of one other p.1 ((whole p.1).0 second)) (one_of p.0 p.1 one ((whole one).1 third)) (one_of p.0 p.1 other ((whole other).1 fourth)) in
-    ap₂ (λ a b. (a, b)) are.0 are.1
+    ap₂ with_first are.0 are.1
 
 turned : (one other : ℕ) → IsPermutation (list_of (one, other)) (list_of (max one other, min one other))
 turned one other = elim (cases_order one other) [
-  | inl e ↦ subst (λ p. IsPermutation (list_of (one, other)) (list_of p)) (pair one other (omega (arith, e)) (omega (arith, e))) (IsPermutation-refl (list_of (one, other)))
+  | inl e ↦ subst (λ (p : ℕ × ℕ). IsPermutation (list_of (one, other)) (list_of p)) (pair one other (omega (arith, e)) (omega (arith, e))) (IsPermutation-refl (list_of (one, other)))
   | inr apart ↦ elim apart [
     | inl lt ↦
         let back : IsPermutation (list_of (one, other)) (list_of (other, one)) =
-            subst (λ l. IsPermutation l (list_of (other, one))) (sym (list_of-two one other (λ e. let no : ⊥ = omega (arith, e, lt) in no)))
-            (subst (IsPermutation (one ∷ other ∷ [])) (sym (list_of-two other one (λ e. let no : ⊥ = omega (arith, e, lt) in no))) (exchanged_two one other [])) in
-        subst (λ p. IsPermutation (list_of (one, other)) (list_of p)) (pair other one (omega (arith, lt)) (omega (arith, lt))) back
-    | inr gt ↦ subst (λ p. IsPermutation (list_of (one, other)) (list_of p)) (pair one other (omega (arith, gt)) (omega (arith, gt))) (IsPermutation-refl (list_of (one, other)))
+            subst (λ l. IsPermutation l (list_of (other, one))) (sym (list_of-two one other (λ e. let never : ⊥ = omega (arith, e, lt) in never)))
+            (subst (IsPermutation (one ∷ other ∷ [])) (sym (list_of-two other one (λ e. let never : ⊥ = omega (arith, e, lt) in never))) (exchanged_two one other [])) in
+        subst (λ (p : ℕ × ℕ). IsPermutation (list_of (one, other)) (list_of p)) (pair other one (omega (arith, lt)) (omega (arith, lt))) back
+    | inr gt ↦ subst (λ (p : ℕ × ℕ). IsPermutation (list_of (one, other)) (list_of p)) (pair one other (omega (arith, gt)) (omega (arith, gt))) (IsPermutation-refl (list_of (one, other)))
   ]
 ]
   where
-    pair : (a b : ℕ) → a ≡ max one other → b ≡ min one other → (a, b) ≡ (max one other, min one other)
-    pair a b p q = ap₂ (λ x y. (x, y)) p q
+    pair : (a b : ℕ) → a ≡ max one other → b ≡ min one other → with_first a b ≡ with_first (max one other) (min one other)
+    pair a b p q = ap₂ with_first p q
 
 in_order : (one other : ℕ) → IsKeptFor (list_of (one, other)) (list_of (max one other, min one other))
 in_order one other = (same_order (list_of (one, other)) (list_of (max one other, min one other)) (turned one other), λ _. turned one other)
+
+all_so : {X Y : Type 0} (f : X → Y) (Q : Y → Type 0) (xs : List X) → ((x : X) → Contains xs x → Q (f x)) → (y : Y) → Contains (map f xs) y → Q y
+all_so f Q xs all y c = let x = of_map f xs y c in subst Q x.1.1 (all x.0 x.1.0)
+
+pub all_long : (keys : List (Vec ℕ Global)) → ((v : Vec ℕ Global) → Contains keys v → 3 ≤ length v.items) → (l : List ℕ) → Contains (map items_of keys) l → 3 ≤ length l
+all_long keys = all_so items_of (λ (l : List ℕ). 3 ≤ length l) keys
 
 -- ---- lists of pairs, and longer ones behind them
 
@@ -107,7 +114,7 @@ module _ (pairs : List (ℕ × ℕ)) (longer : List (List ℕ)) where
           let p = of_map list_of pairs list a in
           let is = same_pair p.0 one other (ordered p.0 p.1.0) (subst (λ l. HaveSame l (list_of (one, other))) (sym p.1.1) same) in
           none (subst (Contains pairs) is p.1.0)
-      | inr b ↦ let no : ⊥ = omega (arith, long list b, no_longer list (list_of (one, other)) apart (λ x. (same x).0), short one other) in no
+      | inr b ↦ let never : ⊥ = omega (arith, long list b, no_longer list (list_of (one, other)) apart (λ x. (same x).0), short one other) in never
     ],
     (
       list_of (max one other, min one other),
@@ -128,7 +135,8 @@ module _ (pairs : List (ℕ × ℕ)) (longer : List (List ℕ)) where
     λ list c apart apart_too same. elim (Contains-append_cases (map list_of pairs) longer list c) [
       | inl a ↦
           let p = of_map list_of pairs list a in
-          let no : ⊥ = omega (arith, long, no_longer numbers list apart_too (λ x. (same x).1), short p.0.0 p.0.1, ap length p.1.1) in no
+          let few : length (list_of p.0) ≤ 2 = short p.0.0 p.0.1 in
+          let never : ⊥ = omega (arith, long, no_longer numbers list apart_too (λ x. (same x).1), few, ap length p.1.1) in never
       | inr b ↦ none list b apart apart_too same
     ],
     (
@@ -146,38 +154,47 @@ module _ (pairs : List (ℕ × ℕ)) (longer : List (List ℕ)) where
   )
 
 -- other numbers with the same members
-keep_same : (old new : List (List ℕ)) (xs ys : List ℕ) (is_new : Bool) → HaveSame xs ys → (HasNoRepeat ys → xs ≡ ys) → (xs ≡ [] → ⊥) → Keeps old xs is_new new → Keeps old ys is_new new
-keep_same old new xs ys true same equal some (none, (kept, (is, order))) = (
-  λ list c apart apart_too alike. none list c apart (subst HasNoRepeat (sym (equal apart_too)) apart_too) (same_trans list ys xs alike (same_sym xs ys same)),
-  (kept, (kept_for kept is, order)),
-)
-  where
-    kept_for : (list : List ℕ) → IsKeptFor xs list → IsKeptFor ys list
-    kept_for list (h, p) = (same_trans ys xs list (same_sym xs ys same) h, λ apart. subst (λ l. IsPermutation l list) (equal apart) (p (subst HasNoRepeat (sym (equal apart)) apart)))
-keep_same old new xs ys false same equal some (inl none, is) = absurd (some none)
-keep_same old new xs ys false same equal some (inr (list, (there, (h, p))), is) =
-    (inr (list, (there, (same_trans ys xs list (same_sym xs ys same) h, λ apart. subst (λ l. IsPermutation l list) (equal apart) (p (subst HasNoRepeat (sym (equal apart)) apart))))), is)
+module _ (xs ys : List ℕ) (same : HaveSame xs ys) (equal : HasNoRepeat ys → xs ≡ ys) (some : xs ≡ [] → ⊥) where
+  for_others : (list : List ℕ) → IsKeptFor xs list → IsKeptFor ys list
+  for_others list (h, p) = (same_trans ys xs list (same_sym xs ys same) h, λ apart. subst (λ l. IsPermutation l list) (equal apart) (p (subst HasNoRepeat (sym (equal apart)) apart)))
 
--- a list of two numbers, and of one
-pub keep_two : (old new : List (List ℕ)) (one other : ℕ) (is_new : Bool) → Keeps old (list_of (one, other)) is_new new → Keeps old (one ∷ other ∷ []) is_new new
-keep_two old new one other is_new = keep_same old new (list_of (one, other)) (one ∷ other ∷ []) is_new (as_two one other)
-    (λ apart. list_of-two one other (λ e. let z = apart 0 1 other (ap (λ a. Some a) e) refl in let no : ⊥ = omega (arith, z) in no)) (not_empty one other)
+  keep_same : (old new : List (List ℕ)) (is_new : Bool) → Keeps old xs is_new new → Keeps old ys is_new new
+  keep_same old new true (none, (kept, (is, order))) = (
+    λ list c apart apart_too alike. none list c apart (subst HasNoRepeat (sym (equal apart_too)) apart_too) (same_trans list ys xs alike (same_sym xs ys same)),
+    (kept, (for_others kept is, order)),
+  )
+  keep_same old new false (inl none, is) = absurd (some none)
+  keep_same old new false (inr (list, (there, is_for)), is) = (inr (list, (there, for_others list is_for)), is)
 
-pub keep_one : (old new : List (List ℕ)) (one : ℕ) (is_new : Bool) → Keeps old (list_of (one, one)) is_new new → Keeps old (one ∷ []) is_new new
-keep_one old new one is_new = subst (λ l. Keeps old l is_new new) (list_of-one one one refl)
+-- a list of two numbers
+keep_two : (old new : List (List ℕ)) (one other : ℕ) (is_new : Bool) → Keeps old (list_of (one, other)) is_new new → Keeps old (one ∷ other ∷ []) is_new new
+keep_two old new one other = keep_same (list_of (one, other)) (one ∷ other ∷ []) (as_two one other)
+    (λ apart. list_of-two one other (λ e. let z = apart 0 1 other (ap (λ a. Some a) e) refl in let never : ⊥ = omega (arith, z) in never)) (not_empty one other) old new
 
 -- no two of the lists have the same members, also after one that is new
 pub differ_more : (old new : List (List ℕ)) (numbers : List ℕ) → Differ old → ((l : List ℕ) → Contains old l → HasNoRepeat l) → HasNoRepeat numbers → Keeps old numbers true new → Differ new
 differ_more old new numbers differ each apart (none, (kept, (is, order))) =
     differ_order (kept ∷ old) new order (differ_cons kept old differ (λ k c same. none k c (each k c) apart (same_trans k kept numbers same (same_sym numbers kept is.0))))
 
+two_items : (xs : List ℕ) → 2 ≤ length xs → length xs < 3 → xs ≡ get_or xs 0 0 ∷ get_or xs 1 0 ∷ []
+two_items [] long short = absurd (omega (arith, long))
+two_items (x ∷ []) long short = absurd (omega (arith, long))
+two_items (x ∷ y ∷ []) long short = refl
+two_items (x ∷ y ∷ z ∷ rest) long short = absurd (omega (arith, short))
+
 -- ---- whatever comes of a call
 
-module _ {X : Type 0} where
-  pub on_ok : {E : Type 0} {P Q : X → Type 0} (r : Result X E) → ((x : X) → P x → Q x) → IfOk r P → IfOk r Q
-  on_ok (Ok x) f h = f x h
-  on_ok (Err e) f h = h
+module _ {E : Type 0} where
+  pub two_kept : (r : Result Bool E) (pairs new : List (ℕ × ℕ)) (longer : List (List ℕ)) (one other : ℕ) → ((p : ℕ × ℕ) → Contains pairs p → p.1 ≤ p.0) → ((l : List ℕ) → Contains longer l → 3 ≤ length l)
+      → IfOk r (λ is_new. KeepsPair pairs (max one other, min one other) is_new new) → IfOk r (λ is_new. Keeps (map list_of pairs ++ longer) (list_of (one, other)) is_new (map list_of new ++ longer))
+  two_kept (Ok is_new) pairs new longer one other ordered long h = two_keep pairs longer new one other is_new ordered long h
+  two_kept (Err e) pairs new longer one other ordered long h = h
 
-  pub on_err : {E P Q : Type 0} (r : Result X E) → (P → Q) → OnErr r P → OnErr r Q
-  on_err (Ok x) f h = h
-  on_err (Err e) f h = f h
+  pub two_refused : (r : Result Bool E) (pairs new : List (ℕ × ℕ)) (longer : List (List ℕ)) → OnErr r (new ≡ pairs) → OnErr r (map list_of new ++ longer ≡ map list_of pairs ++ longer)
+  two_refused (Ok is_new) pairs new longer h = h
+  two_refused (Err e) pairs new longer h = ap (λ ps. map list_of ps ++ longer) h
+
+  -- numbers that are two
+  pub both_kept : (r : Result Bool E) (old new : List (List ℕ)) (numbers items : List ℕ) → items ≡ numbers → 2 ≤ length items → length items < 3 → IfOk r (λ is_new. Keeps old (list_of (get_or items 0 0, get_or items 1 0)) is_new new) → IfOk r (λ is_new. Keeps old numbers is_new new)
+  both_kept (Ok is_new) old new numbers items same long short h = subst (λ l. Keeps old l is_new new) (sym (two_items items long short) ∙ same) (keep_two old new (get_or items 0 0) (get_or items 1 0) is_new h)
+  both_kept (Err e) old new numbers items same long short h = h

@@ -1,18 +1,18 @@
 -- Words of bits: where words without bits come to them, and where a bit of one is set.
-use Rattle.std.proofs.Common.{◌≡◌, ◌≢◌, ◌⊎◌, ◌∙◌, ℕ, ◌+◌, ◌-◌, ◌*◌, ◌/◌, ◌%◌, ◌^◌, ◌<◌, ◌≤◌, Bool, true, false, not, eqb, ◌==◌, List, [], ◌++◌, length, get_or, set, replicate, refl, sym, ap, subst, append_assoc, append-nil, arith, w64, bit_and, bit_or, inl, inr, get_or-set_same, get_or-set_other, mod-eq_of_lt, mod-lt, zero-lt-suc, pow_pos, shl_exact, one-mul, eq-eqb, ne_eqb, ne_of_gt}
+use Rattle.std.proofs.Common.{◌≡◌, ◌≢◌, ◌⊎◌, ◌∙◌, ℕ, ◌+◌, ◌-◌, ◌*◌, ◌/◌, ◌%◌, ◌^◌, ◌<◌, ◌≤◌, Bool, true, false, not, eqb, ◌==◌, List, [], ◌++◌, length, get_or, set, replicate, refl, sym, ap, subst, append_assoc, append-nil, arith, w64, bit_and, bit_or, inl, inr, get_or-set_same, get_or-set_other, mod-eq_of_lt, mod-lt, zero-lt-suc, pow_pos, shl_exact, one-mul, zero-mul, eq-eqb, ne_eqb}
 use Rattle.std.specs.Int.{bit_at}
 use Rattle.std.proofs.lemmas.Bool.{cases_lt, cases_eq}
 use Rattle.std.proofs.lemmas.List.{length-replicate, get_or-replicate, replicate-append-replicate, get_or_append_left, get_or-append_right, get_or_past}
 use Rattle.std.proofs.lemmas.Nat.Bits.{and_pow, bit_at_set_same, bit_at_set_other, bit_at-zero, bit_at-lt}
 
-pub zeros : (n k : ℕ) → get_or (replicate n 0) k 0 ≡ 0
+pub zeros : (n k : ℕ) → get_or {A = ℕ} (replicate n 0) k 0 ≡ 0
 zeros n k = elim (cases_lt k n) [
   | inl low ↦ get_or-replicate n k 0 0 low
-  | inr past ↦ get_or_past (replicate n 0) k 0 (omega (arith, past, length-replicate n 0))
+  | inr past ↦ get_or_past (replicate n 0) k 0 (omega (arith, past, length-replicate {A = ℕ} n 0))
 ]
 
 -- no words, behind however many
-pub no_words : (before k : ℕ) → get_or (replicate before 0 ++ []) k 0 ≡ 0
+pub no_words : (before k : ℕ) → get_or {A = ℕ} (replicate before 0 ++ []) k 0 ≡ 0
 no_words before k = ap (λ l. get_or l k 0) (append-nil (replicate before 0)) ∙ zeros before k
 
 -- words without bits at the end
@@ -33,10 +33,10 @@ more_before first before words le =
 
 -- a word that is kept, and one that is not
 pub at_kept : (before : ℕ) (words : List ℕ) (k : ℕ) → before ≤ k → get_or (replicate before 0 ++ words) k 0 ≡ get_or words (k - before) 0
-at_kept before words k le = get_or-append_right (replicate before 0) words before k 0 (length-replicate before 0) le
+at_kept before words k le = get_or-append_right (replicate before 0) words before k 0 (length-replicate {A = ℕ} before 0) le
 
 pub at_before : (before : ℕ) (words : List ℕ) (k : ℕ) → k < before → get_or (replicate before 0 ++ words) k 0 ≡ 0
-at_before before words k lt = get_or_append_left (replicate before 0) words 0 k (omega (arith, lt, length-replicate before 0)) ∙ get_or-replicate before k 0 0 lt
+at_before before words k lt = get_or_append_left (replicate before 0) words 0 k (omega (arith, lt, length-replicate {A = ℕ} before 0)) ∙ get_or-replicate before k 0 0 lt
 
 -- ---- one bit
 
@@ -45,7 +45,7 @@ abbrev pub one_bit : ℕ → ℕ
 one_bit k = 1 * 2 ^ k % 2 ^ 64
 
 one_bit_is : (k : ℕ) → k < 64 → one_bit k ≡ 2 ^ k
-one_bit_is k lt = shl_exact 1 k 64 (omega arith) (omega (arith, lt)) ∙ one-mul (2 ^ k)
+one_bit_is k lt = shl_exact {a = 1} 1 k 64 (omega arith) (omega (arith, lt)) ∙ one-mul (2 ^ k)
 
 pub no_bits : (k : ℕ) → (bit_at 0 k == 1) ≡ false
 no_bits k = ap (λ b. b == 1) (bit_at-zero k)
@@ -56,11 +56,11 @@ tested word k lt = ap (λ b. bit_and word b == 0) (one_bit_is k lt) ∙ ap (λ b
   where
     by : (b : ℕ) → b < 2 → (b * 2 ^ k == 0) ≡ not (b == 1)
     by b low = elim (cases_eq b 0) [
-      | inl none ↦ eq-eqb (b * 2 ^ k) 0 (ap (λ c. c * 2 ^ k) none ∙ omega arith) ∙ sym (ap (λ c. not (c == 1)) none)
+      | inl none ↦ eq-eqb (b * 2 ^ k) 0 (ap (λ c. c * 2 ^ k) none ∙ zero-mul (2 ^ k)) ∙ sym (ap (λ c. not (c == 1)) none)
       | inr some ↦
           let one : b ≡ 1 = omega (arith, low, some) in
           let more : 0 < b * 2 ^ k = subst (λ c. 0 < c * 2 ^ k) (sym one) (omega (arith, pow_pos k)) in
-          ne_eqb (b * 2 ^ k) 0 (λ e. let no : ⊥ = omega (arith, e, more) in no) ∙ sym (ap (λ c. not (c == 1)) one)
+          ne_eqb (b * 2 ^ k) 0 (λ e. let never : ⊥ = omega (arith, e, more) in never) ∙ sym (ap (λ c. not (c == 1)) one)
     ]
 
 -- ---- where the bit of a number is set

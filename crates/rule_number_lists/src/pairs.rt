@@ -11,7 +11,7 @@ pub struct NumberPairs {
 }
 
 impl NumberPairs {
-    ghost use Rattle.rule_number_lists.specs.NumberPairs.{pairs_kept, KeepsPair};
+    ghost use Rattle.rule_number_lists.specs.NumberPairs.{pairs_kept, KeepsPair, AreFew};
 
     /// None.
     pub fn new(alloc: Global) -> NumberPairs
@@ -26,6 +26,7 @@ impl NumberPairs {
     pub fn remember(&mut self, one: usize, other: usize) -> Result<bool, AllocError>
         ensures keeps { IfOk result (λ is_new. KeepsPair (pairs_kept self.old) (max one other, min one other) is_new (pairs_kept self.new)) }
         ensures refused { OnErr result (pairs_kept self.new ≡ pairs_kept self.old) }
+        ensures few { AreFew (pairs_kept self.new) }
     {
         let high = one.max(other);
         let low = one.min(other);
