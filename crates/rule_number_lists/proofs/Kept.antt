@@ -1,10 +1,10 @@
 -- Lists that are kept: those of a pair, and longer ones.
-use Rattle.std.proofs.Common.{◌≡◌, ◌⊎◌, ◌∙◌, ℕ, ◌<◌, ◌≤◌, min, max, Bool, true, false, cond, ◌==◌, List, [], ◌∷◌, ◌++◌, map, length, get_or, slice_get, Some, Vec, Result, Ok, Err, IfOk, OnErr, Contains, refl, sym, ap, ap₂, subst, append_assoc, arith, inl, inr, eq-eqb, ne_eqb}
+use Rattle.std.proofs.Common.{◌≡◌, ◌⊎◌, ◌∙◌, ℕ, ◌<◌, ◌≤◌, min, max, Bool, true, false, cond, List, [], ◌∷◌, ◌++◌, map, length, get_or, Some, Vec, Result, Ok, Err, IfOk, OnErr, Contains, refl, sym, ap, ap₂, subst, append_assoc, arith, inl, inr, eq-eqb, ne_eqb}
 use Rattle.std.specs.Global.{Global}
 use Rattle.std.specs.List.Sorted.{IsPermutation}
 use Rattle.std.proofs.lemmas.Bool.{cases_eq, cases_order}
 use Rattle.std.proofs.lemmas.List.Elements.{Contains-append_left, Contains-append_right, Contains-append_cases}
-use Rattle.std.proofs.lemmas.List.Sorted.{IsPermutation-refl, IsPermutation-sym, IsPermutation-map, IsPermutation-to_front, IsPermutation-append_left}
+use Rattle.std.proofs.lemmas.List.Sorted.{IsPermutation-refl, IsPermutation-sym, IsPermutation-map, IsPermutation-to_front, IsPermutation-append_left, Contains-permutation}
 use Rattle.rule_cycle_search.specs.Paths.{HasNoRepeat}
 use Rattle.rule_cycle_search.proofs.Lists.{not_in_nil, Contains-cons, Contains-first}
 use Rattle.rule_number_lists.specs.NumberPairs.{KeepsPair}
@@ -70,7 +70,7 @@ two_cases a b one other le (inr p) (inr q) (inr r) (inr s) = (omega (arith, le, 
 pub same_pair : (p : ℕ × ℕ) (one other : ℕ) → p.1 ≤ p.0 → HaveSame (list_of p) (list_of (one, other)) → p ≡ with_first (max one other) (min one other)
 same_pair p one other le same =
     let whole : HaveSame (p.0 ∷ p.1 ∷ []) (one ∷ other ∷ []) =
-        same_trans (p.0 ∷ p.1 ∷ []) (list_of p) (one ∷ other ∷ []) (same_sym (list_of p) (p.0 ∷ p.1 ∷ []) (as_two p.0 p.1)) (same_trans (list_of p) (list_of (one, other)) (one ∷ other ∷ []) same (as_two one other)) in
+    same_trans (p.0 ∷ p.1 ∷ []) (list_of p) (one ∷ other ∷ []) (same_sym (list_of p) (p.0 ∷ p.1 ∷ []) (as_two p.0 p.1)) (same_trans (list_of p) (list_of (one, other)) (one ∷ other ∷ []) same (as_two one other)) in
     let first = Contains-first p.0 (p.1 ∷ []) p.0 refl in
     let second = in_rest p.0 (p.1 ∷ []) p.1 (Contains-first p.1 [] p.1 refl) in
     let third = Contains-first one (other ∷ []) one refl in
@@ -84,8 +84,8 @@ turned one other = elim (cases_order one other) [
   | inr apart ↦ elim apart [
     | inl lt ↦
         let back : IsPermutation (list_of (one, other)) (list_of (other, one)) =
-            subst (λ l. IsPermutation l (list_of (other, one))) (sym (list_of-two one other (λ e. let never : ⊥ = omega (arith, e, lt) in never)))
-            (subst (IsPermutation (one ∷ other ∷ [])) (sym (list_of-two other one (λ e. let never : ⊥ = omega (arith, e, lt) in never))) (exchanged_two one other [])) in
+        subst (λ l. IsPermutation l (list_of (other, one))) (sym (list_of-two one other (λ e. let never : ⊥ = omega (arith, e, lt) in never)))
+        (subst (IsPermutation (one ∷ other ∷ [])) (sym (list_of-two other one (λ e. let never : ⊥ = omega (arith, e, lt) in never))) (exchanged_two one other [])) in
         subst (λ (p : ℕ × ℕ). IsPermutation (list_of (one, other)) (list_of p)) (pair other one (omega (arith, lt)) (omega (arith, lt))) back
     | inr gt ↦ subst (λ (p : ℕ × ℕ). IsPermutation (list_of (one, other)) (list_of p)) (pair one other (omega (arith, gt)) (omega (arith, gt))) (IsPermutation-refl (list_of (one, other)))
   ]
@@ -144,7 +144,7 @@ module _ (pairs : List (ℕ × ℕ)) (longer : List (List ℕ)) where
       (
         (same_order numbers kept order, λ _. order),
         subst (IsPermutation (kept ∷ (map list_of pairs ++ longer))) (append_assoc (map list_of pairs) longer (kept ∷ []) ∙ ap (λ l. map list_of pairs ++ l) (sym is))
-        (IsPermutation-sym ((map list_of pairs ++ longer) ++ kept ∷ []) (kept ∷ (map list_of pairs ++ longer)) (IsPermutation-to_front (map list_of pairs ++ longer) kept)),
+            (IsPermutation-sym ((map list_of pairs ++ longer) ++ kept ∷ []) (kept ∷ (map list_of pairs ++ longer)) (IsPermutation-to_front (map list_of pairs ++ longer) kept)),
       ),
     ),
   )
@@ -170,6 +170,28 @@ module _ (xs ys : List ℕ) (same : HaveSame xs ys) (equal : HasNoRepeat ys → 
 keep_two : (old new : List (List ℕ)) (one other : ℕ) (is_new : Bool) → Keeps old (list_of (one, other)) is_new new → Keeps old (one ∷ other ∷ []) is_new new
 keep_two old new one other = keep_same (list_of (one, other)) (one ∷ other ∷ []) (as_two one other)
     (λ apart. list_of-two one other (λ e. let z = apart 0 1 other (ap (λ a. Some a) e) refl in let never : ⊥ = omega (arith, z) in never)) (not_empty one other) old new
+
+-- ---- after a call
+
+module _ (old new : List (List ℕ)) (numbers : List ℕ) where
+  -- what was kept is kept
+  pub still_kept : (is_new : Bool) → Keeps old numbers is_new new → (l : List ℕ) → Contains old l → Contains new l
+  still_kept true (none, (kept, (is, order))) l c = Contains-permutation (kept ∷ old) new l order (in_rest kept old l c)
+  still_kept false (known, is) l c = subst (λ ls. Contains ls l) (sym is) c
+
+  -- a list is kept for the numbers, whether it is new or not
+  pub is_kept : (is_new : Bool) → Keeps old numbers is_new new → (numbers ≡ []) ⊎ ((list : List ℕ) × (Contains new list × IsKeptFor numbers list))
+  is_kept true (none, (kept, (is, order))) = inr (kept, (Contains-permutation (kept ∷ old) new kept order (Contains-first kept old kept refl), is))
+  is_kept false (inl empty, is) = inl empty
+  is_kept false (inr (list, (there, is_for)), is) = inr (list, (subst (λ ls. Contains ls list) (sym is) there, is_for))
+
+  -- and nothing else
+  pub was_kept : (is_new : Bool) → Keeps old numbers is_new new → (l : List ℕ) → Contains new l → Contains old l ⊎ IsKeptFor numbers l
+  was_kept true (none, (kept, (is, order))) l c = elim (Contains-cons kept old l (Contains-permutation new (kept ∷ old) l (IsPermutation-sym (kept ∷ old) new order) c)) [
+    | inl e ↦ inr (subst (IsKeptFor numbers) e is)
+    | inr r ↦ inl r
+  ]
+  was_kept false (known, is) l c = inl (subst (λ ls. Contains ls l) is c)
 
 -- no two of the lists have the same members, also after one that is new
 pub differ_more : (old new : List (List ℕ)) (numbers : List ℕ) → Differ old → ((l : List ℕ) → Contains old l → HasNoRepeat l) → HasNoRepeat numbers → Keeps old numbers true new → Differ new

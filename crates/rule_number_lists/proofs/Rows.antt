@@ -7,7 +7,7 @@ use Rattle.std.proofs.lemmas.Bool.{cases_eq}
 use Rattle.std.proofs.lemmas.List.{length-map}
 use Rattle.std.proofs.lemmas.List.Elements.{filter_agree, Contains-append_left, Contains-append_right, Contains-append_cases}
 use Rattle.std.proofs.lemmas.List.FromFn.{length-range_with_len, get_or-range_with_len}
-use Rattle.std.proofs.lemmas.List.Sorted.{IsPermutation-refl, IsPermutation-sym, IsPermutation-trans, IsPermutation-cons, IsPermutation-map, IsPermutation-middle, IsPermutation-append_left, IsPermutation-append_right}
+use Rattle.std.proofs.lemmas.List.Sorted.{IsPermutation-refl, IsPermutation-sym, IsPermutation-trans, IsPermutation-cons, IsPermutation-map, IsPermutation-middle, IsPermutation-append_left, IsPermutation-append_right, Contains-permutation}
 use Rattle.rule_cycle_search.specs.Paths.{HasNoRepeat}
 use Rattle.rule_cycle_search.proofs.Lists.{not_in_nil, Contains-cons, Contains-first}
 use Rattle.rule_number_lists.specs.declared.bits.Bits.{Bits}
@@ -168,8 +168,8 @@ rows_more from [] i high low old new at lt is le is_out is_in same = absurd (ome
 rows_more from (r ∷ rows) zero high low old new at lt is le is_out is_in same =
     let here : from ≡ high = omega (arith, at) in
     let moved : IsPermutation (with_first high low ∷ pairs_of_row from r) (pairs_of_row from new) =
-        subst (λ h. IsPermutation (with_first high low ∷ pairs_of_row h r) (pairs_of_row h new)) (sym here)
-        (subst (λ o. IsPermutation (with_first high low ∷ pairs_of_row high o) (pairs_of_row high new)) (sym is) (row_more high low old new le is_out is_in same)) in
+    subst (λ h. IsPermutation (with_first high low ∷ pairs_of_row h r) (pairs_of_row h new)) (sym here)
+    (subst (λ o. IsPermutation (with_first high low ∷ pairs_of_row high o) (pairs_of_row high new)) (sym is) (row_more high low old new le is_out is_in same)) in
     IsPermutation-append_left (pairs_from (from + 1) rows) (with_first high low ∷ pairs_of_row from r) (pairs_of_row from new) moved
 rows_more from (r ∷ rows) (suc i) high low old new at lt is le is_out is_in same =
     let before = pairs_of_row from r in
@@ -259,6 +259,27 @@ module _ {E : Type 0} (r : Result Bool E) (was : List (ℕ × ℕ)) (rows : List
       by : (a : Result Bool E) → OnErr a (HaveSameBits old new) → OnErr a (pairs_from 0 (set rows high new) ≡ was)
       by (Ok is_new) h = h
       by (Err e) h = rows_stay 0 rows high high old new (omega arith) lt is (same_has old new h) ∙ same
+
+-- ---- after a call
+
+module _ (old new : List (ℕ × ℕ)) (pair : ℕ × ℕ) where
+  -- what was kept is kept
+  pub still_paired : (is_new : Bool) → KeepsPair old pair is_new new → (p : ℕ × ℕ) → Contains old p → Contains new p
+  still_paired true (none, order) p c = Contains-permutation (pair ∷ old) new p order (in_rest pair old p c)
+  still_paired false (there, is) p c = subst (λ ps. Contains ps p) (sym is) c
+
+  -- the pair is kept, whether it is new or not
+  pub is_paired : (is_new : Bool) → KeepsPair old pair is_new new → Contains new pair
+  is_paired true (none, order) = Contains-permutation (pair ∷ old) new pair order (Contains-first pair old pair refl)
+  is_paired false (there, is) = subst (λ ps. Contains ps pair) (sym is) there
+
+  -- and nothing else
+  pub was_paired : (is_new : Bool) → KeepsPair old pair is_new new → (p : ℕ × ℕ) → Contains new p → Contains old p ⊎ (pair ≡ p)
+  was_paired true (none, order) p c = elim (Contains-cons pair old p (Contains-permutation new (pair ∷ old) p (IsPermutation-sym (pair ∷ old) new order) c)) [
+    | inl e ↦ inr e
+    | inr r ↦ inl r
+  ]
+  was_paired false (there, is) p c = inl (subst (λ ps. Contains ps p) is c)
 
 -- ---- how many there can be
 

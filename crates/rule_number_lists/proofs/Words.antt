@@ -1,5 +1,5 @@
 -- Words of bits: where words without bits come to them, and where a bit of one is set.
-use Rattle.std.proofs.Common.{◌≡◌, ◌≢◌, ◌⊎◌, ◌∙◌, ℕ, ◌+◌, ◌-◌, ◌*◌, ◌/◌, ◌%◌, ◌^◌, ◌<◌, ◌≤◌, Bool, true, false, not, eqb, ◌==◌, List, [], ◌++◌, length, get_or, set, replicate, refl, sym, ap, subst, append_assoc, append-nil, arith, w64, bit_and, bit_or, inl, inr, get_or-set_same, get_or-set_other, mod-eq_of_lt, mod-lt, zero-lt-suc, pow_pos, shl_exact, one-mul, zero-mul, eq-eqb, ne_eqb}
+use Rattle.std.proofs.Common.{◌≡◌, ◌≢◌, ◌∙◌, ℕ, ◌-◌, ◌*◌, ◌/◌, ◌%◌, ◌^◌, ◌<◌, ◌≤◌, true, false, not, ◌==◌, List, [], ◌++◌, length, get_or, set, replicate, refl, sym, ap, subst, append_assoc, append-nil, arith, w64, bit_and, bit_or, inl, inr, get_or-set_same, get_or-set_other, mod-lt, zero-lt-suc, pow_pos, shl_exact, one-mul, zero-mul, eq-eqb, ne_eqb}
 use Rattle.std.specs.Int.{bit_at}
 use Rattle.std.proofs.lemmas.Bool.{cases_lt, cases_eq}
 use Rattle.std.proofs.lemmas.List.{length-replicate, get_or-replicate, replicate-append-replicate, get_or_append_left, get_or-append_right, get_or_past}
@@ -85,7 +85,7 @@ module _ (before : ℕ) (words : List ℕ) (number : ℕ) (above : before ≤ nu
         let other : n % 64 ≡ number % 64 → ⊥ = λ e. differ (omega (arith, e, same)) in
         let at_old : get_or (replicate before 0 ++ words) (n / 64) 0 ≡ get_or words place 0 = ap (λ k. get_or (replicate before 0 ++ words) k 0) same ∙ at_kept before words (number / 64) above in
         let at_new : get_or (replicate before 0 ++ now) (n / 64) 0 ≡ bit_or (get_or words place 0) (one_bit (number % 64)) =
-            ap (λ k. get_or (replicate before 0 ++ now) k 0) same ∙ at_kept before now (number / 64) above ∙ get_or-set_same words place (bit_or (get_or words place 0) (one_bit (number % 64))) 0 kept in
+        ap (λ k. get_or (replicate before 0 ++ now) k 0) same ∙ at_kept before now (number / 64) above ∙ get_or-set_same words place (bit_or (get_or words place 0) (one_bit (number % 64))) 0 kept in
         ap (λ w. bit_at w (n % 64) == 1) at_new ∙ ap (λ b. b == 1) (bit_at_set_other w64 (get_or words place 0) (number % 64) (mod-lt number (zero-lt-suc 63)) (n % 64) other)
         ∙ ap (λ w. bit_at w (n % 64) == 1) (sym at_old)
     | inr apart ↦ ap (λ w. bit_at w (n % 64) == 1) (elsewhere (n / 64) apart)

@@ -1,5 +1,5 @@
 -- Private: leads to `pairs_kept` of `specs/NumberPairs.antt`. A set of numbers that is kept as bits.
-use Rattle.std.specs.Prelude.{◌≡◌, ◌≢◌, ◌++◌, ℕ, ◌/◌, ◌%◌, ◌==◌, Bool, true, not, List, get_or, replicate}
+use Rattle.std.specs.Prelude.{◌≡◌, ◌≢◌, ◌++◌, ℕ, ◌/◌, ◌%◌, ◌==◌, Bool, true, not, get_or, replicate}
 use Rattle.std.specs.Int.{bit_at}
 use Rattle.rule_number_lists.specs.declared.bits.Bits.{Bits}
 

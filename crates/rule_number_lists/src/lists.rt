@@ -19,7 +19,10 @@ pub struct NumberLists {
 
 impl Drop for NumberLists {
     fn drop(self) {
-        let NumberLists { pairs: _, longer: _ } = self;
+        let NumberLists {
+            pairs: _,
+            longer: _,
+        } = self;
     }
 }
 
