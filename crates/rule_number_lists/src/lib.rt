@@ -1,7 +1,8 @@
 //! Lists and pairs of numbers, remembered by which numbers they have.
 //!
 //! For the layer above: a `NumberPairs` remembers pairs of numbers (`KeepsPair` of `specs/NumberPairs.antt`), a `NumberLists` lists
-//! of numbers (`Keeps` of `specs/NumberLists.antt`), in whatever order these stand. `proofs/Few.antt` says how many there can be, and
+//! of numbers (`Keeps` of `specs/NumberLists.antt`), in whatever order these stand. `proofs/Rows.antt` and `proofs/Kept.antt` say what
+//! is kept after a call and how many pairs there can be, `proofs/Few.antt` how long lists can be in all, and
 //! `proofs/Standing.antt` what lists of numbered things come to.
 #![tactic(auto)]
 
