@@ -1,0 +1,161 @@
+//! Selection sets without those selections, at any depth, of which nothing is told. What holds much is not inlined, so that a
+//! level of selections takes little stack.
+ghost use Rattle.std.specs.Prelude.{◌≡◌, IfOk, IsTrue, OnOk, None};
+ghost use Rattle.graphql_names.specs.Placed.{name_tree};
+ghost use Rattle.rule_document_ground.specs.in_schema.SchemaOf.{schema_tree};
+ghost use Rattle.document_typed_selections.specs.TypedTree.{typed_selection_tree, typed_set_tree};
+ghost use Rattle.document_typed_selections.specs.TypedParts.{bare_inline, typed_field_node, typed_inline_node};
+ghost use Rattle.document_meaning.specs.MeantTree.{meant, meant_of_set};
+ghost use Rattle.rule_selections.specs.Settled.{filled, with_left, LeavesBelow, LeavesOfTyped};
+ghost use Rattle.rule_selections.specs.Telling.{KeepsSelection, SettlesIfLeft};
+
+use crate::quiet::is_quiet;
+use document_typed_selections::{Field, InlineFragment, Selection, SelectionSet};
+use graphql_names::Node;
+use rule_uses::Schema;
+use std::alloc::{AllocError, Global};
+use tree_literals::NamedType;
+
+/// A selection by which a set on that type has some, and of which nothing is told: an inline fragment without anything.
+fn filler(alloc: Global, ty: &NamedType) -> Result<Selection, AllocError>
+    ensures { IfOk result (λ r. typed_selection_tree r ≡ bare_inline None (name_tree ty.now)) }
+{
+    let inline = InlineFragment::without_type_condition(alloc, ty.clone()?);
+    Ok(Selection::InlineFragment(Node::new(alloc, inline)?))
+}
+
+/// What is left of the whole set; but a set with a selection of which nothing is told, where nothing is left of some.
+fn filled(
+    alloc: Global,
+    whole: &SelectionSet,
+    left: SelectionSet,
+) -> Result<SelectionSet, AllocError>
+    ensures { IfOk result (λ r. meant_of_set (typed_set_tree r) ≡ filled (meant_of_set (typed_set_tree whole.now)) (meant_of_set (typed_set_tree left))) }
+{
+    if !left.is_empty() || whole.is_empty() {
+        return Ok(left);
+    }
+    let mut set = SelectionSet::new(alloc, whole.ty.clone()?);
+    set.push(filler(alloc, &whole.ty)?)?;
+    Ok(set)
+}
+
+/// The field with what is left of its set, where it stands.
+#[inline(never)]
+fn field_with(
+    alloc: Global,
+    field: &Node<Field>,
+    left: SelectionSet,
+) -> Result<Selection, AllocError>
+    ensures { IfOk result (λ r. meant (typed_selection_tree r) ≡ with_left (meant (typed_field_node field.now)) (meant_of_set (typed_set_tree left))) }
+{
+    let own = field.content();
+    let selection_set = filled(alloc, &own.selection_set, left)?;
+    let mut thin = own.clone()?;
+    thin.selection_set = selection_set;
+    Ok(Selection::Field(field.same_location(alloc, thin)?))
+}
+
+/// The inline fragment with what is left of its set, where it stands.
+#[inline(never)]
+fn inline_with(
+    alloc: Global,
+    inline: &Node<InlineFragment>,
+    left: SelectionSet,
+) -> Result<Selection, AllocError>
+    ensures { IfOk result (λ r. meant (typed_selection_tree r) ≡ with_left (meant (typed_inline_node inline.now)) (meant_of_set (typed_set_tree left))) }
+{
+    let mut thin = inline.content().clone()?;
+    thin.selection_set = left;
+    Ok(Selection::InlineFragment(inline.same_location(alloc, thin)?))
+}
+
+/// The selection with what is left of its set. A spread has none.
+#[inline(never)]
+#[tactic(auto, using(document_typed_selections::proofs::TypedTrees::typed_tree_rules))]
+fn selection_with(
+    alloc: Global,
+    selection: &Selection,
+    left: SelectionSet,
+) -> Result<Selection, AllocError>
+    ensures { IfOk result (λ r. meant (typed_selection_tree r) ≡ with_left (meant (typed_selection_tree selection.now)) (meant_of_set (typed_set_tree left))) }
+{
+    match selection {
+        Selection::Field(field) => field_with(alloc, field, left),
+        Selection::FragmentSpread(_) => selection.clone(),
+        Selection::InlineFragment(inline) => inline_with(alloc, inline, left),
+    }
+}
+
+/// Whether nothing is told of the selection of a set on that type, of whose own set this is left: nothing is left of that, and
+/// the selection itself is quiet.
+fn is_settled(
+    alloc: Global,
+    schema: &Schema,
+    ty: &NamedType,
+    selection: &Selection,
+    left: &SelectionSet,
+) -> Result<bool, AllocError>
+    ensures { IfOk result (λ b. IsTrue b → SettlesIfLeft (schema_tree schema.now) ty.now selection.now left.now) }
+{
+    if !left.is_empty() {
+        return Ok(false);
+    }
+    is_quiet(alloc, schema, ty, selection)
+}
+
+/// What is left of the set of a selection. A spread has none.
+#[cycle(thinning)]
+#[tactic(auto, using(document_typed_selections::proofs::TypedTrees::typed_tree_rules))]
+fn thinned_below(
+    alloc: Global,
+    schema: &Schema,
+    ty: &NamedType,
+    selection: &Selection,
+) -> Result<SelectionSet, AllocError>
+    ensures { IfOk result (λ r. LeavesBelow (schema_tree schema.now) (meant (typed_selection_tree selection.now)) (meant_of_set (typed_set_tree r))) }
+{
+    match selection {
+        Selection::Field(field) => thinned(alloc, schema, &field.content().selection_set),
+        Selection::FragmentSpread(_) => Ok(SelectionSet::new(alloc, ty.clone()?)),
+        Selection::InlineFragment(inline) => {
+            thinned(alloc, schema, &inline.content().selection_set)
+        }
+    }
+}
+
+/// Puts what stays of a selection of a set on that type last, unless nothing is told of it, and of all that it selects.
+#[cycle(thinning)]
+fn keep_unless_settled(
+    alloc: Global,
+    schema: &Schema,
+    ty: &NamedType,
+    selection: &Selection,
+    kept: &mut SelectionSet,
+) -> Result<(), AllocError>
+    ensures { OnOk result (KeepsSelection (schema_tree schema.now) ty.now selection.now kept.old kept.new) }
+{
+    let left = thinned_below(alloc, schema, ty, selection)?;
+    if is_settled(alloc, schema, ty, selection, &left)? {
+        return Ok(());
+    }
+    kept.push(selection_with(alloc, selection, left)?)?;
+    Ok(())
+}
+
+/// The set without those of its selections, at any depth, of which nothing is told: they break no rule whatever the variables,
+/// and neither they nor what they select enters a fragment on a type of its own. A field keeps some selection if it has any.
+#[cycle(thinning)]
+pub(crate) fn thinned(
+    alloc: Global,
+    schema: &Schema,
+    set: &SelectionSet,
+) -> Result<SelectionSet, AllocError>
+    ensures { IfOk result (λ r. LeavesOfTyped (schema_tree schema.now) (typed_set_tree set.now) (typed_set_tree r)) }
+{
+    let mut kept = SelectionSet::new(alloc, set.ty.clone()?);
+    for selection in &set.selections {
+        keep_unless_settled(alloc, schema, &set.ty, selection, &mut kept)?;
+    }
+    Ok(kept)
+}
