@@ -1,5 +1,5 @@
 -- Where others stand in for the fragments of a document, operations reach what is left of the same, but for selections that are settled.
-use Rattle.std.proofs.Common.{◌≡◌, ◌↔◌, ◌⊎◌, ◌∙◌, ℕ, List, [], refl, sym, ap, subst, inl, inr, Option, None, Some, Contains, true≢false, is_some}
+use Rattle.std.proofs.Common.{◌≡◌, ◌↔◌, ◌⊎◌, ◌∙◌, ℕ, true, List, [], refl, sym, ap, subst, inl, inr, Option, None, Some, Contains, true≢false, is_some}
 use Rattle.graphql_names.specs.Placed.{Place}
 use Rattle.schema_components.specs.Names.{Entries}
 use Rattle.schema_components.proofs.Places.{not_in_nil}
@@ -174,12 +174,12 @@ module _ (s : SchemaTree Place) (d : MeantDocument Place) (instead : Entries (Me
     -- what is reached with those that stand in is left of what is reached, or a filler
     pub reached_more : (y : Standing Place) → Closed (Contains start) (LeadsInto Other) y → MeetsMore y ⊎ IsFiller (member y)
     reached_more y (first c) = inl (y, (first c, stays_same s (member y)))
-    reached_more z (next {y} r leads) = elim (reached_more y r) [
-      | inl m ↦ elim (more_from m.0 y z m.1.1 leads) [
+    reached_more z (next {x} r leads) = elim (reached_more x r) [
+      | inl m ↦ elim (more_from m.0 x z m.1.1 leads) [
         | inl w ↦ inl (w.0, (next m.1.0 w.1.0, w.1.1))
         | inr k ↦ inr k
       ]
-      | inr k ↦ absurd (none_from y z k leads)
+      | inr k ↦ absurd (none_from x z k leads)
     ]
 
     -- it is reached, and settled: so it may be left out
