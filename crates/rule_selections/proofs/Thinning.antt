@@ -1,17 +1,23 @@
 -- How what is left of a set is put together, and what then stands in for a fragment.
 use Rattle.std.proofs.Common.{◌≡◌, ◌∙◌, ℕ, Bool, true, false, List, [], ◌∷◌, ◌++◌, map, refl, sym, ap, subst, inl, inr, None, Some, Contains, true≢false, is_some}
 use Rattle.std.proofs.lemmas.List.Elements.{Contains-append_right}
-use Rattle.graphql_names.specs.Placed.{Place, Placed, Text}
+use Rattle.std.specs.Option.{option_map}
+use Rattle.graphql_names.specs.Node.{content, place}
+use Rattle.graphql_names.specs.Placed.{Place, Text, name_tree}
+use Rattle.graphql_names.specs.declared.node.Node.{Node}
+use Rattle.tree_directives.specs.DirectiveTree.{directives_tree}
 use Rattle.schema_components.proofs.Places.{not_in_nil}
 use Rattle.schema_types.specs.SchemaTree.{SchemaTree}
 use Rattle.tree_type_members.specs.TypeSystemTree.{unplaced_field_definition}
-use Rattle.document_typed_selections.specs.TypedTree.{TypedSelection, TypedField, TypedSpread, TypedInline, TypedSet, typed_set, TypedSelections, no_typed, typed_then, typed_selections, typed_set_tree, set_type, set_selections, holds_none}
-use Rattle.document_typed_selections.specs.TypedParts.{and_then, set_and, typed_field, typed_inline, bare_inline}
+use Rattle.document_typed_selections.specs.TypedTree.{TypedSelection, TypedSet, typed_set, TypedSelections, no_typed, typed_then, typed_selections, typed_selection_tree, typed_set_tree, set_type, set_selections, holds_none}
+use Rattle.document_typed_selections.specs.TypedParts.{and_then, set_and, own_definition, typed_head, typed_field_node, typed_inline_node, bare_inline}
 use Rattle.document_typed_selections.specs.declared.selection.Field.{Field}
 use Rattle.document_typed_selections.specs.declared.selection.InlineFragment.{InlineFragment}
 use Rattle.document_typed_selections.specs.declared.selection.SelectionSet.{SelectionSet}
+use Rattle.document_typed_selections.specs.declared.selection.Selection.TheViews.{Field as Field', InlineFragment as InlineFragment'}
+use Rattle.document_typed_selections.proofs.TypedTrees.{typed_tree_field, typed_tree_inline}
 use Rattle.document_typed_operations.specs.TypedDocument.{TypedFragment}
-use Rattle.document_meaning.specs.MeantTree.{MeantSelection, MeantField, MeantSpread, MeantInline, MeantSet, meant_set, MeantSelections, no_meant, meant_then, members, meant, meant_of_set, meant_of_all}
+use Rattle.document_meaning.specs.MeantTree.{MeantSelection, MeantField, MeantInline, MeantSet, meant_set, MeantSelections, no_meant, meant_then, members, meant, meant_of_set, meant_of_all}
 use Rattle.rule_document_ground.specs.in_typing.DocumentView.{meant_by_fragment}
 use Rattle.rule_definitions.specs.Told.{PlacedFault}
 use Rattle.rule_definitions.proofs.Listing.{Gains}
@@ -44,21 +50,16 @@ filled_by_filler (typed_set t no_typed) left none some = absurd (true≢false so
 filled_by_filler (typed_set t (typed_then x xs)) (typed_set u no_typed) none some = refl
 filled_by_filler (typed_set t (typed_then x xs)) (typed_set u (typed_then y ys)) none some = absurd (true≢false (sym none))
 
--- the meaning of a selection there, with this set
-abbrev meant_with : Place → MeantSet Place → TypedSelection Place → MeantSelection Place
-meant_with p w (TypedField q d h v) = MeantField p (unplaced_field_definition d.it) h w
-meant_with p w (TypedSpread q n ds) = MeantSpread p n ds
-meant_with p w (TypedInline q c ds v) = MeantInline p c ds w
+-- a field, an inline fragment of the same parts, but for its set
+pub field_with : (n m : Node Field) (left : MeantSet Place) → place m ≡ place n → own_definition (content m) ≡ own_definition (content n) → typed_head (content m) ≡ typed_head (content n)
+    → meant_of_set (typed_set_tree (content m).selection_set) ≡ filled (meant_of_set (typed_set_tree (content n).selection_set)) left
+    → meant (typed_selection_tree (Field' m)) ≡ with_left (meant (typed_field_node n)) left
+field_with n m left at definition head set = ap meant (typed_tree_field m) ∙ (λ i. MeantField (at i) (unplaced_field_definition (definition i).it) (head i) (set i))
 
--- a copy of a field, of an inline fragment with another set
-pub field_with : (p : Place) (f copy : Field) (set : SelectionSet) (left : MeantSet Place) → typed_field None copy ≡ typed_field None f → meant_of_set (typed_set_tree set) ≡ filled (meant_of_set (typed_set_tree f.selection_set)) left
-    → meant (typed_field p (record copy { selection_set = set })) ≡ with_left (meant (typed_field p f)) left
-field_with p f copy set left same is =
-    ap (meant_with p (meant_of_set (typed_set_tree set))) same ∙ ap (λ (w : MeantSet Place). meant_with p w (typed_field None f)) is
-
-pub inline_with : (p : Place) (f copy : InlineFragment) (set : SelectionSet) → typed_inline None copy ≡ typed_inline None f
-    → meant (typed_inline p (record copy { selection_set = set })) ≡ with_left (meant (typed_inline p f)) (meant_of_set (typed_set_tree set))
-inline_with p f copy set same = ap (meant_with p (meant_of_set (typed_set_tree set))) same
+pub inline_with : (n m : Node InlineFragment) (left : SelectionSet) → place m ≡ place n → option_map name_tree (content m).type_condition ≡ option_map name_tree (content n).type_condition
+    → directives_tree (content m).directives ≡ directives_tree (content n).directives → (content m).selection_set ≡ left
+    → meant (typed_selection_tree (InlineFragment' m)) ≡ with_left (meant (typed_inline_node n)) (meant_of_set (typed_set_tree left))
+inline_with n m left at condition directives set = ap meant (typed_tree_inline m) ∙ (λ i. MeantInline (at i) (condition i) (directives i) (meant_of_set (typed_set_tree (set i))))
 
 -- ---- what is left of a set
 

@@ -14,7 +14,7 @@ use document_typed_selections::{Field, InlineFragment, Selection, SelectionSet};
 use graphql_names::Node;
 use rule_uses::Schema;
 use std::alloc::{AllocError, Global};
-use tree_literals::NamedType;
+use tree_literals::{NamedType, copies_of_three, copies_of_two};
 
 /// A selection by which a set on that type has some, and of which nothing is told: an inline fragment without anything.
 fn filler(alloc: Global, ty: &NamedType) -> Result<Selection, AllocError>
@@ -32,7 +32,10 @@ fn filled(
 ) -> Result<SelectionSet, AllocError>
     ensures { IfOk result (λ r. meant_of_set (typed_set_tree r) ≡ filled (meant_of_set (typed_set_tree whole.now)) (meant_of_set (typed_set_tree left))) }
 {
-    if !left.is_empty() || whole.is_empty() {
+    if whole.is_empty() {
+        return Ok(left);
+    }
+    if !left.is_empty() {
         return Ok(left);
     }
     let mut set = SelectionSet::new(alloc, whole.ty.clone()?);
@@ -51,8 +54,16 @@ fn field_with(
 {
     let own = field.content();
     let selection_set = filled(alloc, &own.selection_set, left)?;
-    let mut thin = own.clone()?;
-    thin.selection_set = selection_set;
+    let (definition, alias, name) = copies_of_three(&own.definition, &own.alias, &own.name)?;
+    let (arguments, directives) = copies_of_two(&own.arguments, &own.directives)?;
+    let thin = Field {
+        definition,
+        alias,
+        name,
+        arguments,
+        directives,
+        selection_set,
+    };
     Ok(Selection::Field(field.same_location(alloc, thin)?))
 }
 
@@ -65,8 +76,13 @@ fn inline_with(
 ) -> Result<Selection, AllocError>
     ensures { IfOk result (λ r. meant (typed_selection_tree r) ≡ with_left (meant (typed_inline_node inline.now)) (meant_of_set (typed_set_tree left))) }
 {
-    let mut thin = inline.content().clone()?;
-    thin.selection_set = left;
+    let own = inline.content();
+    let (type_condition, directives) = copies_of_two(&own.type_condition, &own.directives)?;
+    let thin = InlineFragment {
+        type_condition,
+        directives,
+        selection_set: left,
+    };
     Ok(Selection::InlineFragment(inline.same_location(alloc, thin)?))
 }
 
@@ -98,10 +114,10 @@ fn is_settled(
 ) -> Result<bool, AllocError>
     ensures { IfOk result (λ b. IsTrue b → SettlesIfLeft (schema_tree schema.now) ty.now selection.now left.now) }
 {
-    if !left.is_empty() {
-        return Ok(false);
+    if left.is_empty() {
+        return is_quiet(alloc, schema, ty, selection);
     }
-    is_quiet(alloc, schema, ty, selection)
+    Ok(false)
 }
 
 /// What is left of the set of a selection. A spread has none.

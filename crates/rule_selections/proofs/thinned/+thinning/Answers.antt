@@ -1,13 +1,21 @@
-use Rattle.std.proofs.Common.{◌<◌, ◌+◌, map, take, length, subst, ap, ◌∙◌, arith}
+use Rattle.std.proofs.Common.{inl, ◌<◌, ◌+◌, map, take, length, subst, ap, ◌∙◌, arith}
 use Rattle.std.proofs.lemmas.List.{take_all}
 use Rattle.graphql_names.specs.Placed.{name_tree}
 use Rattle.rule_document_ground.specs.in_schema.SchemaOf.{schema_tree}
 use Rattle.document_typed_selections.specs.TypedTree.{typed_set, no_typed, typed_selection_tree, typed_set_tree}
 use Rattle.document_typed_selections.proofs.TypedTrees.{typed_set_tree_out}
-use Rattle.document_meaning.specs.MeantTree.{meant}
+use Rattle.document_meaning.specs.MeantTree.{meant, meant_of_set}
 use Rattle.rule_definitions.proofs.Listing.{mapped_more}
+use Rattle.rule_selections.proofs.Leaving.{stays_with}
 use Rattle.rule_selections.proofs.Thinning.{IsLeft, left_none, left_more, left_all}
 use Rattle.rule_selections.proofs.thinned.+thinning.Goals as goal
+
+pub keep_unless_settled-returns : goal.keep_unless_settled-returns
+keep_unless_settled-returns size c =
+    let x = meant (typed_selection_tree c.args.selection.now) in
+    let y = typed_selection_tree c.in_ok-selection_with.field-0 in
+    let left = meant_of_set (typed_set_tree c.in_ok-left.left) in
+    inl (y, (c.in_ok-push.ensures.set, stays_with (schema_tree c.args.schema.now) x (meant y) left c.in_ok-left.ensures c.in_ok-selection_with.ensures))
 
 pub thinned-loop-selection-init : goal.thinned-loop-selection-init
 thinned-loop-selection-init size c =
