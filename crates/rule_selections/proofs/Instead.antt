@@ -1,4 +1,4 @@
--- Where others stand in for the fragments of a document, operations reach what is left of the same, but for selections that are settled.
+-- Where others replace the fragments of a document, operations reach what is left of the same, but for selections that are settled.
 use Rattle.std.proofs.Common.{◌≡◌, ◌↔◌, ◌⊎◌, ◌∙◌, ℕ, true, List, [], refl, sym, ap, subst, inl, inr, Option, None, Some, Contains, true≢false, is_some}
 use Rattle.graphql_names.specs.Placed.{Place}
 use Rattle.schema_components.specs.Names.{Entries}
@@ -24,7 +24,7 @@ use Rattle.rule_selections.specs.Steps.{MissesSubselection, ArgumentsOfBreak, Se
 use Rattle.rule_selections.specs.Typed.{ReachesTyped}
 use Rattle.rule_selections.specs.Settled.{filler, filled, emptied, enters_none, IsQuiet, IsSettled, Thins, StandsInFor, StandIn}
 use Rattle.rule_selections.proofs.Elsewhere.{member, at, to_members, of_members, Look, look, outline, outline_of, bare, placed}
-use Rattle.rule_selections.proofs.Leaving.{IsFiller, StaysAs, StaysIn, stays_same, set_left_of, set_stays_in, filled_of, stays_filled, look_stays, stays_typed, filler_typed, settled_quiet, set_settled}
+use Rattle.rule_selections.proofs.Leaving.{IsFiller, StaysAs, stays_same, set_left_of, set_stays_in, filled_of, stays_filled, look_stays, stays_typed, filler_typed, settled_quiet, set_settled}
 use Rattle.rule_selections.proofs.SameUses.{same_uses}
 use Rattle.rule_selections.proofs.WithoutVariables.{gives_none, given_well, taken_well, used_well, unnamed_in_arguments, unnamed_in_directives}
 
@@ -41,11 +41,11 @@ no_condition (MeantInline p None ds v) e = refl
 no_condition (MeantInline p (Some c) ds v) e = absurd (true≢false (sym e))
 
 module _ (s : SchemaTree Place) (d : MeantDocument Place) (instead : Entries (MeantFragment Place)) (in' : StandIn s d.fragments instead) where
-  -- the document with those that stand in
+  -- the document with the others
   abbrev pub Other : MeantDocument Place
   Other = record { anonymous = d.anonymous; named = d.named; fragments = instead }
 
-  -- what stands under a name there, stands in for what stands there in the document
+  -- what is under a name there replaces what is under it in the document
   pub stood_for : (n : List ℕ) (h : MeantFragment Place) → under n instead ≡ Some h → (g : MeantFragment Place) × ((under n d.fragments ≡ Some g) × StandsInFor s h g)
   stood_for n h is = by (under n d.fragments) refl
     where
@@ -61,7 +61,7 @@ module _ (s : SchemaTree Place) (d : MeantDocument Place) (instead : Entries (Me
   abbrev LeadsMore : Standing Place → Standing Place → Type 0
   LeadsMore x z = ((w : Standing Place) × (LeadsInto d x w × StaysAs s (member w) (member z))) ⊎ IsFiller (member z)
 
-  -- with those that stand in y leads to what is left of z; or z is settled
+  -- with the others y leads to what is left of z; or z is settled
   abbrev LeadsLess : Standing Place → Standing Place → Type 0
   LeadsLess y z = ((w : Standing Place) × (LeadsInto Other y w × StaysAs s (member z) (member w))) ⊎ IsSettled s z.parent z.it
 
@@ -164,14 +164,14 @@ module _ (s : SchemaTree Place) (d : MeantDocument Place) (instead : Entries (Me
   -- ---- what is reached
 
   module _ (start : List (Standing Place)) where
-    -- one is reached of which this is left; with those that stand in, what is left of this is reached
+    -- one is reached of which this is left; with the others, what is left of this is reached
     abbrev pub MeetsMore : Standing Place → Type 0
     MeetsMore y = (x : Standing Place) × (Closed (Contains start) (LeadsInto d) x × StaysAs s (member x) (member y))
 
     abbrev pub MeetsLess : Standing Place → Type 0
     MeetsLess x = (y : Standing Place) × (Closed (Contains start) (LeadsInto Other) y × StaysAs s (member x) (member y))
 
-    -- what is reached with those that stand in is left of what is reached, or a filler
+    -- what is reached with the others is left of what is reached, or a filler
     pub reached_more : (y : Standing Place) → Closed (Contains start) (LeadsInto Other) y → MeetsMore y ⊎ IsFiller (member y)
     reached_more y (first c) = inl (y, (first c, stays_same s (member y)))
     reached_more z (next {x} r leads) = elim (reached_more x r) [
@@ -186,7 +186,7 @@ module _ (s : SchemaTree Place) (d : MeantDocument Place) (instead : Entries (Me
     abbrev pub IsLeftOut : Standing Place → Type 0
     IsLeftOut x = Closed (Contains start) (LeadsInto d) x × IsSettled s x.parent x.it
 
-    -- of what is reached some is reached with those that stand in, or it is settled
+    -- of what is reached something is left that is reached with the others, or it is settled
     pub reached_less : (x : Standing Place) → Closed (Contains start) (LeadsInto d) x → MeetsLess x ⊎ IsSettled s x.parent x.it
     reached_less x (first c) = inl (x, (first c, stays_same s (member x)))
     reached_less z (next {x} r leads) = elim (reached_less x r) [
@@ -210,7 +210,7 @@ module _ (s : SchemaTree Place) (d : MeantDocument Place) (instead : Entries (Me
     without_condition x l = no_condition x.it (quiet x l).enters
 
     module _ (typed : ReachesTyped (meanings (plain s)) d o) where
-      -- what is reached with those that stand in is typed too
+      -- what is reached with the others is typed too
       pub reaches_typed : ReachesTyped (meanings (plain s)) Other o
       reaches_typed y r = elim (reached_more (own o) y r) [
         | inl m ↦ stays_typed s (meanings (plain s)) (member m.0) (member y) m.1.1 (typed m.0 m.1.0)

@@ -1,5 +1,5 @@
 -- What is left of selections and sets: it has a look as before, is typed as before, and what is not left is settled.
-use Rattle.std.proofs.Common.{◌≡◌, ◌⊎◌, ◌∙◌, ℕ, List, [], true, refl, sym, ap, subst, inl, inr, Option, None, Some, Contains, true≢false}
+use Rattle.std.proofs.Common.{◌≡◌, ◌⊎◌, ◌∙◌, ℕ, List, [], true, refl, sym, ap, subst, inl, inr, None, Some, Contains, true≢false}
 use Rattle.graphql_names.specs.Placed.{Place}
 use Rattle.tree_directives.specs.declared.directive_location.DirectiveLocation.TheVariants as location
 use Rattle.schema_components.proofs.Places.{not_in_nil, Contains-cons, Contains-first, Contains-rest}
@@ -7,7 +7,6 @@ use Rattle.schema_types.specs.SchemaTree.{SchemaTree}
 use Rattle.tree_operations.specs.SelectionTree.{FieldHead}
 use Rattle.document_meaning.specs.MeantTree.{Definition, MeantSelection, MeantField, MeantSpread, MeantInline, MeantSet, meant_set, MeantSelections, no_meant, meant_then}
 use Rattle.rule_document_ground.specs.in_typing.Meanings.{Meanings, inner_type}
-use Rattle.rule_document_ground.specs.in_typing.KeptSelections.{is_leaf}
 use Rattle.rule_document_ground.specs.in_typing.TypedByPlace.{IsTyped, IsSetOn, AreTyped}
 use Rattle.rule_document_definitions.specs.Selected.{InOperation}
 use Rattle.rule_document_ground.specs.Reach.{Member}

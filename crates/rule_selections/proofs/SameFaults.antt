@@ -18,7 +18,7 @@ use Rattle.rule_definitions.specs.Told.{PlacedFault}
 use Rattle.rule_document_definitions.specs.Fragments.{UndefinedFragmentAt, InvalidFragmentTargetAt, InvalidFragmentSpreadAt}
 use Rattle.rule_document_definitions.specs.PossibleTypes.{IsCompositeType, IsNotComposite, MayApply}
 use Rattle.rule_document_definitions.specs.Reached.{AtReached, AtReachedField, AtReachedFragment, ReachesFragment}
-use Rattle.rule_document_definitions.specs.Selected.{InOperation, Standing, StandingField, inline_condition, selection_location, selection_directives, spread_name, own}
+use Rattle.rule_document_definitions.specs.Selected.{InOperation, Standing, StandingField, inline_condition, spread_name, own}
 use Rattle.rule_document_definitions.specs.Selections.{SelectionsBreak}
 use Rattle.rule_document_definitions.specs.Told.{places_in}
 use Rattle.rule_document_definitions.specs.UsedVariables.{StandsInDirectives, StandsInArguments, StandsInSelection, IsUsedIn}

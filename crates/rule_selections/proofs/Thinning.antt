@@ -1,5 +1,5 @@
--- How what is left of a set is put together, and what then stands in for a fragment.
-use Rattle.std.proofs.Common.{◌≡◌, ◌∙◌, ℕ, Bool, true, false, List, [], ◌∷◌, ◌++◌, map, refl, sym, ap, subst, inl, inr, None, Some, Contains, true≢false, is_some}
+-- How what is left of a set is put together, and what then replaces a fragment.
+use Rattle.std.proofs.Common.{◌≡◌, ◌∙◌, ℕ, true, false, List, [], ◌∷◌, ◌++◌, map, refl, sym, ap, subst, inl, inr, None, Contains, true≢false}
 use Rattle.std.proofs.lemmas.List.Elements.{Contains-append_right}
 use Rattle.std.specs.Option.{option_map}
 use Rattle.graphql_names.specs.Node.{content, place}
@@ -22,7 +22,7 @@ use Rattle.rule_document_ground.specs.in_typing.DocumentView.{meant_by_fragment}
 use Rattle.rule_definitions.specs.Told.{PlacedFault}
 use Rattle.rule_definitions.proofs.Listing.{Gains}
 use Rattle.rule_selections.specs.Steps.{selects_none}
-use Rattle.rule_selections.specs.Settled.{filled, with_left, IsSettled, Thins, LeavesOf, Leaves, LeavesOfTyped, KeepsUnlessSettled, StandsInFor}
+use Rattle.rule_selections.specs.Settled.{filled, with_left, IsSettled, Thins, Leaves, LeavesOfTyped, KeepsUnlessSettled, StandsInFor}
 
 -- where nothing was told, nothing breaks
 pub nothing_breaks : {R : PlacedFault → Type 0} (old new : List PlacedFault) → Gains old new R → new ≡ [] → (f : PlacedFault) → R f → ⊥

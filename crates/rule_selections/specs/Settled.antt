@@ -1,5 +1,5 @@
--- Private: leads to `SelectionsBreak`. Fragments that stand in for those of a document: of what they leave out, at any depth, nothing is told, whatever the variables.
-use Rattle.std.specs.Prelude.{◌≡◌, ℕ, Bool, true, false, not, is_some, List, [], ◌∷◌, None, Some, ◌⊎◌}
+-- Private: leads to `SelectionsBreak`. Fragments that may replace those of a document: of what they leave out, at any depth, nothing is told, whatever the variables.
+use Rattle.std.specs.Prelude.{◌≡◌, ℕ, Bool, true, false, not, is_some, List, [], None, Some, ◌⊎◌}
 use Rattle.graphql_names.specs.Placed.{Place, node_tree}
 use Rattle.graphql_names.specs.declared.node.Node.{Node}
 use Rattle.schema_components.specs.Names.{Entries}
@@ -106,7 +106,7 @@ module _ (s : SchemaTree Place) where
   abbrev pub StandsInFor : MeantFragment Place → MeantFragment Place → Type 0
   StandsInFor h g = (emptied h ≡ emptied g) × LeavesOf g.set h.set
 
-  -- under each name stands what may stand in for the fragment of that name, and no more
+  -- under each name is what may replace the fragment of that name, and no more
   pub record StandIn (fragments instead : Entries (MeantFragment Place)) : Type 0 where
     pub there : (n : List ℕ) (g : MeantFragment Place) → under n fragments ≡ Some g → (h : MeantFragment Place) × ((under n instead ≡ Some h) × StandsInFor h g)
     pub absent : (n : List ℕ) → under n fragments ≡ None → under n instead ≡ None

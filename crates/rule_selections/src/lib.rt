@@ -5,8 +5,8 @@
 //! reaches in a document: `SelectionsBreak` under a schema, `GivenInBreaks` without one.
 //!
 //! What operations share is judged once: `settled_fragments` gives what replaces the fragments of a document (`StandIn` of
-//! `specs/Settled.antt`), each without those of its selections, at any depth, of which nothing is told, whatever the variables. So a
-//! walk from an operation does not meet them, and the same is told (`proofs/SameFaults.antt`).
+//! `specs/Settled.antt`), each without those of its selections, at any depth, of which nothing is told, whatever the variables.
+//! So a walk from an operation does not meet them, and the same is told (`proofs/SameFaults.antt`).
 //!
 //! Begin with `selections.rt`, then `fields.rt`; `settled.rt`, then `thinned.rt` and `quiet.rt`.
 #![tactic(auto)]

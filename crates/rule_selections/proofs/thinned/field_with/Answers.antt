@@ -1,6 +1,5 @@
-use Rattle.std.proofs.Common.{◌≡◌, ◌∙◌, ap, subst, rules}
+use Rattle.std.proofs.Common.{◌≡◌, ◌∙◌, ap, rules}
 use Rattle.graphql_names.specs.Node.{content}
-use Rattle.graphql_names.specs.declared.node.Node.{Node}
 use Rattle.graphql_names.proofs.Copies.{nodes-copies}
 use Rattle.tree_directives.specs.DirectiveTree.{argument_tree}
 use Rattle.document_typed_selections.specs.TypedTree.{typed_set_tree}
