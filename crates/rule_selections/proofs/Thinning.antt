@@ -108,20 +108,31 @@ module _ (s : SchemaTree Place) where
 
   pub left_more : (t : Text Place) (old all : List (MeantSelection Place)) (x : TypedSelection Place) (kept next : TypedSet Place) → all ≡ old ++ meant x ∷ [] → KeepsUnlessSettled s t.it x kept next → IsLeft t old kept → IsLeft t all next
   left_more t old all x kept next is (inl (y, (put, thin))) l =
-      subst (λ (v : TypedSet Place). IsLeft t all v) (sym put)
-      (type_after kept y ∙ l.0, subst (λ (w : MeantSelections Place). Leaves s t.it (members all) w) (sym (selections_after kept y))
-      (subst (λ (o : List (MeantSelection Place)). Leaves s t.it (members o) (and_last (meant_of_all (set_selections kept)) (meant y))) (sym is)
-      (leaves_one t.it old (meant_of_all (set_selections kept)) (meant x) (meant y) thin l.1)))
+      subst (λ (v : TypedSet Place). IsLeft t all v) (sym put) (
+        type_after kept y ∙ l.0,
+        subst (λ (w : MeantSelections Place). Leaves s t.it (members all) w) (sym (selections_after kept y))
+            (subst (λ (o : List (MeantSelection Place)). Leaves s t.it (members o) (and_last (meant_of_all (set_selections kept)) (meant y))) (sym is)
+            (leaves_one t.it old (meant_of_all (set_selections kept)) (meant x) (meant y) thin l.1)),
+      )
   left_more t old all x kept next is (inr (same, settled)) l =
-      subst (λ (v : TypedSet Place). IsLeft t all v) (sym same)
-      (l.0, subst (λ (o : List (MeantSelection Place)). Leaves s t.it (members o) (meant_of_all (set_selections kept))) (sym is)
-      (leaves_out t.it old (meant_of_all (set_selections kept)) (meant x) settled l.1))
+      subst (λ (v : TypedSet Place). IsLeft t all v) (sym same) (
+        l.0,
+        subst (λ (o : List (MeantSelection Place)). Leaves s t.it (members o) (meant_of_all (set_selections kept))) (sym is)
+            (leaves_out t.it old (meant_of_all (set_selections kept)) (meant x) settled l.1),
+      )
 
   -- of all that a set holds
   pub left_all : {X : Type 0} (tree : X → TypedSelection Place) (t : Text Place) (xs : List X) (v kept : TypedSet Place) → v ≡ typed_set t (typed_selections tree xs) → IsLeft t (map (λ x. meant (tree x)) xs) kept → LeavesOfTyped s v kept
-  left_all tree t xs v kept is l = subst (λ (v : TypedSet Place). LeavesOfTyped s v kept) (sym is)
-      (l.0, (meant_of_all (set_selections kept), (set_is kept ∙ ap (λ (u : Text Place). meant_set u.it (meant_of_all (set_selections kept))) l.0,
-      subst (λ (o : MeantSelections Place). Leaves s t.it o (meant_of_all (set_selections kept))) (members_are tree xs) l.1)))
+  left_all tree t xs v kept is l = subst (λ (v : TypedSet Place). LeavesOfTyped s v kept) (sym is) (
+    l.0,
+    (
+      meant_of_all (set_selections kept),
+      (
+        set_is kept ∙ ap (λ (u : Text Place). meant_set u.it (meant_of_all (set_selections kept))) l.0,
+        subst (λ (o : MeantSelections Place). Leaves s t.it o (meant_of_all (set_selections kept))) (members_are tree xs) l.1,
+      ),
+    ),
+  )
 
   -- ---- a fragment with what is left
 
