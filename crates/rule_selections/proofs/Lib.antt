@@ -13,3 +13,4 @@ pub mod Instead
 pub mod SameFaults
 pub mod Thinning
 pub mod Standing
+pub mod SetsWithin

@@ -8,7 +8,7 @@
 //! `specs/Settled.antt`), each without those of its selections, at any depth, of which nothing is told, whatever the variables.
 //! So a walk from an operation does not meet them, and the same is told (`proofs/SameFaults.antt`).
 //!
-//! Begin with `selections.rt`, then `fields.rt`; `settled.rt`, then `thinned.rt` and `quiet.rt`.
+//! Begin with `selections.rt`, then `fields.rt`; `settled.rt`, then `thinned.rt`, `within.rt` and `quiet.rt`.
 #![tactic(auto)]
 
 mod alone;
@@ -17,6 +17,7 @@ mod quiet;
 mod selections;
 mod settled;
 mod thinned;
+mod within;
 
 pub use alone::check_selections_alone;
 pub use selections::check_selections;

@@ -35,8 +35,6 @@ fn is_nothing(faults: &Vec<Fault>) -> bool
 
 /// Whether the selection itself, under that type, breaks no rule where there are no variables, and enters no fragment on a type
 /// of its own; what it selects is not judged. So it uses no variable, and breaks none in any operation.
-// It is not inlined, so that it takes no stack at each level of selections.
-#[inline(never)]
 pub(crate) fn is_quiet(
     alloc: Global,
     schema: &Schema,

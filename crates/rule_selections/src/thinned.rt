@@ -1,15 +1,17 @@
-//! Selection sets without those selections, at any depth, of which nothing is told. What holds much is not inlined, so that a
-//! level of selections takes little stack.
+//! Selection sets without those selections, at any depth, of which nothing is told. The sets within a set are thinned before it,
+//! without recursion, so it takes the same stack at any depth.
 ghost use Rattle.std.specs.Prelude.{◌≡◌, IfOk, IsTrue, OnOk, None};
 ghost use Rattle.graphql_names.specs.Placed.{name_tree};
 ghost use Rattle.rule_document_ground.specs.in_schema.SchemaOf.{schema_tree};
 ghost use Rattle.document_typed_selections.specs.TypedTree.{typed_selection_tree, typed_set_tree};
 ghost use Rattle.document_typed_selections.specs.TypedParts.{bare_inline, typed_field_node, typed_inline_node};
 ghost use Rattle.document_meaning.specs.MeantTree.{meant, meant_of_set};
-ghost use Rattle.rule_selections.specs.Settled.{filled, with_left, LeavesBelow, LeavesOfTyped};
-ghost use Rattle.rule_selections.specs.Telling.{KeepsSelection, SettlesIfLeft};
+ghost use Rattle.rule_selections.specs.Settled.{filled, with_left, LeavesOfTyped};
+ghost use Rattle.rule_selections.specs.Telling.{SettlesIfLeft};
+ghost use Rattle.rule_selections.specs.Within.{TakesBelow, TakesKept, TakesThinned, AreThinned};
 
 use crate::quiet::is_quiet;
+use crate::within::sets_within;
 use document_typed_selections::{Field, InlineFragment, Selection, SelectionSet};
 use graphql_names::Node;
 use rule_uses::Schema;
@@ -44,7 +46,6 @@ fn filled(
 }
 
 /// The field with what is left of its set, where it stands.
-#[inline(never)]
 fn field_with(
     alloc: Global,
     field: &Node<Field>,
@@ -68,7 +69,6 @@ fn field_with(
 }
 
 /// The inline fragment with what is left of its set, where it stands.
-#[inline(never)]
 fn inline_with(
     alloc: Global,
     inline: &Node<InlineFragment>,
@@ -87,7 +87,6 @@ fn inline_with(
 }
 
 /// The selection with what is left of its set. A spread has none.
-#[inline(never)]
 #[tactic(auto, using(document_typed_selections::proofs::TypedTrees::typed_tree_rules))]
 fn selection_with(
     alloc: Global,
@@ -120,38 +119,31 @@ fn is_settled(
     Ok(false)
 }
 
-/// What is left of the set of a selection. A spread has none.
-#[cycle(thinning)]
-#[tactic(auto, using(document_typed_selections::proofs::TypedTrees::typed_tree_rules))]
-fn thinned_below(
-    alloc: Global,
-    schema: &Schema,
-    ty: &NamedType,
-    selection: &Selection,
-) -> Result<SelectionSet, AllocError>
-    ensures { IfOk result (λ r. LeavesBelow (schema_tree schema.now) (meant (typed_selection_tree selection.now)) (meant_of_set (typed_set_tree r))) }
+/// What is left of the set of a selection, if it has one: the last of these. A spread has none.
+fn left_below(selection: &Selection, thin: &mut Vec<SelectionSet>) -> Option<SelectionSet>
+    ensures { TakesBelow selection.now result thin.old.items thin.new.items }
 {
-    match selection {
-        Selection::Field(field) => thinned(alloc, schema, &field.content().selection_set),
-        Selection::FragmentSpread(_) => Ok(SelectionSet::new(alloc, ty.clone()?)),
-        Selection::InlineFragment(inline) => {
-            thinned(alloc, schema, &inline.content().selection_set)
-        }
+    if selection.as_fragment_spread().is_some() {
+        return None;
     }
+    thin.pop()
 }
 
 /// Puts what stays of a selection of a set on that type last, unless nothing is told of it, and of all that it selects.
-#[cycle(thinning)]
 fn keep_unless_settled(
     alloc: Global,
     schema: &Schema,
     ty: &NamedType,
     selection: &Selection,
+    thin: &mut Vec<SelectionSet>,
     kept: &mut SelectionSet,
 ) -> Result<(), AllocError>
-    ensures { OnOk result (KeepsSelection (schema_tree schema.now) ty.now selection.now kept.old kept.new) }
+    ensures { OnOk result (TakesKept (schema_tree schema.now) ty.now selection.now thin.old.items thin.new.items kept.old kept.new) }
 {
-    let left = thinned_below(alloc, schema, ty, selection)?;
+    let Some(left) = left_below(selection, thin) else {
+        kept.push(selection.clone()?)?;
+        return Ok(());
+    };
     if is_settled(alloc, schema, ty, selection, &left)? {
         return Ok(());
     }
@@ -159,9 +151,41 @@ fn keep_unless_settled(
     Ok(())
 }
 
+/// What is left of a set. What is left of the sets of its selections is taken from these: that of the first one is the last.
+fn thinned_set(
+    alloc: Global,
+    schema: &Schema,
+    set: &SelectionSet,
+    thin: &mut Vec<SelectionSet>,
+) -> Result<SelectionSet, AllocError>
+    ensures { IfOk result (λ r. TakesThinned (schema_tree schema.now) set.now r thin.old.items thin.new.items) }
+{
+    let mut kept = SelectionSet::new(alloc, set.ty.clone()?);
+    for selection in &set.selections {
+        keep_unless_settled(alloc, schema, &set.ty, selection, thin, &mut kept)?;
+    }
+    Ok(kept)
+}
+
+/// What is left of sets, each of which comes before those within it. What is left within a set is taken into that, so at the
+/// end there is one for each that is in no other, the first one last.
+fn thinned_sets(
+    alloc: Global,
+    schema: &Schema,
+    sets: &[&SelectionSet],
+) -> Result<Vec<SelectionSet>, AllocError>
+    ensures { IfOk result (λ thin. AreThinned (schema_tree schema.now) sets.now thin.items) }
+{
+    let mut thin = Vec::new(alloc);
+    for index in (0..sets.len()).rev() {
+        let set = thinned_set(alloc, schema, sets[index], &mut thin)?;
+        thin.push(set)?;
+    }
+    Ok(thin)
+}
+
 /// The set without those of its selections, at any depth, of which nothing is told: they break no rule whatever the variables,
 /// and neither they nor what they select enters a fragment on a type of its own. A field keeps some selection if it has any.
-#[cycle(thinning)]
 pub(crate) fn thinned(
     alloc: Global,
     schema: &Schema,
@@ -169,9 +193,10 @@ pub(crate) fn thinned(
 ) -> Result<SelectionSet, AllocError>
     ensures { IfOk result (λ r. LeavesOfTyped (schema_tree schema.now) (typed_set_tree set.now) (typed_set_tree r)) }
 {
-    let mut kept = SelectionSet::new(alloc, set.ty.clone()?);
-    for selection in &set.selections {
-        keep_unless_settled(alloc, schema, &set.ty, selection, &mut kept)?;
+    let sets = sets_within(alloc, set)?;
+    let mut thin = thinned_sets(alloc, schema, &sets)?;
+    match thin.pop() {
+        Some(whole) => Ok(whole),
+        None => set.clone(),
     }
-    Ok(kept)
 }
