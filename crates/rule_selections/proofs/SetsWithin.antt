@@ -159,17 +159,17 @@ module _ (s : SchemaTree Place) where
   -- ---- what stays of a selection
 
   -- all of it
-  pub stays_whole : (ty : NameValue) (x copy : Selection) (below : Option SelectionSet) (old new : List SelectionSet) (kept then' : SelectionSet) → TakesBelow x below old new → typed_selection_tree copy ≡ typed_selection_tree x
-      → typed_set_tree then' ≡ set_and (typed_then (typed_selection_tree copy) no_typed) (typed_set_tree kept) → TakesKept s ty x old new kept then'
-  stays_whole ty x copy below old new kept then' takes same put more left = (
+  pub stays_whole : (ty : NameValue) (x copy : Selection) (below : Option SelectionSet) (old new : List SelectionSet) (kept after : SelectionSet) → TakesBelow x below old new → typed_selection_tree copy ≡ typed_selection_tree x
+      → typed_set_tree after ≡ set_and (typed_then (typed_selection_tree copy) no_typed) (typed_set_tree kept) → TakesKept s ty x old new kept after
+  stays_whole ty x copy below old new kept after takes same put more left = (
     inl (typed_selection_tree copy, (put, subst (λ (y : TypedSelection Place). Thins s (meant (typed_selection_tree x)) (meant y)) (sym same) (thins_same s (meant (typed_selection_tree x))))),
     (takes s more left).1,
   )
 
   -- what this comes to, where this is left of its set
-  pub stays_by : (ty : NameValue) (x : Selection) (below : Option SelectionSet) (w : SelectionSet) (old new : List SelectionSet) (kept then' : SelectionSet) → TakesBelow x below old new → below ≡ Some w
-      → (LeavesBelow s (meant (typed_selection_tree x)) (meant_of_set (typed_set_tree w)) → KeepsSelection s ty x kept then') → TakesKept s ty x old new kept then'
-  stays_by ty x below w old new kept then' takes is keeps more left = let both = subst (λ b. TakesBelow x b old new) is takes s more left in (keeps both.0, both.1)
+  pub stays_by : (ty : NameValue) (x : Selection) (below : Option SelectionSet) (w : SelectionSet) (old new : List SelectionSet) (kept after : SelectionSet) → TakesBelow x below old new → below ≡ Some w
+      → (LeavesBelow s (meant (typed_selection_tree x)) (meant_of_set (typed_set_tree w)) → KeepsSelection s ty x kept after) → TakesKept s ty x old new kept after
+  stays_by ty x below w old new kept after takes is keeps more left = let both = subst (λ b. TakesBelow x b old new) is takes s more left in (keeps both.0, both.1)
 
   -- ---- what is left of a set
 
@@ -181,16 +181,16 @@ module _ (s : SchemaTree Place) where
   pub none_yet : (t ty : NameValue) (all : List Selection) (start : List SelectionSet) (kept : SelectionSet) → typed_set_tree kept ≡ typed_set (name_tree ty) no_typed → ty ≡ t → IsTaken t all 0 start start kept
   none_yet t ty all start kept is same more left = (left_none s (name_tree t) (typed_set_tree kept) (is ∙ ap (λ n. typed_set (name_tree n) no_typed) same), left)
 
-  pub next_taken : (t : NameValue) (all : List Selection) (i : ℕ) (x : Selection) (start old new : List SelectionSet) (kept then' : SelectionSet) → i < length all → x ≡ get_or all i x
-      → TakesKept s t x old new kept then' → IsTaken t all i start old kept → IsTaken t all (i + 1) start new then'
-  next_taken t all i x start old new kept then' h at takes so_far more left =
+  pub next_taken : (t : NameValue) (all : List Selection) (i : ℕ) (x : Selection) (start old new : List SelectionSet) (kept after : SelectionSet) → i < length all → x ≡ get_or all i x
+      → TakesKept s t x old new kept after → IsTaken t all i start old kept → IsTaken t all (i + 1) start new after
+  next_taken t all i x start old new kept after h at takes so_far more left =
       let so = so_far more left in
       let rest = sets_of (drop (i + 1) all) in
       let here : sets_of (drop i all) ++ more ≡ own_sets (typed_selection_tree x) ++ (rest ++ more) =
       ap (λ l. sets_of l ++ more) (drop_more all i x h ∙ ap (λ y. y ∷ drop (i + 1) all) (sym at)) ∙ append_assoc (own_sets (typed_selection_tree x)) rest more in
       let both = takes (rest ++ more) (subst (λ l. AreLeft s l (thin_sets old)) here so.1) in (
         left_more s (name_tree t) (map (λ x. meant (typed_selection_tree x)) (take i all)) (map (λ x. meant (typed_selection_tree x)) (take (i + 1) all)) (typed_selection_tree x)
-            (typed_set_tree kept) (typed_set_tree then') (mapped_more (λ x. meant (typed_selection_tree x)) all i x h at) both.0 so.0,
+            (typed_set_tree kept) (typed_set_tree after) (mapped_more (λ x. meant (typed_selection_tree x)) all i x h at) both.0 so.0,
         both.1,
       )
 
@@ -209,8 +209,15 @@ module _ (s : SchemaTree Place) where
   none_within [] thin is = tt
   none_within (typed_set t ss ∷ roots) thin is = absurd (omega (arith, ap length is))
 
-  pub AreThinned-none : (sets : List (Bor SelectionSet)) (thin : List SelectionSet) → sets ≡ [] → AreThinned s sets thin
-  AreThinned-none sets thin empty roots is = none_within roots (thin_sets thin) (is ∙ ap typed_sets empty)
+  -- these were thinned, the last ones of all
+  abbrev pub LastThinned : (all left : List (Bor SelectionSet)) → List SelectionSet → Type 0
+  LastThinned all left thin = (last : List (Bor SelectionSet)) × ((all ≡ left ++ last) × AreThinned s last thin)
+
+  pub none_thinned : (sets : List (Bor SelectionSet)) (thin : List SelectionSet) → LastThinned sets sets thin
+  none_thinned sets thin = ([], (sym (append-nil sets), λ roots is. none_within roots (thin_sets thin) is))
+
+  pub all_thinned : (all left : List (Bor SelectionSet)) (thin : List SelectionSet) → length left ≡ 0 → LastThinned all left thin → AreThinned s all thin
+  all_thinned all left thin none (last, (is, thinned)) = subst (λ l. AreThinned s l thin) (sym (is ∙ ap (λ l. l ++ last) (nil_from_length left none))) thinned
 
   -- one more, before those within it
   thinned_before : (v : TypedSet Place) (rest : List (TypedSet Place)) (old new : List (TypedSet Place)) (w : TypedSet Place) → ((roots : List (TypedSet Place)) → flat_map within roots ≡ rest → AreLeft s roots old)
@@ -223,13 +230,15 @@ module _ (s : SchemaTree Place) where
       let taken = takes roots (so_far (sets_below v ++ roots) others) in
       (subst (λ (x : TypedSet Place). LeavesOfTyped s x w) (sym first) taken.0, taken.1)
 
-  pub one_thinned : (sets : List (Bor SelectionSet)) (k j : ℕ) (x : Bor SelectionSet) (old between new : List SelectionSet) (w : SelectionSet) → k < length sets → x ≡ get_or sets k x → j ≡ suc k
-      → TakesThinned s x.now w old between → new ≡ between ++ w ∷ [] → AreThinned s (drop j sets) old → AreThinned s (drop k sets) new
-  one_thinned sets k j x old between new w h at e takes push so_far roots is =
-      subst (AreLeft s roots) (sym (pushed typed_set_tree between new w push))
-      (thinned_before (typed_set_tree x.now) (typed_sets (drop (suc k) sets)) (thin_sets old) (thin_sets between) (typed_set_tree w)
-      (λ rs at'. so_far rs (at' ∙ ap (λ i. typed_sets (drop i sets)) (sym e))) takes roots
-      (is ∙ ap typed_sets (drop-cons sets k x h ∙ ap (λ (y : Bor SelectionSet). y ∷ drop (suc k) sets) (sym at))))
+  one_thinned : (sets : List (Bor SelectionSet)) (x : Bor SelectionSet) (old between new : List SelectionSet) (w : SelectionSet) → TakesThinned s x.now w old between → new ≡ between ++ w ∷ [] → AreThinned s sets old
+      → AreThinned s (x ∷ sets) new
+  one_thinned sets x old between new w takes push so_far roots is =
+      subst (AreLeft s roots) (sym (pushed typed_set_tree between new w push)) (thinned_before (typed_set_tree x.now) (typed_sets sets) (thin_sets old) (thin_sets between) (typed_set_tree w) so_far takes roots is)
+
+  pub next_thinned : (all left rest : List (Bor SelectionSet)) (x : Bor SelectionSet) (old between new : List SelectionSet) (w : SelectionSet) → left ≡ rest ++ x ∷ [] → TakesThinned s x.now w old between → new ≡ between ++ w ∷ []
+      → LastThinned all left old → LastThinned all rest new
+  next_thinned all left rest x old between new w was takes push (last, (is, thinned)) =
+      (x ∷ last, (is ∙ ap (λ l. l ++ last) was ∙ append_assoc rest (x ∷ []) last, one_thinned last x old between new w takes push thinned))
 
   -- the whole
   pub whole_thinned : (v : TypedSet Place) (sets : List (Bor SelectionSet)) (thin rest : List SelectionSet) (w : SelectionSet) → typed_sets sets ≡ within v → AreThinned s sets thin → thin ≡ rest ++ w ∷ [] → LeavesOfTyped s v (typed_set_tree w)

@@ -64,8 +64,8 @@ module _ (s : SchemaTree Place) where
   Takes vs old new Q = (more : List (TypedSet Place)) → AreLeft (vs ++ more) (thin_sets old) → Q × AreLeft more (thin_sets new)
 
   -- for a selection that stays, or is settled
-  abbrev pub TakesKept : NameValue → Selection → (old new : List SelectionSet) → (kept then' : SelectionSet) → Type 0
-  TakesKept ty selection old new kept then' = Takes (own_sets (typed_selection_tree selection)) old new (KeepsSelection s ty selection kept then')
+  abbrev pub TakesKept : NameValue → Selection → (old new : List SelectionSet) → (kept after : SelectionSet) → Type 0
+  TakesKept ty selection old new kept after = Takes (own_sets (typed_selection_tree selection)) old new (KeepsSelection s ty selection kept after)
 
   -- for what is left of a set
   abbrev pub TakesThinned : SelectionSet → SelectionSet → (old new : List SelectionSet) → Type 0

@@ -169,16 +169,16 @@ fn thinned_set(
 
 /// What is left of sets, each of which comes before those within it. What is left within a set is taken into that, so at the
 /// end there is one for each that is in no other, the first one last.
-fn thinned_sets(
+fn thinned_sets<'doc>(
     alloc: Global,
     schema: &Schema,
-    sets: &[&SelectionSet],
+    mut sets: Vec<&'doc SelectionSet>,
 ) -> Result<Vec<SelectionSet>, AllocError>
-    ensures { IfOk result (λ thin. AreThinned (schema_tree schema.now) sets.now thin.items) }
+    ensures { IfOk result (λ thin. AreThinned (schema_tree schema.now) sets.items thin.items) }
 {
     let mut thin = Vec::new(alloc);
-    for index in (0..sets.len()).rev() {
-        let set = thinned_set(alloc, schema, sets[index], &mut thin)?;
+    while let Some(next) = sets.pop() {
+        let set = thinned_set(alloc, schema, next, &mut thin)?;
         thin.push(set)?;
     }
     Ok(thin)
@@ -194,7 +194,7 @@ pub(crate) fn thinned(
     ensures { IfOk result (λ r. LeavesOfTyped (schema_tree schema.now) (typed_set_tree set.now) (typed_set_tree r)) }
 {
     let sets = sets_within(alloc, set)?;
-    let mut thin = thinned_sets(alloc, schema, &sets)?;
+    let mut thin = thinned_sets(alloc, schema, sets)?;
     match thin.pop() {
         Some(whole) => Ok(whole),
         None => set.clone(),

@@ -48,8 +48,8 @@ pub(crate) fn sets_within<'doc>(
 ) -> Result<Vec<&'doc SelectionSet>, AllocError>
     ensures { IfOk result (λ sets. typed_sets sets.items ≡ within (typed_set_tree set.now)) }
 {
-    let mut sets = Vec::new(alloc);
-    let mut waiting = Vec::new(alloc);
+    let mut sets: Vec<&'doc SelectionSet> = Vec::new(alloc);
+    let mut waiting: Vec<&'doc SelectionSet> = Vec::new(alloc);
     waiting.push(set)?;
     while let Some(next) = waiting.pop() {
         sets.push(next)?;
