@@ -1,5 +1,5 @@
 -- The sets within a set, and what is left of them, from the last to the first.
-use Rattle.std.proofs.Common.{◌≡◌, ◌∙◌, ◌++◌, ◌<◌, ◌≤◌, ◌+◌, ℕ, true, false, List, [], ◌∷◌, map, take, drop, suc, length, get_or, refl, ap, sym, subst, append-nil, append_assoc, length-append, arith, true≢false, inl, inr}
+use Rattle.std.proofs.Common.{◌≡◌, ◌∙◌, ◌++◌, ◌<◌, ◌≤◌, ◌+◌, ℕ, true, false, List, [], ◌∷◌, map, take, drop, suc, length, get_or, refl, ap, sym, subst, append-nil, append_assoc, length-append, arith, true≢false, inl}
 use Rattle.std.specs.Prelude.{Option, Some, None, MatchOption, flat_map, is_some, option_to_list}
 use Rattle.std.specs.Option.{option_map, option_copied}
 use Rattle.std.specs.Borrow.{Bor}
@@ -36,25 +36,19 @@ pushed tree old new x is = ap (last_first tree) is ∙ fold-append (λ vs y. tre
 
 -- ---- the set of a selection
 
-field_owns : (n : Node Field) (f : Field) (s : Selection) → s ≡ Field' n → f ≡ content n → typed_set_tree f.selection_set ∷ [] ≡ own_sets (typed_selection_tree s)
-field_owns n f s is of = ap (λ (g : Field). typed_set_tree g.selection_set ∷ []) of ∙ sym (ap own_sets (ap typed_selection_tree is ∙ typed_tree_field n))
-
-inline_owns : (n : Node InlineFragment) (f : InlineFragment) (s : Selection) → s ≡ InlineFragment' n → f ≡ content n → typed_set_tree f.selection_set ∷ [] ≡ own_sets (typed_selection_tree s)
-inline_owns n f s is of = ap (λ (g : InlineFragment). typed_set_tree g.selection_set ∷ []) of ∙ sym (ap own_sets (ap typed_selection_tree is ∙ typed_tree_inline n))
-
-pub field_pushed : (n : Node Field) (f : Field) (s : Selection) (old new : List (Bor SelectionSet)) (x : Bor SelectionSet) → s ≡ Field' n → f ≡ content n → x.now ≡ f.selection_set → new ≡ old ++ x ∷ []
+pub field_pushed : (n : Node Field) (s : Selection) (old new : List (Bor SelectionSet)) (x : Bor SelectionSet) → s ≡ Field' n → x.now ≡ (content {A = Field} n).selection_set → new ≡ old ++ x ∷ []
     → waiting_sets new ≡ own_sets (typed_selection_tree s) ++ waiting_sets old
-field_pushed n f s old new x is of own push =
+field_pushed n s old new x is own push =
     pushed (λ (v : Bor SelectionSet). typed_set_tree v.now) old new x push
     ∙ ap (λ v. typed_set_tree v ∷ waiting_sets old) own
-    ∙ ap (λ l. l ++ waiting_sets old) (field_owns n f s is of)
+    ∙ ap (λ l. l ++ waiting_sets old) (sym (ap own_sets (ap typed_selection_tree is ∙ typed_tree_field n)))
 
-pub inline_pushed : (n : Node InlineFragment) (f : InlineFragment) (s : Selection) (old new : List (Bor SelectionSet)) (x : Bor SelectionSet) → s ≡ InlineFragment' n → f ≡ content n → x.now ≡ f.selection_set → new ≡ old ++ x ∷ []
+pub inline_pushed : (n : Node InlineFragment) (s : Selection) (old new : List (Bor SelectionSet)) (x : Bor SelectionSet) → s ≡ InlineFragment' n → x.now ≡ (content {A = InlineFragment} n).selection_set → new ≡ old ++ x ∷ []
     → waiting_sets new ≡ own_sets (typed_selection_tree s) ++ waiting_sets old
-inline_pushed n f s old new x is of own push =
+inline_pushed n s old new x is own push =
     pushed (λ (v : Bor SelectionSet). typed_set_tree v.now) old new x push
     ∙ ap (λ v. typed_set_tree v ∷ waiting_sets old) own
-    ∙ ap (λ l. l ++ waiting_sets old) (inline_owns n f s is of)
+    ∙ ap (λ l. l ++ waiting_sets old) (sym (ap own_sets (ap typed_selection_tree is ∙ typed_tree_inline n)))
 
 -- ---- the sets of a set's selections
 

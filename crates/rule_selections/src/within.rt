@@ -1,11 +1,22 @@
 //! The sets within a set, at any depth, each before those within it. There is no recursion, so it takes the same stack at any
 //! depth.
-ghost use Rattle.std.specs.Prelude.{◌≡◌, ◌++◌, IfOk, OnOk};
+ghost use Rattle.std.specs.Prelude.{◌≡◌, ◌++◌, ◌∷◌, [], IfOk, OnOk};
 ghost use Rattle.document_typed_selections.specs.TypedTree.{typed_selection_tree, typed_set_tree};
 ghost use Rattle.rule_selections.specs.Within.{own_sets, sets_below, within, typed_sets, waiting_sets};
 
 use document_typed_selections::{Selection, SelectionSet};
 use std::alloc::{AllocError, Global};
+
+/// Puts a set last.
+fn push_set<'doc>(
+    set: &'doc SelectionSet,
+    sets: &mut Vec<&'doc SelectionSet>,
+) -> Result<(), AllocError>
+    ensures { OnOk result (sets.new.items ≡ sets.old.items ++ set ∷ []) }
+{
+    sets.push(set)?;
+    Ok(())
+}
 
 /// The set of a selection comes next. A spread has none.
 #[tactic(auto, using(document_typed_selections::proofs::TypedTrees::typed_tree_rules))]
@@ -16,15 +27,9 @@ fn push_own_set<'doc>(
     ensures { OnOk result (waiting_sets waiting.new.items ≡ own_sets (typed_selection_tree selection.now) ++ waiting_sets waiting.old.items) }
 {
     match selection {
-        Selection::Field(field) => {
-            waiting.push(&field.content().selection_set)?;
-            Ok(())
-        }
+        Selection::Field(field) => push_set(&field.content().selection_set, waiting),
         Selection::FragmentSpread(_) => Ok(()),
-        Selection::InlineFragment(inline) => {
-            waiting.push(&inline.content().selection_set)?;
-            Ok(())
-        }
+        Selection::InlineFragment(inline) => push_set(&inline.content().selection_set, waiting),
     }
 }
 
@@ -48,11 +53,11 @@ pub(crate) fn sets_within<'doc>(
 ) -> Result<Vec<&'doc SelectionSet>, AllocError>
     ensures { IfOk result (λ sets. typed_sets sets.items ≡ within (typed_set_tree set.now)) }
 {
-    let mut sets: Vec<&'doc SelectionSet> = Vec::new(alloc);
-    let mut waiting: Vec<&'doc SelectionSet> = Vec::new(alloc);
-    waiting.push(set)?;
+    let mut sets = Vec::new(alloc);
+    let mut waiting = Vec::new(alloc);
+    push_set(set, &mut waiting)?;
     while let Some(next) = waiting.pop() {
-        sets.push(next)?;
+        push_set(next, &mut sets)?;
         push_sets_below(next, &mut waiting)?;
     }
     Ok(sets)

@@ -8,17 +8,17 @@ use Rattle.rule_selections.proofs.SetsWithin.{begun, step_on, ended}
 use Rattle.rule_selections.proofs.within.sets_within.Goals as goal
 
 pub loop-next-init : goal.loop-next-init
-loop-next-init c = begun c.new-sets.result.items c.new-waiting.result.items c.push.new.self.items c.args.set c.new-sets.ensures.items c.new-waiting.ensures.items c.in_ok-push.ensures.items
+loop-next-init c = begun c.new-sets.result.items c.new-waiting.result.items c.push_set.new.sets.items c.args.set c.new-sets.ensures.items c.new-waiting.ensures.items c.in_ok-push_set.ensures
 
 pub loop-next-preserved : goal.loop-next-preserved
 loop-next-preserved c =
-    (step_on c.loop-next.waiting.items c.pop.new.self.items c.push_sets_below.new.waiting.items c.loop-next.sets.items c.push-2.new.self.items c.in-Some.next
-    (c.pop.ensures.items ∙ ap (λ o. c.pop.new.self.items ++ option_to_list o) c.in-Some.is) c.in_ok-push_sets_below.ensures c.in_ok-push-2.ensures.items).0 ∙ c.loop-next.invariant
+    (step_on c.loop-next.waiting.items c.pop.new.self.items c.push_sets_below.new.waiting.items c.loop-next.sets.items c.push_set-in-Some.new.sets.items c.in-Some.next
+    (c.pop.ensures.items ∙ ap (λ o. c.pop.new.self.items ++ option_to_list o) c.in-Some.is) c.in_ok-push_sets_below.ensures c.in_ok-push_set-in-Some.ensures).0 ∙ c.loop-next.invariant
 
 pub loop-next-smaller : goal.loop-next-smaller
 loop-next-smaller c =
-    (step_on c.loop-next.waiting.items c.pop.new.self.items c.push_sets_below.new.waiting.items c.loop-next.sets.items c.push-2.new.self.items c.in-Some.next
-    (c.pop.ensures.items ∙ ap (λ o. c.pop.new.self.items ++ option_to_list o) c.in-Some.is) c.in_ok-push_sets_below.ensures c.in_ok-push-2.ensures.items).1
+    (step_on c.loop-next.waiting.items c.pop.new.self.items c.push_sets_below.new.waiting.items c.loop-next.sets.items c.push_set-in-Some.new.sets.items c.in-Some.next
+    (c.pop.ensures.items ∙ ap (λ o. c.pop.new.self.items ++ option_to_list o) c.in-Some.is) c.in_ok-push_sets_below.ensures c.in_ok-push_set-in-Some.ensures).1
 
 pub returns : goal.returns
 returns c = ended c.loop-next.sets.items c.loop-next.waiting.items (c.pop.ensures.items) c.loop-next.invariant
