@@ -141,14 +141,14 @@ module _ (s : SchemaTree Place) where
   none_taken : (v : TypedSet Place) (old new : List SelectionSet) (Q : Type 0) → length old ≡ 0 → Takes s (v ∷ []) old new Q
   none_taken v old new Q none more left = absurd (subst (AreLeft s (v ∷ more)) (ap thin_sets (nil_from_length old none)) left)
 
-  pub left_popped : (x : TypedSelection Place) (old new : List SelectionSet) (r : Option SelectionSet) → is_some (as_typed_spread x) ≡ false → old ≡ new ++ option_to_list r
-      → MatchOption r ((length old ≡ 0) × (length new ≡ 0)) (λ w. length new + 1 ≡ length old)
+  pub left_popped : (x : TypedSelection Place) (old new : List SelectionSet) (r : Option SelectionSet) (n m : ℕ) → is_some (as_typed_spread x) ≡ false → old ≡ new ++ option_to_list r → length old ≡ n
+      → MatchOption r ((n ≡ 0) × (m ≡ 0)) (λ w. m + 1 ≡ n)
       → Takes s (own_sets x) old new (MatchOption r (Unit {0}) (λ left. LeavesBelow s (meant x) (meant_of_set (typed_set_tree left))))
-  left_popped (TypedField p d h v) old new None is was cases = none_taken v old new (Unit {0}) cases.0
-  left_popped (TypedField p d h v) old new (Some w) is was cases = some_taken v old new w was
-  left_popped (TypedSpread p n ds) old new r is was cases = absurd (true≢false is)
-  left_popped (TypedInline p c ds v) old new None is was cases = none_taken v old new (Unit {0}) cases.0
-  left_popped (TypedInline p c ds v) old new (Some w) is was cases = some_taken v old new w was
+  left_popped (TypedField p d h v) old new None n m is was long cases = none_taken v old new (Unit {0}) (long ∙ cases.0)
+  left_popped (TypedField p d h v) old new (Some w) n m is was long cases = some_taken v old new w was
+  left_popped (TypedSpread p k ds) old new r n m is was long cases = absurd (true≢false is)
+  left_popped (TypedInline p c ds v) old new None n m is was long cases = none_taken v old new (Unit {0}) (long ∙ cases.0)
+  left_popped (TypedInline p c ds v) old new (Some w) n m is was long cases = some_taken v old new w was
 
   -- ---- what stays of a selection
 

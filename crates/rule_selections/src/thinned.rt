@@ -174,7 +174,7 @@ fn thinned_sets<'doc>(
     schema: &Schema,
     mut sets: Vec<&'doc SelectionSet>,
 ) -> Result<Vec<SelectionSet>, AllocError>
-    ensures { IfOk result (λ thin. AreThinned (schema_tree schema.now) sets.items thin.items) }
+    ensures { IfOk result (λ thin. AreThinned (schema_tree schema.now) sets.entry.items thin.items) }
 {
     let mut thin = Vec::new(alloc);
     while let Some(next) = sets.pop() {

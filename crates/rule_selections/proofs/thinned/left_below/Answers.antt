@@ -1,4 +1,4 @@
-use Rattle.std.proofs.Common.{◌∙◌, sym, refl}
+use Rattle.std.proofs.Common.{◌∙◌, sym, refl, vec_len, arith}
 use Rattle.document_typed_selections.specs.TypedTree.{typed_selection_tree}
 use Rattle.rule_selections.proofs.SetsWithin.{is_spread, spread_takes, left_popped}
 use Rattle.rule_selections.proofs.thinned.left_below.Goals as goal
@@ -9,5 +9,5 @@ returns-then-is_some c =
     (is_spread (typed_selection_tree c.args.selection.now) c.as_fragment_spread.result c.as_fragment_spread.ensures ∙ sym c.is_some.ensures ∙ c.if-is_some.true) refl
 
 pub returns : goal.returns
-returns c = λ s. left_popped s (typed_selection_tree c.args.selection.now) c.args.thin.now.items c.pop.new.self.items c.pop.result
-    (is_spread (typed_selection_tree c.args.selection.now) c.as_fragment_spread.result c.as_fragment_spread.ensures ∙ sym c.is_some.ensures ∙ c.if-is_some.false) c.pop.ensures.items c.pop.ensures.cases
+returns c = λ s. left_popped s (typed_selection_tree c.args.selection.now) c.args.thin.now.items c.pop.new.self.items c.pop.result (vec_len c.args.thin.now) (vec_len c.pop.new.self)
+    (is_spread (typed_selection_tree c.args.selection.now) c.as_fragment_spread.result c.as_fragment_spread.ensures ∙ sym c.is_some.ensures ∙ c.if-is_some.false) c.pop.ensures.items (omega arith) c.pop.ensures.cases

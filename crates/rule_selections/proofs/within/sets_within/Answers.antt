@@ -19,6 +19,3 @@ pub loop-next-smaller : goal.loop-next-smaller
 loop-next-smaller c =
     (step_on c.loop-next.waiting.items c.pop.new.self.items c.push_sets_below.new.waiting.items c.loop-next.sets.items c.push_set-in-Some.new.sets.items c.in-Some.next
     (c.pop.ensures.items ∙ ap (λ o. c.pop.new.self.items ++ option_to_list o) c.in-Some.is) c.in_ok-push_sets_below.ensures c.in_ok-push_set-in-Some.ensures).1
-
-pub returns : goal.returns
-returns c = ended c.loop-next.sets.items c.loop-next.waiting.items (c.pop.ensures.items) c.loop-next.invariant
