@@ -1,5 +1,6 @@
 pub mod Cut
 pub mod Device
+pub mod HashedText
 pub mod NameSyntax
 pub mod TextPart
 pub mod NameText

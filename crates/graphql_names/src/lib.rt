@@ -22,6 +22,7 @@ mod node_laws;
 mod node_str;
 mod places;
 mod span;
+mod text_hash;
 mod text_part;
 mod text_part_calls;
 
@@ -32,4 +33,5 @@ pub use name::{InvalidNameError, Name, NameError};
 pub use node::Node;
 pub use node_str::NodeStr;
 pub use span::{FileId, SourceSpan};
+pub use text_hash::hash_text;
 pub use text_part::TextPart;

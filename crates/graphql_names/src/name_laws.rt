@@ -5,10 +5,11 @@ ghost use Rattle.std.specs.Cmp;
 ghost use Rattle.std.specs.Cmp.{on_equiv, on_total, on_per, on_po};
 ghost use Rattle.std.specs.Cmp.Lexicographic.{pointwise, slice_cmp, nat_list_eq_equiv, nat_list_cmp_total, texts_ties, texts_po};
 ghost use Rattle.std.specs.Cmp.Rules.{hashing};
-ghost use Rattle.std.specs.Hash as fed;
 ghost use Rattle.std.proofs.Common.{rules};
+ghost use Rattle.graphql_names.specs.HashedText.{hashed_text};
 
 use crate::name::Name;
+use crate::text_hash::hash_text;
 use std::cmp::Ordering;
 use std::fmt;
 use std::hash::{Hash, Hasher};
@@ -53,12 +54,12 @@ impl Ord for Name {
 }
 
 impl Hash for Name {
-    ghost hash_input = { λ n. fed.str n.text };
+    ghost hash_input = { λ n. hashed_text n.text };
 
     ghost respects_eq = { Prim.search (hashing, rules) };
 
     fn hash<H: Hasher>(&self, state: &mut H) {
-        self.as_str().hash(state);
+        hash_text(self.as_str(), state);
     }
 }
 

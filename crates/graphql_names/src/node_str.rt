@@ -6,11 +6,12 @@ ghost use Rattle.std.specs.Cmp;
 ghost use Rattle.std.specs.Cmp.{on_equiv, on_per};
 ghost use Rattle.std.specs.Cmp.Lexicographic.{pointwise, nat_list_eq_equiv};
 ghost use Rattle.std.specs.Cmp.Rules.{hashing};
-ghost use Rattle.std.specs.Hash as fed;
 ghost use Rattle.std.proofs.Common.{rules};
+ghost use Rattle.graphql_names.specs.HashedText.{hashed_text};
 ghost use Rattle.graphql_names.specs.Places.{is_built_in};
 
 use crate::span::{FileId, SourceSpan};
+use crate::text_hash::hash_text;
 use std::alloc::{AllocError, Global};
 use std::fmt;
 use std::hash::{Hash, Hasher};
@@ -145,12 +146,12 @@ impl Eq for NodeStr {
 }
 
 impl Hash for NodeStr {
-    ghost hash_input = { λ n. fed.str n.text };
+    ghost hash_input = { λ n. hashed_text n.text };
 
     ghost respects_eq = { Prim.search (hashing, rules) };
 
     fn hash<H: Hasher>(&self, state: &mut H) {
-        self.as_str().hash(state);
+        hash_text(self.as_str(), state);
     }
 }
 

@@ -42,3 +42,5 @@ pub mod Reflexive
 pub mod Elsewhere
 pub mod PlainFacts
 pub mod Merges
+pub mod WrittenFacts
+pub mod ReadFacts

@@ -31,4 +31,6 @@ pub mod Sharing
 pub mod PlainFields
 pub mod MergingLaws
 pub mod Equivalences
+pub mod Written
+pub mod ReadFields
 pub use Rattle.document_meaning.specs as in_document_meaning

@@ -3,6 +3,7 @@
 ghost use Rattle.rule_document_definitions.specs.Laws.{SameDocumentVerdict, SameBounds, SameFieldSetVerdict, SameVerdictAlone, MergesByContents, RulesWithoutPlaces, MergingWithoutPlaces, SetRulesWithoutPlaces, RulesAloneWithoutPlaces, BoundsWithoutPlaces, SetBoundsWithoutPlaces, ValidWhereNothingIsTold, MergesWhereNothingIsTold, SetValidWhereNothingIsTold, ValidAloneWhereNothingIsTold, WithinBoundsWhereNothingIsTold, SetWithinBoundsWhereNothingIsTold};
 ghost use Rattle.rule_document_definitions.specs.Equivalences.{ShapesAgreeAsEquals, SelectionsAgreeAsEquals};
 ghost use Rattle.rule_document_definitions.specs.MergingLaws.{SettledFieldsMerge, StandingFieldsMerge, GoingAgrees, GoingBreaks, LongChainsPassTheBound};
+ghost use Rattle.rule_document_definitions.specs.ReadFields.{ReadFieldsMerge};
 
 /// Documents that are equal, with their operations and fragments in the same order, get the same verdict under schemas that
 /// are equal with the same built in, and pass the same bounds, whatever the rules are. So do field sets and documents
@@ -50,6 +51,11 @@ pub fn settled_fields_merge()
 /// arguments, and all that starts stands with all that starts and goes together with it, the fields of an operation merge.
 pub fn standing_fields_merge()
     ensures { StandingFieldsMerge }
+{}
+
+/// The same where the lists have what merging reads of fields, and no more of them.
+pub fn read_fields_merge()
+    ensures { ReadFieldsMerge }
 {}
 
 /// Two fields of a list that chains lead to agree if the fields of the operation merge; and what is told of two that do not

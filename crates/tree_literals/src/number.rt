@@ -5,14 +5,15 @@ ghost use Rattle.std.specs.Cmp;
 ghost use Rattle.std.specs.Cmp.{on_equiv, on_per};
 ghost use Rattle.std.specs.Cmp.Lexicographic.{pointwise, nat_list_eq_equiv};
 ghost use Rattle.std.specs.Cmp.Rules.{hashing};
-ghost use Rattle.std.specs.Hash as fed;
 ghost use Rattle.std.specs.String.{string_bytes};
 ghost use Rattle.std.specs.Fmt.{signed_decimal};
 ghost use Rattle.std.specs.Option.{SomeIff};
 ghost use Rattle.std.proofs.Common.{rules};
+ghost use Rattle.graphql_names.specs.HashedText.{hashed_text};
 ghost use Rattle.tree_literals.specs.NumberSyntax.{is_int_value, is_float_value, IsIntValue, IsFloatValue, integer_value};
 
 use crate::number_parts::{digits_len, is_float_tail, is_natural, without_minus};
+use graphql_names::hash_text;
 use std::alloc::{AllocError, Global};
 use std::hash::{Hash, Hasher};
 use std::marker::Model;
@@ -162,12 +163,12 @@ impl Eq for IntValue {
 }
 
 impl Hash for IntValue {
-    ghost hash_input = { λ n. fed.str n.text };
+    ghost hash_input = { λ n. hashed_text n.text };
 
     ghost respects_eq = { Prim.search (hashing, rules) };
 
     fn hash<H: Hasher>(&self, state: &mut H) {
-        self.as_str().hash(state);
+        hash_text(self.as_str(), state);
     }
 }
 
@@ -196,11 +197,11 @@ impl Eq for FloatValue {
 }
 
 impl Hash for FloatValue {
-    ghost hash_input = { λ n. fed.str n.text };
+    ghost hash_input = { λ n. hashed_text n.text };
 
     ghost respects_eq = { Prim.search (hashing, rules) };
 
     fn hash<H: Hasher>(&self, state: &mut H) {
-        self.as_str().hash(state);
+        hash_text(self.as_str(), state);
     }
 }

@@ -1,0 +1,165 @@
+-- What merging reads of a field and of a selection set, as plain data: of the field its parent type, response key, name, arguments,
+-- the type of its definition and what its own set selects, of the set its fields and spreads, with those of its inline fragments
+-- where they stand (GraphQL, October 2021, section 5.3.2). No place and no directive is read, nor more of a definition.
+use Rattle.std.specs.Prelude.{◌≡◌, ◌⊎◌, ℕ, List, [], ◌∷◌, map, Some, unwrap_or, Contains}
+use Rattle.graphql_names.specs.Placed.{Place}
+use Rattle.tree_literals.specs.TypeTree.{TypeTree}
+use Rattle.tree_directives.specs.DirectiveTree.{Arguments, unplaced_arguments}
+use Rattle.tree_operations.specs.SelectionTree.{FieldHead}
+use Rattle.document_meaning.specs.in_components.Names.{Entries}
+use Rattle.document_meaning.specs.MeantTree.{Definition, MeantSelection, MeantField, MeantSpread, MeantInline, MeantSet, meant_set, MeantSelections, no_meant, meant_then, MeantOperation, MeantDocument}
+use Rattle.rule_definitions.specs.Judged.{Judged}
+use Rattle.rule_definitions.specs.in_schema_types.Addresses.{under}
+use Rattle.rule_document_definitions.specs.Selected.{StandingField}
+use Rattle.rule_document_definitions.specs.Reached.{Closed}
+use Rattle.rule_document_definitions.specs.SameValues.{SameArguments}
+use Rattle.rule_document_definitions.specs.Chains.{Merge}
+use Rattle.rule_document_definitions.specs.Merging.{IsAbstract, SameType, FieldsMerge}
+use Rattle.rule_document_definitions.specs.Settled.{IsSettledIn, StandWhere, StartsStand}
+use Rattle.rule_document_definitions.specs.Written.{spreads_written}
+
+-- a field without what it selects
+pub record ReadHead : Type 0 where
+  pub parent : List ℕ
+  pub key : List ℕ
+  pub name : List ℕ
+  pub arguments : Arguments (Unit {0})
+  pub ty : TypeTree (Unit {0})
+
+mutual
+  pub data ReadField : Type 0 where
+    read_field : ReadHead → ReadSet → ReadField
+
+  -- a set without selections, or one of these fields and spreads
+  pub data ReadSet : Type 0 where
+    nothing_read : ReadSet
+    read_set : ReadFields → List (List ℕ) → ReadSet
+
+  pub data ReadFields : Type 0 where
+    no_reads : ReadFields
+    read_then : ReadField → ReadFields → ReadFields
+
+-- ---- the parts
+
+abbrev pub head_of : ReadField → ReadHead
+head_of (read_field h s) = h
+
+abbrev pub set_of : ReadField → ReadSet
+set_of (read_field h s) = s
+
+abbrev pub listed : ReadFields → List ReadField
+listed no_reads = []
+listed (read_then f fs) = f ∷ listed fs
+
+abbrev pub joined : ReadFields → ReadFields → ReadFields
+joined no_reads gs = gs
+joined (read_then f fs) gs = read_then f (joined fs gs)
+
+-- the fields of a set, and the names of the fragments that it spreads
+abbrev pub fields_in : ReadSet → List ReadField
+fields_in nothing_read = []
+fields_in (read_set fs ns) = listed fs
+
+abbrev pub spreads_in : ReadSet → List (List ℕ)
+spreads_in nothing_read = []
+spreads_in (read_set fs ns) = ns
+
+-- ---- what is read
+
+abbrev pub head_read : {P : Type 0} → List ℕ → Definition → FieldHead P → ReadHead
+head_read t d h = record { parent = t; key = (unwrap_or h.alias h.name).it; name = h.name.it; arguments = unplaced_arguments h.arguments; ty = d.ty }
+
+-- a set, of which these are the fields
+abbrev pub whole_set : {P : Type 0} → MeantSet P → ReadFields → ReadSet
+whole_set (meant_set t no_meant) fs = nothing_read
+whole_set (meant_set t (meant_then s ss)) fs = read_set fs (spreads_written (meant_set t (meant_then s ss)))
+
+abbrev mutual
+  pub fields_read_at : {P : Type 0} → List ℕ → MeantSelection P → ReadFields
+  fields_read_at t (MeantField p d h s) = read_then (read_field (head_read t d h) (whole_set s (fields_read s))) no_reads
+  fields_read_at t (MeantSpread p n ds) = no_reads
+  fields_read_at t (MeantInline p c ds s) = fields_read s
+
+  pub fields_read : {P : Type 0} → MeantSet P → ReadFields
+  fields_read (meant_set t ss) = fields_read_along t ss
+
+  pub fields_read_along : {P : Type 0} → List ℕ → MeantSelections P → ReadFields
+  fields_read_along t no_meant = no_reads
+  fields_read_along t (meant_then s ss) = joined (fields_read_at t s) (fields_read_along t ss)
+
+module _ {P : Type 0} where
+  abbrev pub set_read : MeantSet P → ReadSet
+  set_read s = whole_set s (fields_read s)
+
+  -- the same of any set: one without selections is read as no fields and no spreads
+  abbrev pub list_read : MeantSet P → ReadSet
+  list_read s = read_set (fields_read s) (spreads_written s)
+
+  abbrev pub field_read : StandingField P → ReadField
+  field_read f = read_field (head_read f.parent f.definition f.head) (set_read f.set)
+
+  abbrev pub fragments_read : MeantDocument P → Entries ReadSet
+  fragments_read d = map (λ e. (e.0, set_read e.1.set)) d.fragments
+
+-- ---- what merging asks of two fields, as `SameKey`, `MayShare`, `SameShape` and `SameNameAndArguments` do
+
+abbrev pub ReadSameKey : ReadField → ReadField → Type 0
+ReadSameKey x y = (head_of x).key ≡ (head_of y).key
+
+module _ (s : Judged) where
+  abbrev pub ReadMayShare : ReadField → ReadField → Type 0
+  ReadMayShare x y = ReadSameKey x y × (((head_of x).parent ≡ (head_of y).parent) ⊎ (IsAbstract s (head_of x).parent ⊎ IsAbstract s (head_of y).parent))
+
+  abbrev pub ReadSameShape : ReadField → ReadField → Type 0
+  ReadSameShape x y = SameType s (head_of x).ty (head_of y).ty
+
+abbrev pub ReadSameName : ReadField → ReadField → Type 0
+ReadSameName x y = (head_of x).name ≡ (head_of y).name
+
+abbrev pub ReadSameNameAndArguments : ReadField → ReadField → Type 0
+ReadSameNameAndArguments x y = ReadSameName x y × SameArguments (head_of x).arguments (head_of y).arguments
+
+-- ---- chains
+
+module _ (fragments : Entries ReadSet) where
+  -- the set spreads a fragment whose set this is
+  abbrev pub SpreadsRead : ReadSet → ReadSet → Type 0
+  SpreadsRead s t = (n : List ℕ) × (Contains (spreads_in s) n × (under n fragments ≡ Some t))
+
+  -- spreads lead from the set to this one: the least sets with the set itself, and those of the fragments that each spreads
+  abbrev pub IsReadFrom : ReadSet → ReadSet → Type 0
+  IsReadFrom s = Closed (λ t. t ≡ s) SpreadsRead
+
+  -- the field is among those of a set to which spreads lead
+  abbrev pub SelectsRead : ReadSet → ReadField → Type 0
+  SelectsRead s x = (t : ReadSet) × (IsReadFrom s t × Contains (fields_in t) x)
+
+module _ {P : Type 0} (d : MeantDocument P) where
+  -- the second is one of what the set of the first selects, of the operation's own: through fragments
+  abbrev pub ReadBelow : ReadField → ReadField → Type 0
+  ReadBelow x y = SelectsRead (fragments_read d) (set_of x) y
+
+  abbrev pub ReadStarts : MeantOperation P → ReadField → Type 0
+  ReadStarts o y = SelectsRead (fragments_read d) (set_read o.set) y
+
+  module _ (s : Judged) where
+    -- fields that stand together are settled: by keys, in shape
+    abbrev pub AreReadShapesStanding : (ReadField → ReadField → Type 0) → Type 0
+    AreReadShapesStanding Stand = IsSettledIn ReadBelow ReadSameKey (ReadSameShape s) Stand
+
+    -- by keys and parents, in name and arguments
+    abbrev pub AreReadSelectionsStanding : (ReadField → ReadField → Type 0) → Type 0
+    AreReadSelectionsStanding Stand = IsSettledIn ReadBelow (ReadMayShare s) ReadSameNameAndArguments Stand
+
+-- the same as `FieldsMerge`, of chains of what is read
+pub record ReadsMerge {P : Type 0} (s : Judged) (d : MeantDocument P) (o : MeantOperation P) : Type 0 where
+  pub shapes : Merge (ReadBelow d) ReadSameKey (ReadStarts d o) (ReadSameShape s)
+  pub selections : Merge (ReadBelow d) (ReadMayShare s) (ReadStarts d o) ReadSameNameAndArguments
+
+-- where fields that go together and are in one of these lists are settled by what is read of them, and all that starts stands with all
+-- that starts and goes together with it, the fields merge
+abbrev pub ReadFieldsMerge : Type 0
+ReadFieldsMerge = (s : Judged) (d : MeantDocument Place) (o : MeantOperation Place) (shapes selections : List (List ReadField))
+    → AreReadShapesStanding d s (StandWhere ReadSameKey shapes) → StartsStand (ReadStarts d o) (StandWhere ReadSameKey shapes)
+    → AreReadSelectionsStanding d s (StandWhere (ReadMayShare s) selections) → StartsStand (ReadStarts d o) (StandWhere (ReadMayShare s) selections)
+    → FieldsMerge s d o
