@@ -1,4 +1,6 @@
 pub mod Standing
-pub mod Growing
 pub mod Rising
 pub mod Few
+pub mod Words
+pub mod Rows
+pub mod Kept

@@ -1,0 +1,7 @@
+pub mod Kinds
+pub mod Tables
+pub mod Numbered
+pub mod Found
+pub mod Opened
+pub mod Nodes
+pub mod Added
