@@ -24,6 +24,15 @@ module _ {X : Type 0} where
   get_front (y ∷ ys) added zero x h = h
   get_front (y ∷ ys) added (suc n) x h = get_front ys added n x h
 
+  front_same : (old added : List X) (n : ℕ) → n < length old → slice_get (old ++ added) n ≡ slice_get old n
+  front_same [] added n within = absurd (omega (within, arith))
+  front_same (y ∷ ys) added zero within = refl
+  front_same (y ∷ ys) added (suc n) within = front_same ys added n (omega (within, arith))
+
+  -- at its places nothing changes
+  pub same_there : (old new : List X) (n : ℕ) → Grows old new → n < length old → slice_get new n ≡ slice_get old n
+  same_there old new n (added, e) within = ap (λ l. slice_get l n) e ∙ front_same old added n within
+
   -- what was there is there
   pub stays : (old new : List X) (n : ℕ) (x : X) → Grows old new → slice_get old n ≡ Some x → slice_get new n ≡ Some x
   stays old new n x (added, e) h = subst (λ l. slice_get l n ≡ Some x) (sym e) (get_front old added n x h)

@@ -147,11 +147,12 @@ nodes_on a b c g h = record {
 pub only_nodes : (a b : FieldSets) → OnlyNumbers a b → NodesGrow a b
 only_nodes a b g = record { schema = g.schema; fragments = g.fragments; tables = g.tables; nodes = grows_same (set_nodes a) (set_nodes b) g.nodes; starts = g.starts }
 
-pub sets_same : (w : FieldSets) → SetsGrow w w
-sets_same w = record { schema = refl; fragments = refl; tables = tables_same (tables_of w.numbers); nodes = grows_same (set_nodes w) (set_nodes w) refl; starts = grows_same (fragment_nodes w) (fragment_nodes w) refl }
+-- nothing is added, and more is added after more
+pub sets_grow_same : (w : FieldSets) → SetsGrow w w
+sets_grow_same w = record { schema = refl; fragments = refl; tables = tables_same (tables_of w.numbers); nodes = grows_same (set_nodes w) (set_nodes w) refl; starts = grows_same (fragment_nodes w) (fragment_nodes w) refl }
 
-pub sets_on : (a b c : FieldSets) → SetsGrow a b → SetsGrow b c → SetsGrow a c
-sets_on a b c g h = record {
+pub sets_grow_both : (a b c : FieldSets) → SetsGrow a b → SetsGrow b c → SetsGrow a c
+sets_grow_both a b c g h = record {
   schema = h.schema ∙ g.schema;
   fragments = h.fragments ∙ g.fragments;
   tables = tables_on (tables_of a.numbers) (tables_of b.numbers) (tables_of c.numbers) g.tables h.tables;

@@ -16,3 +16,4 @@ pub mod Putting
 pub mod Among
 pub mod NextFragment
 pub mod NoNodes
+pub mod Meaning

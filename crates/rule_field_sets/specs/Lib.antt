@@ -4,4 +4,5 @@ pub mod Numbered
 pub mod Found
 pub mod Opened
 pub mod Nodes
+pub mod Read
 pub mod Added

@@ -137,6 +137,13 @@ impl<'doc> FieldSets<'doc> {
         self.fragments
     }
 
+    /// How many nodes there are.
+    pub fn len(&self) -> usize
+        ensures { result ≡ length (set_nodes self.now) }
+    {
+        self.nodes.len()
+    }
+
     /// A node.
     pub fn node(&self, node: usize) -> &SetNode<'doc>
         requires { node < length (set_nodes self.now) }

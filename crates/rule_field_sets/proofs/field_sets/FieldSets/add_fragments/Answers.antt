@@ -1,12 +1,12 @@
 use Rattle.std.proofs.Common.{◌≡◌, length, arith}
 use Rattle.document_typed_selections.specs.TypedTree.{typed_set_tree}
 use Rattle.rule_field_sets.specs.Nodes.{fragment_nodes}
-use Rattle.rule_field_sets.proofs.Kept.{sets_same, sets_on, all_started}
+use Rattle.rule_field_sets.proofs.Kept.{sets_grow_same, sets_grow_both, all_started}
 use Rattle.rule_field_sets.proofs.NextFragment.{next_found, none_next, fewer_next}
 use Rattle.rule_field_sets.proofs.field_sets.FieldSets.add_fragments.Goals as goal
 
 pub loop-fragment-init : goal.loop-fragment-init
-loop-fragment-init c = record { sets = c.requires.sets; grown = sets_same c.args.self.now }
+loop-fragment-init c = record { sets = c.requires.sets; grown = sets_grow_same c.args.self.now }
 
 pub add_fragment-requires : goal.add_fragment-requires
 add_fragment-requires c = record {
@@ -17,7 +17,7 @@ add_fragment-requires c = record {
 pub loop-fragment-preserved : goal.loop-fragment-preserved
 loop-fragment-preserved c = record {
   sets = c.add_fragment.ensures.sets;
-  grown = sets_on c.args.self.now c.loop-fragment.self c.add_fragment.new.self c.loop-fragment.invariant.grown c.add_fragment.ensures.grown;
+  grown = sets_grow_both c.args.self.now c.loop-fragment.self c.add_fragment.new.self c.loop-fragment.invariant.grown c.add_fragment.ensures.grown;
 }
 
 pub loop-fragment-smaller : goal.loop-fragment-smaller
@@ -29,7 +29,7 @@ pub returns-in_err-add_fragment-clause-sets : goal.returns-in_err-add_fragment-c
 returns-in_err-add_fragment-clause-sets c = c.add_fragment.ensures.sets
 
 pub returns-in_err-add_fragment-clause-grown : goal.returns-in_err-add_fragment-clause-grown
-returns-in_err-add_fragment-clause-grown c = sets_on c.args.self.now c.loop-fragment.self c.add_fragment.new.self c.loop-fragment.invariant.grown c.add_fragment.ensures.grown
+returns-in_err-add_fragment-clause-grown c = sets_grow_both c.args.self.now c.loop-fragment.self c.add_fragment.new.self c.loop-fragment.invariant.grown c.add_fragment.ensures.grown
 
 pub returns : goal.returns
 returns c = record {
