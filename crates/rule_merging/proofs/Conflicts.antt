@@ -15,11 +15,11 @@ use Rattle.rule_document_definitions.proofs.MergingFacts.{merging_breaks_nothing
 use Rattle.rule_document_definitions.proofs.Stable.{merge_if_nothing_breaks}
 use Rattle.rule_document_definitions.proofs.Unplaced.{contains_unmap}
 use Rattle.rule_merging.specs.Examined.{Breaches}
-use Rattle.rule_document_definitions.specs.PlainFields.{PlainStarts, AreShapesStanding}
+use Rattle.rule_document_definitions.specs.ReadFields.{ReadStarts, AreReadShapesStanding}
 use Rattle.rule_document_definitions.specs.Settled.{StandWhere, StartsStand}
 use Rattle.rule_merging.specs.Verdict.{lists_examined, ExaminesOperation}
 use Rattle.rule_merging.specs.declared.operation.Examined.{Examined}
-use Rattle.rule_field_groups.specs.in_ground.Broken.{brokens_of}
+use Rattle.rule_document_ground.specs.Broken.{brokens_of}
 use Rattle.graphql_faults.specs.DetailsTree.{of_document, Telling}
 use Rattle.rule_merging.specs.Merged.{MergingFailsAt, AreSettledIf, limit_told, conflicts_told}
 use Rattle.rule_merging.proofs.Behind.{breaches_told, nothing_told, told_nothing}
@@ -82,7 +82,7 @@ module _ (s : Judged) (d : MeantDocument Place) (o : MeantOperation Place) (old 
 
   -- where nothing is told, what was examined for shapes is settled, and has what the operation starts with
   pub settled_closed : (was : Bool) → ∥ AreSettledIf s d was old ∥₁ → IsTrue was → (brokens_of told ≡ []) × (left ≡ false)
-      → ∥ AreShapesStanding d s (StandWhere SameKey (lists_examined new)) × StartsStand (PlainStarts d o) (StandWhere SameKey (lists_examined new)) ∥₁
+      → ∥ AreShapesStanding d s (StandWhere SameKey (lists_examined new)) × StartsStand (ReadStarts d o) (StandWhere SameKey (lists_examined new)) ∥₁
   settled_closed was settled clean none = ∥∥₁_map settled (λ h. let r = examined.1.1.settled (sym is_added ∙ none.0) none.1 (h clean) in (r.0.0.fields, r.1.0.0))
 
   -- and where nothing is told the fields merge: no rule can fail

@@ -15,37 +15,38 @@ use Rattle.rule_document_definitions.specs.DocumentFaults.{Broken}
 use Rattle.rule_document_definitions.specs.Selected.{StandingField, InOperation}
 use Rattle.rule_document_definitions.specs.Reached.{IsFieldOf}
 use Rattle.rule_document_definitions.specs.Chains.{Chain}
-use Rattle.rule_document_definitions.specs.Contents.{content, ContentBelow, unplaced_content}
+use Rattle.rule_document_definitions.specs.Contents.{content, ContentBelow, field_read}
 use Rattle.rule_document_definitions.specs.Merging.{Below, Starts}
 use Rattle.rule_document_definitions.proofs.Unplaced.{contains_unmap}
-use Rattle.rule_field_groups.specs.in_ground.Fields.{field_of, fields_of, content_of}
-use Rattle.rule_field_groups.specs.in_ground.declared.field_selection.FieldSelection.{FieldSelection}
-use Rattle.rule_document_definitions.specs.PlainFields.{PlainField, PlainBelow}
+use Rattle.rule_merging.specs.Members.{field_of, fields_of, content_of}
+use Rattle.rule_field_sets.specs.declared.member.Member.{Member}
+use Rattle.rule_document_definitions.specs.ReadFields.{ReadField, ReadBelow}
 use Rattle.rule_document_definitions.proofs.Elsewhere.{content_starts}
 use Rattle.rule_document_definitions.proofs.PlainFacts.{plain_below, below_standing}
-use Rattle.rule_field_groups.specs.declared.pass.Pass.{Pass}
-use Rattle.rule_field_groups.specs.declared.pass.Pass.TheVariants.{Shapes, Selections}
-use Rattle.rule_field_groups.specs.Below.{contents_of, IsMergedIn}
+use Rattle.rule_merging.specs.declared.pass.Pass.{Pass}
+use Rattle.rule_merging.specs.declared.pass.Pass.TheVariants.{Shapes, Selections}
+use Rattle.rule_merging.specs.Members.{contents_of}
+use Rattle.rule_merging.specs.Below.{IsMergedIn}
 use Rattle.rule_merging.specs.Remembered.{Kept}
 use Rattle.rule_merging.specs.Examined.{SelectsAsMuch, SetsExamined}
 use Rattle.rule_merging.specs.Twos.{IsListOf, are_two}
 use Rattle.rule_merging.specs.Verdict.{OnlyGrow, IsCountedIn}
-use Rattle.rule_field_groups.specs.Compared.{compared}
+use Rattle.rule_merging.specs.Compared.{compared}
 use Rattle.rule_merging.specs.Counted.{Account, no_account, most_members, most_comparisons, IsWithin, Meets, OnlyMeets, Pays, DifferInMembers, AreApart, IsLast, AreLast, AreListed, Grows, IsCountedBy, IsPaidBy}
 use Rattle.rule_number_lists.specs.NumberLists.{HaveSame, length_above_two}
 use Rattle.rule_number_lists.proofs.Standing.{same_order, same_trans, same_sym, no_repeat_order}
 use Rattle.rule_number_lists.proofs.Few.{no_longer, few, above_two_length, above_two_le}
-use Rattle.rule_field_groups.proofs.Counts.{sums}
-use Rattle.rule_field_groups.proofs.Lists.{slice_get-push_cases, contains_from_get, none_twice, apart_more}
+use Rattle.rule_merging.proofs.Counts.{sums}
+use Rattle.rule_merging.proofs.Lists.{slice_get-push_cases, contains_from_get, none_twice, apart_more}
 
 -- ---- sums
 
 -- a list is as long as its contents, in whatever order
-pub compared_contents : (pass : Pass) (list : List FieldSelection) → compared pass (contents_of list) ≡ compared pass list
-compared_contents Shapes list = length-map (fields_of list) unplaced_content ∙ length-map list field_of
+pub compared_contents : (pass : Pass) (list : List Member) → compared pass (contents_of list) ≡ compared pass list
+compared_contents Shapes list = length-map (fields_of list) field_read ∙ length-map list field_of
 compared_contents Selections list = refl
 
-compared_order : (pass : Pass) (xs ys : List PlainField) → IsPermutation xs ys → compared pass ys ≡ compared pass xs
+compared_order : (pass : Pass) (xs ys : List ReadField) → IsPermutation xs ys → compared pass ys ≡ compared pass xs
 compared_order Shapes xs ys p = length_permutation xs ys p
 compared_order Selections xs ys p = refl
 
@@ -55,7 +56,7 @@ none_differ : DifferInMembers []
 none_differ i j a b h k same = absurd (omega (arith, slice_get_within [] i a h))
 
 -- one more, whose members are not those of one that was there
-differ_more : (lists : List (List PlainField)) (list : List PlainField) → DifferInMembers lists → ((known : List PlainField) → Contains lists known → HaveSame known list → ⊥) → DifferInMembers (lists ++ list ∷ [])
+differ_more : (lists : List (List ReadField)) (list : List ReadField) → DifferInMembers lists → ((known : List ReadField) → Contains lists known → HaveSame known list → ⊥) → DifferInMembers (lists ++ list ∷ [])
 differ_more lists list differ none i j a b h k same = elim (slice_get-push_cases lists list i a h) [
   | inl p ↦ elim (slice_get-push_cases lists list j b k) [
     | inl q ↦ differ i j a b p q same
@@ -73,10 +74,10 @@ differ_more lists list differ none i j a b h k same = elim (slice_get-push_cases
 still_within : (old new : Account) → new.spent ≡ old.spent → length old.met ≤ length new.met → IsWithin old → IsWithin new
 still_within old new e more within = omega (arith, e, more, within)
 
-pub pays_nothing : (list : List PlainField) (old new : Account) → Meets list old new → new.spent ≡ old.spent → Pays list old new
+pub pays_nothing : (list : List ReadField) (old new : Account) → Meets list old new → new.spent ≡ old.spent → Pays list old new
 pays_nothing list old new m e = record { meets = m; spends = omega (arith, e); within = still_within old new e m.more }
 
-pub pays_all : (list : List PlainField) (old new : Account) → Meets list old new → new.spent ≡ old.spent + length list → new.spent ≤ most_members (length new.met) → Pays list old new
+pub pays_all : (list : List ReadField) (old new : Account) → Meets list old new → new.spent ≡ old.spent + length list → new.spent ≤ most_members (length new.met) → Pays list old new
 pays_all list old new m e within = record { meets = m; spends = omega (arith, e); within = λ h. within }
 
 -- ---- last fields of chains
@@ -88,9 +89,9 @@ chain_on Under First (e ∷ c) f g p b = (p.0, chain_on Under (Under e) c f g p.
 module _ (d : MeantDocument Place) where
   module _ (os : List (MeantOperation Place)) where
     -- what lies below one
-    last_below : (f y : StandingField Place) → IsLast d os (unplaced_content f) → ContentBelow d f y → IsLast d os (unplaced_content y)
+    last_below : (f y : StandingField Place) → IsLast d os (field_read f) → ContentBelow d f y → IsLast d os (field_read y)
     last_below f y (o, (c, (e, (there, (chain, same))))) b =
-        let g = below_standing d e (unplaced_content y) (subst (λ x. PlainBelow d x (unplaced_content y)) (sym same) (plain_below d f y b)) in
+        let g = below_standing d e (field_read y) (subst (λ x. ReadBelow d x (field_read y)) (sym same) (plain_below d f y b)) in
         (o, (c ++ e ∷ [], (g.0, (there, (chain_on (Below d) (Starts d o) c e g.0 chain g.1.0, g.1.1)))))
 
     -- what starts
@@ -98,7 +99,7 @@ module _ (d : MeantDocument Place) where
     starting_listed o start there is sets c x h =
         let v = subst (λ (l : List (MeantSet Place)). Contains l h.0) (only (start ∷ []) sets c) h.1.0 in
         let f = content_starts d o x (subst (λ w. (f : StandingField Place) × (IsFieldOf d (InOperation None) w f × (content f ≡ x))) (only start h.0 v ∙ sym is) h.1.1) in
-        (o, ([], (f.0, (there, ((f.1.0, tt), ap unplaced_content f.1.1)))))
+        (o, ([], (f.0, (there, ((f.1.0, tt), ap field_read f.1.1)))))
 
     -- lists of sets below groups of what such lists select
     pub listed_next : (pass : Pass) (s : Judged) (lists : List (List (MeantSet Place))) (old new : Kept) (added : List (Broken Place)) (next : List (List (MeantSet Place)))
@@ -123,9 +124,9 @@ module _ (d : MeantDocument Place) where
     listed_wider lists parts listed wide part c x h = let w = wide part c in listed w.0 w.1.0 x (w.1.1 x h)
 
     -- the fields that such sets select
-    pub fields_listed : (sets : List (MeantSet Place)) (list : List FieldSelection) → IsMergedIn d sets list → AreListed d os (sets ∷ []) → AreLast d os (contents_of list)
+    pub fields_listed : (sets : List (MeantSet Place)) (list : List Member) → IsMergedIn d sets list → AreListed d os (sets ∷ []) → AreLast d os (contents_of list)
     fields_listed sets list merged listed x c =
-        let y = contains_unmap unplaced_content (fields_of list) x c in
+        let y = contains_unmap field_read (fields_of list) x c in
         subst (IsLast d os) y.1.1 (listed sets (Contains-first sets [] sets refl) y.0 (merged.within y.0 y.1.0))
 
   -- ---- lists that come to those that were examined
@@ -171,11 +172,11 @@ module _ (d : MeantDocument Place) where
   }
 
   -- what is met of a list
-  met_so : (list : List PlainField) (old new : Account) → Meets list old new → (os : List (MeantOperation Place)) → AreLast d os list → (x : PlainField) → Contains new.met x → Contains old.met x ⊎ IsLast d os x
+  met_so : (list : List ReadField) (old new : Account) → Meets list old new → (os : List (MeantOperation Place)) → AreLast d os list → (x : ReadField) → Contains new.met x → Contains old.met x ⊎ IsLast d os x
   met_so list old new m os given x c = elim (m.only x c) [ inl a ↦ inl a | inr b ↦ inr (given x b) ]
 
   -- no list comes, but fields are met, and members may be paid
-  no_lists : (pass : Pass) (list : List PlainField) (old new : Account) → new.lists ≡ old.lists → Meets list old new → old.spent ≤ new.spent → (IsWithin old → IsWithin new) → Grows d (λ os. AreLast d os list) pass old new
+  no_lists : (pass : Pass) (list : List ReadField) (old new : Account) → new.lists ≡ old.lists → Meets list old new → old.spent ≤ new.spent → (IsWithin old → IsWithin new) → Grows d (λ os. AreLast d os list) pass old new
   no_lists pass list old new is m spends within = record {
     added = [];
     is = is ∙ sym (append-nil old.lists);
@@ -191,16 +192,16 @@ module _ (d : MeantDocument Place) where
   }
 
   -- a list is asked for, and paid or not
-  pub grows_paying : (pass : Pass) (list : List PlainField) (old new : Account) → new.lists ≡ old.lists → Pays list old new → Grows d (λ os. AreLast d os list) pass old new
+  pub grows_paying : (pass : Pass) (list : List ReadField) (old new : Account) → new.lists ≡ old.lists → Pays list old new → Grows d (λ os. AreLast d os list) pass old new
   grows_paying pass list old new is p = no_lists pass list old new is p.meets p.spends p.within
 
   -- a list is known, or memory is refused
-  pub grows_meeting : (pass : Pass) (list : List PlainField) (old new : Account) → new.lists ≡ old.lists → OnlyMeets list old new → Grows d (λ os. AreLast d os list) pass old new
+  pub grows_meeting : (pass : Pass) (list : List ReadField) (old new : Account) → new.lists ≡ old.lists → OnlyMeets list old new → Grows d (λ os. AreLast d os list) pass old new
   grows_meeting pass list old new is (m, e) = no_lists pass list old new is m (omega (arith, e)) (still_within old new e m.more)
 
   -- one list, in some order
-  grows_one : (pass : Pass) (list : List FieldSelection) (kept : List PlainField) (old mid new : Account) → HasNoRepeat (contents_of list) → IsPermutation (contents_of list) kept
-      → ((known : List PlainField) → Contains old.lists known → HasNoRepeat known → HasNoRepeat (contents_of list) → HaveSame known (contents_of list) → ⊥) → mid.lists ≡ old.lists ++ kept ∷ []
+  grows_one : (pass : Pass) (list : List Member) (kept : List ReadField) (old mid new : Account) → HasNoRepeat (contents_of list) → IsPermutation (contents_of list) kept
+      → ((known : List ReadField) → Contains old.lists known → HasNoRepeat known → HasNoRepeat (contents_of list) → HaveSame known (contents_of list) → ⊥) → mid.lists ≡ old.lists ++ kept ∷ []
       → Meets (contents_of list) old mid → old.spent + length_above_two (contents_of list) ≤ mid.spent → (IsWithin old → IsWithin mid)
       → mid.comparisons ≤ new.comparisons → new.comparisons ≤ mid.comparisons + compared pass list → new ≡ record mid { comparisons = new.comparisons }
       → Grows d (λ os. AreLast d os (contents_of list)) pass old new
@@ -220,41 +221,41 @@ module _ (d : MeantDocument Place) where
   })
 
   -- a list that was paid before
-  pub grows_paid : (pass : Pass) (list : List FieldSelection) (kept : List PlainField) (old mid new : Account) → Pays (contents_of list) old mid → old.spent + length (contents_of list) ≤ mid.spent
+  pub grows_paid : (pass : Pass) (list : List Member) (kept : List ReadField) (old mid new : Account) → Pays (contents_of list) old mid → old.spent + length (contents_of list) ≤ mid.spent
       → HasNoRepeat (contents_of list) → IsPermutation (contents_of list) kept
-      → ((known : List PlainField) → Contains old.lists known → HasNoRepeat known → HasNoRepeat (contents_of list) → HaveSame known (contents_of list) → ⊥) → mid.lists ≡ old.lists ++ kept ∷ []
+      → ((known : List ReadField) → Contains old.lists known → HasNoRepeat known → HasNoRepeat (contents_of list) → HaveSame known (contents_of list) → ⊥) → mid.lists ≡ old.lists ++ kept ∷ []
       → mid.comparisons ≤ new.comparisons → new.comparisons ≤ mid.comparisons + compared pass list → new ≡ record mid { comparisons = new.comparisons }
       → Grows d (λ os. AreLast d os (contents_of list)) pass old new
   grows_paid pass list kept old mid new p enough apart order none is more count e =
       grows_one pass list kept old mid new apart order none is p.meets (omega (arith, enough, above_two_le (contents_of list))) p.within more count e
 
   -- fields of one of two
-  abbrev pub LastOfTwo : FieldSelection → FieldSelection → Premise
-  LastOfTwo one other os = (p q : FieldSelection) → are_two one other p q → IsLast d os (content_of p) × IsLast d os (content_of q)
+  abbrev pub LastOfTwo : Member → Member → Premise
+  LastOfTwo one other os = (p q : Member) → are_two one other p q → IsLast d os (content_of p) × IsLast d os (content_of q)
 
-  lasts : (one other : FieldSelection) (list : List FieldSelection) → IsListOf one other list → (os : List (MeantOperation Place)) → LastOfTwo one other os → AreLast d os (contents_of list)
+  lasts : (one other : Member) (list : List Member) → IsListOf one other list → (os : List (MeantOperation Place)) → LastOfTwo one other os → AreLast d os (contents_of list)
   lasts one other list two os given = by two
     where
       by : IsListOf one other list → AreLast d os (contents_of list)
-      by (inl (e, l)) x c = subst (IsLast d os) (sym (only (content_of one) x (subst (λ (m : List FieldSelection). Contains (contents_of m) x) l c))) (given one other (refl, refl)).0
-      by (inr (e, l)) x c = elim (Contains-cons (content_of one) (content_of other ∷ []) x (subst (λ (m : List FieldSelection). Contains (contents_of m) x) l c)) [
+      by (inl (e, l)) x c = subst (IsLast d os) (sym (only (content_of one) x (subst (λ (m : List Member). Contains (contents_of m) x) l c))) (given one other (refl, refl)).0
+      by (inr (e, l)) x c = elim (Contains-cons (content_of one) (content_of other ∷ []) x (subst (λ (m : List Member). Contains (contents_of m) x) l c)) [
         | inl i ↦ subst (IsLast d os) i (given one other (refl, refl)).0
         | inr r ↦ subst (IsLast d os) (sym (only (content_of other) x r)) (given one other (refl, refl)).1
       ]
 
-  two_apart : (one other : FieldSelection) (list : List FieldSelection) → IsListOf one other list → HasNoRepeat (contents_of list)
-  two_apart one other list (inl (e, l)) = subst (λ (m : List FieldSelection). HasNoRepeat (contents_of m)) (sym l) (apart_more [] (content_of one) none_twice (λ c. not_in_nil (content_of one) c))
-  two_apart one other list (inr (e, l)) = subst (λ (m : List FieldSelection). HasNoRepeat (contents_of m)) (sym l)
+  two_apart : (one other : Member) (list : List Member) → IsListOf one other list → HasNoRepeat (contents_of list)
+  two_apart one other list (inl (e, l)) = subst (λ (m : List Member). HasNoRepeat (contents_of m)) (sym l) (apart_more [] (content_of one) none_twice (λ c. not_in_nil (content_of one) c))
+  two_apart one other list (inr (e, l)) = subst (λ (m : List Member). HasNoRepeat (contents_of m)) (sym l)
       (apart_more (content_of one ∷ []) (content_of other) (apart_more [] (content_of one) none_twice (λ c. not_in_nil (content_of one) c)) (λ c. e (sym (only (content_of one) (content_of other) c))))
 
   -- two are not many
-  two_short : (one other : FieldSelection) (list : List FieldSelection) → IsListOf one other list → length_above_two (contents_of list) ≡ 0
-  two_short one other list (inl (e, l)) = ap (λ (m : List FieldSelection). length_above_two (contents_of m)) l
-  two_short one other list (inr (e, l)) = ap (λ (m : List FieldSelection). length_above_two (contents_of m)) l
+  two_short : (one other : Member) (list : List Member) → IsListOf one other list → length_above_two (contents_of list) ≡ 0
+  two_short one other list (inl (e, l)) = ap (λ (m : List Member). length_above_two (contents_of m)) l
+  two_short one other list (inr (e, l)) = ap (λ (m : List Member). length_above_two (contents_of m)) l
 
   -- a list of two fields
-  pub grows_two : (pass : Pass) (one other : FieldSelection) (list : List FieldSelection) (kept : List PlainField) (old mid new : Account) → IsListOf one other list → IsPermutation (contents_of list) kept
-      → ((known : List PlainField) → Contains old.lists known → HasNoRepeat known → HasNoRepeat (contents_of list) → HaveSame known (contents_of list) → ⊥) → mid.lists ≡ old.lists ++ kept ∷ []
+  pub grows_two : (pass : Pass) (one other : Member) (list : List Member) (kept : List ReadField) (old mid new : Account) → IsListOf one other list → IsPermutation (contents_of list) kept
+      → ((known : List ReadField) → Contains old.lists known → HasNoRepeat known → HasNoRepeat (contents_of list) → HaveSame known (contents_of list) → ⊥) → mid.lists ≡ old.lists ++ kept ∷ []
       → OnlyMeets (contents_of list) old mid → mid.comparisons ≤ new.comparisons → new.comparisons ≤ mid.comparisons + compared pass list → new ≡ record mid { comparisons = new.comparisons }
       → Grows d (LastOfTwo one other) pass old new
   grows_two pass one other list kept old mid new two order none is (m, spent) more count e =
@@ -262,10 +263,10 @@ module _ (d : MeantDocument Place) where
       (grows_one pass list kept old mid new (two_apart one other list two) order none is m (omega (arith, spent, two_short one other list two)) (still_within old mid spent m.more) more count e)
 
   -- two that are known, or for which memory is refused
-  pub two_meeting : (pass : Pass) (one other : FieldSelection) (list : List FieldSelection) (old new : Account) → IsListOf one other list → new.lists ≡ old.lists → OnlyMeets (contents_of list) old new → Grows d (LastOfTwo one other) pass old new
+  pub two_meeting : (pass : Pass) (one other : Member) (list : List Member) (old new : Account) → IsListOf one other list → new.lists ≡ old.lists → OnlyMeets (contents_of list) old new → Grows d (LastOfTwo one other) pass old new
   two_meeting pass one other list old new two is m = grows_given (λ os. AreLast d os (contents_of list)) (LastOfTwo one other) (lasts one other list two) pass old new (grows_meeting pass (contents_of list) old new is m)
 
-  both_apart : (xs ys : List (List PlainField)) → AreApart xs → AreApart ys → AreApart (xs ++ ys)
+  both_apart : (xs ys : List (List ReadField)) → AreApart xs → AreApart ys → AreApart (xs ++ ys)
   both_apart xs ys a b list c = elim (Contains-append_cases xs ys list c) [ inl h ↦ a list h | inr h ↦ b list h ]
 
   -- some and then others
@@ -322,7 +323,7 @@ module _ (d : MeantDocument Place) where
     )
 
     -- few fields are compared few times
-    module _ (all : List PlainField) (has : (x : PlainField) → IsLast d os x → Contains all x) (lists : List (List PlainField)) (met : List PlainField) (spent : ℕ) (paid : IsPaidBy d os lists met spent) where
+    module _ (all : List ReadField) (has : (x : ReadField) → IsLast d os x → Contains all x) (lists : List (List ReadField)) (met : List ReadField) (spent : ℕ) (paid : IsPaidBy d os lists met spent) where
       pub members_few : sum (map length_above_two lists) ≤ most_members (length all)
       members_few =
           let less : length met ≤ length all = no_longer met all paid.once (λ x c. has x (paid.last x c)) in

@@ -1,3 +1,15 @@
+pub mod Filing
+pub mod Counts
+pub mod Parts
+pub mod Sharing
+pub mod Telling
+pub mod Shaped
+pub mod ShapesTold
+pub mod Lists
+pub mod Sets
+pub mod Under
+pub mod Selected
+pub mod PairedFacts
 pub mod Bare
 pub mod Examining
 pub mod Remembering

@@ -5,7 +5,7 @@ use Rattle.std.proofs.lemmas.List.Elements.{Contains-append_left, Contains-appen
 use Rattle.rule_definitions.proofs.Lists.{not_in_nil, only, Contains-first}
 use Rattle.rule_number_lists.specs.NumberLists.{HaveSame}
 use Rattle.rule_merging.specs.declared.remembered.Pair.{Pair}
-use Rattle.rule_merging.specs.Remembered.{Kept, PlainSource, plain_sources, HasLooked, LooksAt, two_of}
+use Rattle.rule_merging.specs.Remembered.{Kept, ReadSet, read_sets, HasLooked, LooksAt, two_of}
 use Rattle.rule_merging.specs.Examined.{Sources}
 use Rattle.rule_merging.specs.Pairs.{Looks}
 
@@ -23,7 +23,7 @@ looks_none old = record {
 }
 
 -- two that were not looked at before
-pub looks_new : (two : Sources) (old mid new : Kept) → LooksAt old (plain_sources two) true mid → new ≡ record mid { pairs = mid.pairs ++ two ∷ [] } → Looks (two ∷ []) old new
+pub looks_new : (two : Sources) (old mid new : Kept) → LooksAt old (read_sets two) true mid → new ≡ record mid { pairs = mid.pairs ++ two ∷ [] } → Looks (two ∷ []) old new
 looks_new two old mid new (kept, (same, at)) is = subst (Looks (two ∷ []) old) (sym (is ∙ ap (λ (k : Kept). record k { pairs = k.pairs ++ two ∷ [] }) at)) (record {
   lists = refl;
   expanded = refl;
@@ -33,13 +33,13 @@ looks_new two old mid new (kept, (same, at)) is = subst (Looks (two ∷ []) old)
   keeps = λ k c. Contains-append_left old.looked (kept ∷ []) k c;
   fresh = λ k c. elim (Contains-append_cases old.looked (kept ∷ []) k c) [
     | inl a ↦ inl a
-    | inr b ↦ inr (two, (Contains-first two [] two refl, subst (λ (l : List PlainSource). HaveSame l (plain_sources two)) (sym (only kept k b)) same))
+    | inr b ↦ inr (two, (Contains-first two [] two refl, subst (λ (l : List ReadSet). HaveSame l (read_sets two)) (sym (only kept k b)) same))
   ];
-  has = λ t c. (kept, (Contains-append_right old.looked (kept ∷ []) kept (Contains-first kept [] kept refl), subst (λ (l : Sources). HaveSame kept (plain_sources l)) (sym (only two t c)) same));
+  has = λ t c. (kept, (Contains-append_right old.looked (kept ∷ []) kept (Contains-first kept [] kept refl), subst (λ (l : Sources). HaveSame kept (read_sets l)) (sym (only two t c)) same));
 })
 
 -- or were
-pub looks_known : (two : Sources) (old new : Kept) → LooksAt old (plain_sources two) false new → Looks (two ∷ []) old new
+pub looks_known : (two : Sources) (old new : Kept) → LooksAt old (read_sets two) false new → Looks (two ∷ []) old new
 looks_known two old new (has, is) = subst (Looks (two ∷ []) old) (sym is) (record {
   lists = refl;
   expanded = refl;
@@ -48,7 +48,7 @@ looks_known two old new (has, is) = subst (Looks (two ∷ []) old) (sym is) (rec
   within = λ t c. absurd (not_in_nil t c);
   keeps = λ k c. c;
   fresh = λ k c. inl c;
-  has = λ t c. subst (λ (l : Sources). HasLooked old.looked (plain_sources l)) (sym (only two t c)) has;
+  has = λ t c. subst (λ (l : Sources). HasLooked old.looked (read_sets l)) (sym (only two t c)) has;
 })
 
 -- one after the other

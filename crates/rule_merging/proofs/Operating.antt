@@ -7,11 +7,11 @@ use Rattle.graphql_names.specs.declared.node.Node.{Node}
 use Rattle.document_typed_selections.specs.TypedTree.{typed_set_tree}
 use Rattle.document_typed_operations.specs.declared.operation.Operation.{Operation}
 use Rattle.document_meaning.specs.MeantTree.{MeantOperation, MeantDocument, meant_of_set}
-use Rattle.rule_field_groups.specs.in_typing.DocumentView.{operation_meant}
+use Rattle.rule_document_ground.specs.in_typing.DocumentView.{operation_meant}
 use Rattle.rule_definitions.specs.Judged.{Judged}
 use Rattle.rule_document_definitions.specs.DocumentFaults.{Broken}
 use Rattle.rule_document_definitions.proofs.Merges.{standing_fields_merge}
-use Rattle.rule_field_groups.specs.declared.pass.Pass.TheVariants.{Shapes, Selections}
+use Rattle.rule_merging.specs.declared.pass.Pass.TheVariants.{Shapes, Selections}
 use Rattle.rule_merging.specs.declared.operation.Examined.{Examined}
 use Rattle.rule_merging.specs.Remembered.{remembered, kept_of}
 use Rattle.rule_merging.specs.Examined.{AllExamined}

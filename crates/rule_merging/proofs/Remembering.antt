@@ -11,18 +11,18 @@ use Rattle.rule_cycle_search.proofs.Lists.{mapped_some, slice_get-map}
 use Rattle.rule_number_lists.specs.Numbered.{AreNumbersIn, Grows, AddsOnly, AreWithin, at_places}
 use Rattle.rule_number_lists.specs.NumberLists.{HaveSame, Keeps}
 use Rattle.rule_number_lists.proofs.Standing.{in_map, of_map, AllWithin, Notes, NoneSame, all_stay, notes, none_same, numbered_so, of_table, same_sym, same_order}
-use Rattle.document_meaning.specs.Unplaced.{unplaced_set}
-use Rattle.rule_field_groups.specs.in_ground.Fields.{content_of}
-use Rattle.rule_field_groups.specs.in_ground.declared.field_selection.FieldSelection.{FieldSelection}
-use Rattle.rule_field_groups.proofs.in_ground.ContentEquality.{selection_eq, selection_eq-Decides}
-use Rattle.rule_field_groups.specs.declared.below.SelectedSet.{SelectedSet}
-use Rattle.rule_document_definitions.specs.PlainFields.{PlainField, PlainSet}
-use Rattle.rule_field_groups.specs.Below.{contents_of, meant_at, meant_sets, plain_sets}
-use Rattle.rule_field_groups.proofs.Sets.{set_key_eq, same_sets, source_eq, same_sources}
-use Rattle.rule_field_groups.specs.Own.{unplaced_source, source_meant, meant_sources}
-use Rattle.rule_field_groups.specs.declared.own.SelectionSource.{SelectionSource}
+use Rattle.rule_document_definitions.specs.ReadFields.{list_read}
+use Rattle.rule_merging.specs.Members.{content_of}
+use Rattle.rule_field_sets.specs.declared.member.Member.{Member}
+use Rattle.rule_document_ground.proofs.ContentEquality.{selection_eq, selection_eq-Decides}
+use Rattle.rule_merging.specs.declared.below.SelectedSet.{SelectedSet}
+use Rattle.rule_document_definitions.specs.ReadFields.{ReadField, ReadSet}
+use Rattle.rule_merging.specs.Members.{contents_of, meant_sets, read_sets}
+use Rattle.rule_merging.proofs.Sets.{set_key_eq, same_sets, source_eq, same_sources}
+use Rattle.rule_merging.specs.Own.{list_read, source_meant, meant_sources}
+use Rattle.rule_merging.specs.declared.own.SelectionSource.{SelectionSource}
 use Rattle.rule_merging.specs.Counted.{Account, Meets}
-use Rattle.rule_merging.specs.Remembered.{Kept, PlainSource, plain_sources, Remembers, HasLooked, LooksAt}
+use Rattle.rule_merging.specs.Remembered.{Kept, ReadSet, read_sets, Remembers, HasLooked, LooksAt}
 
 -- what is so is so where a call fails
 pub where_err : {T E X : Type 0} (r : Result T E) → X → OnErr r X
@@ -84,26 +84,26 @@ module _ {T X : Type 0} (eq : T → T → Bool) (content : T → X) (sound : (a 
 
 -- ---- lists of fields
 
-contents_said : (xs : List FieldSelection) → map content_of xs ≡ contents_of xs
+contents_said : (xs : List Member) → map content_of xs ≡ contents_of xs
 contents_said [] = refl
 contents_said (x ∷ xs) = ap (λ l. content_of x ∷ l) (contents_said xs)
 
-pub sound_fields : (a b : FieldSelection) → selection_eq a b ≡ true → content_of a ≡ content_of b
+pub sound_fields : (a b : Member) → selection_eq a b ≡ true → content_of a ≡ content_of b
 sound_fields a b = (selection_eq-Decides a b).0
 
-pub complete_fields : (a b : FieldSelection) → content_of a ≡ content_of b → selection_eq a b ≡ true
+pub complete_fields : (a b : Member) → content_of a ≡ content_of b → selection_eq a b ≡ true
 complete_fields a b = (selection_eq-Decides a b).1
 
 module _ (base : Kept) where
-  abbrev kept_with : List (List PlainField) → Kept
+  abbrev kept_with : List (List ReadField) → Kept
   kept_with ls = record base { lists = ls }
 
   -- what is noted of a list, and that none with its members was there
-  remembers_from : (old new : List (List PlainField)) (list : List PlainField) (is_new : Bool) → Notes old list is_new new → NoneSame old list is_new → Remembers (kept_with old) list is_new (kept_with new)
+  remembers_from : (old new : List (List ReadField)) (list : List ReadField) (is_new : Bool) → Notes old list is_new new → NoneSame old list is_new → Remembers (kept_with old) list is_new (kept_with new)
   remembers_from old new list true (kept, (order, is)) none = (none, (kept, (order, ap kept_with is)))
   remembers_from old new list false (known, is) none = (known, ap kept_with is)
 
-  pub remembers : (old new : List FieldSelection) (lists now : List (List ℕ)) (list : List FieldSelection) (numbers : List ℕ) (is_new : Bool) → IsDistinct selection_eq new → Grows old new → AllWithin old lists
+  pub remembers : (old new : List Member) (lists now : List (List ℕ)) (list : List Member) (numbers : List ℕ) (is_new : Bool) → IsDistinct selection_eq new → Grows old new → AllWithin old lists
       → AreNumbersIn selection_eq new list numbers → Keeps lists numbers is_new now
       → Remembers (record base { lists = map (at_places (contents_of old)) lists }) (contents_of list) is_new (record base { lists = map (at_places (contents_of new)) now })
   remembers old new lists now list numbers is_new distinct grown all are keeps =
@@ -115,7 +115,7 @@ module _ (base : Kept) where
       (subst (λ l. Remembers (kept_with (map (at_places (map content_of old)) lists)) l is_new (kept_with (map (at_places (map content_of new)) now))) (contents_said list) from))
 
 -- fields that are met
-pub fields_met : (old new list : List FieldSelection) (before after : Account) → IsDistinct selection_eq new → Grows old new → AddsOnly old list new → before.met ≡ contents_of old → after.met ≡ contents_of new
+pub fields_met : (old new list : List Member) (before after : Account) → IsDistinct selection_eq new → Grows old new → AddsOnly old list new → before.met ≡ contents_of old → after.met ≡ contents_of new
     → after.comparisons ≡ before.comparisons → Meets (contents_of list) before after
 fields_met old new list before after distinct grown only was now same = record {
   only = λ x c.
@@ -130,73 +130,73 @@ fields_met old new list before after distinct grown only was now same = record {
 }
 
 -- nothing came to the lists
-pub lists_still : (old new : List FieldSelection) (lists now : List (List ℕ)) → Grows old new → AllWithin old lists → now ≡ lists → map (at_places (contents_of new)) now ≡ map (at_places (contents_of old)) lists
+pub lists_still : (old new : List Member) (lists now : List (List ℕ)) → Grows old new → AllWithin old lists → now ≡ lists → map (at_places (contents_of new)) now ≡ map (at_places (contents_of old)) lists
 lists_still old new lists now grown all is =
     ap (map (at_places (contents_of new))) is ∙ ap (λ t. map (at_places t) lists) (sym (contents_said new)) ∙ said_still selection_eq content_of sound_fields old new lists grown all ∙ ap (λ t. map (at_places t) lists) (contents_said old)
 
 -- ---- lists of sets
 
 -- a list of sets is put last, in some order; where it is not new, one with the same members stood there
-abbrev pub Expands : Kept → List PlainSet → Bool → Kept → Type 0
-Expands old sets true new = (kept : List PlainSet) × (HaveSame kept sets × (new ≡ record old { expanded = old.expanded ++ kept ∷ [] }))
+abbrev pub Expands : Kept → List ReadSet → Bool → Kept → Type 0
+Expands old sets true new = (kept : List ReadSet) × (HaveSame kept sets × (new ≡ record old { expanded = old.expanded ++ kept ∷ [] }))
 Expands old sets false new = HasLooked old.expanded sets × (new ≡ old)
 
-abbrev plain_of : SelectedSet → PlainSet
-plain_of s = unplaced_set (meant_at s)
+abbrev plain_of : SelectedSet → ReadSet
+plain_of s = list_read (meant_at s)
 
-sets_said : (xs : List SelectedSet) → map plain_of xs ≡ plain_sets (meant_sets xs)
+sets_said : (xs : List SelectedSet) → map plain_of xs ≡ read_sets (meant_sets xs)
 sets_said [] = refl
 sets_said (x ∷ xs) = ap (λ l. plain_of x ∷ l) (sets_said xs)
 
 sets_noted : (old new : List SelectedSet) (lists now : List (List ℕ)) (sets : List SelectedSet) (numbers : List ℕ) (is_new : Bool) → Grows old new → AllWithin old lists → AreNumbersIn set_key_eq new sets numbers
-    → Keeps lists numbers is_new now → Notes (map (at_places (plain_sets (meant_sets old))) lists) (plain_sets (meant_sets sets)) is_new (map (at_places (plain_sets (meant_sets new))) now)
+    → Keeps lists numbers is_new now → Notes (map (at_places (read_sets (meant_sets old))) lists) (read_sets (meant_sets sets)) is_new (map (at_places (read_sets (meant_sets new))) now)
 sets_noted old new lists now sets numbers is_new grown all are keeps =
-    subst (λ t. Notes (map (at_places t) lists) (plain_sets (meant_sets sets)) is_new (map (at_places (plain_sets (meant_sets new))) now)) (sets_said old)
-    (subst (λ t. Notes (map (at_places (map plain_of old)) lists) (plain_sets (meant_sets sets)) is_new (map (at_places t) now)) (sets_said new)
+    subst (λ t. Notes (map (at_places t) lists) (read_sets (meant_sets sets)) is_new (map (at_places (read_sets (meant_sets new))) now)) (sets_said old)
+    (subst (λ t. Notes (map (at_places (map plain_of old)) lists) (read_sets (meant_sets sets)) is_new (map (at_places t) now)) (sets_said new)
     (subst (λ l. Notes (map (at_places (map plain_of old)) lists) l is_new (map (at_places (map plain_of new)) now)) (sets_said sets)
     (said_notes set_key_eq plain_of same_sets old new lists now sets numbers is_new grown all are keeps)))
 
 module _ (base : Kept) where
-  abbrev sets_with : List (List PlainSet) → Kept
+  abbrev sets_with : List (List ReadSet) → Kept
   sets_with ls = record base { expanded = ls }
 
-  expands_from : (old new : List (List PlainSet)) (sets : List PlainSet) (is_new : Bool) → Notes old sets is_new new → Expands (sets_with old) sets is_new (sets_with new)
+  expands_from : (old new : List (List ReadSet)) (sets : List ReadSet) (is_new : Bool) → Notes old sets is_new new → Expands (sets_with old) sets is_new (sets_with new)
   expands_from old new sets true (kept, (order, is)) = (kept, (same_sym sets kept (same_order sets kept order), ap sets_with is))
   expands_from old new sets false (known, is) = (known, ap sets_with is)
 
   pub expands : (old new : List SelectedSet) (lists now : List (List ℕ)) (sets : List SelectedSet) (numbers : List ℕ) (is_new : Bool) → Grows old new → AllWithin old lists → AreNumbersIn set_key_eq new sets numbers
-      → Keeps lists numbers is_new now → Expands (record base { expanded = map (at_places (plain_sets (meant_sets old))) lists }) (plain_sets (meant_sets sets)) is_new
-      (record base { expanded = map (at_places (plain_sets (meant_sets new))) now })
+      → Keeps lists numbers is_new now → Expands (record base { expanded = map (at_places (read_sets (meant_sets old))) lists }) (read_sets (meant_sets sets)) is_new
+      (record base { expanded = map (at_places (read_sets (meant_sets new))) now })
   expands old new lists now sets numbers is_new grown all are keeps =
-      expands_from (map (at_places (plain_sets (meant_sets old))) lists) (map (at_places (plain_sets (meant_sets new))) now) (plain_sets (meant_sets sets)) is_new (sets_noted old new lists now sets numbers is_new grown all are keeps)
+      expands_from (map (at_places (read_sets (meant_sets old))) lists) (map (at_places (read_sets (meant_sets new))) now) (read_sets (meant_sets sets)) is_new (sets_noted old new lists now sets numbers is_new grown all are keeps)
 
 -- ---- pairs of sources
 
-abbrev plain_source : SelectionSource → PlainSource
-plain_source x = unplaced_source (source_meant x)
+abbrev plain_source : SelectionSource → ReadSet
+plain_source x = list_read (source_meant x)
 
-sources_said : (xs : List SelectionSource) → map plain_source xs ≡ plain_sources (meant_sources xs)
+sources_said : (xs : List SelectionSource) → map plain_source xs ≡ read_sets (meant_sources xs)
 sources_said [] = refl
 sources_said (x ∷ xs) = ap (λ l. plain_source x ∷ l) (sources_said xs)
 
 sources_noted : (old new : List SelectionSource) (lists now : List (List ℕ)) (xs : List SelectionSource) (numbers : List ℕ) (is_new : Bool) → Grows old new → AllWithin old lists → AreNumbersIn source_eq new xs numbers
-    → Keeps lists numbers is_new now → Notes (map (at_places (plain_sources (meant_sources old))) lists) (plain_sources (meant_sources xs)) is_new (map (at_places (plain_sources (meant_sources new))) now)
+    → Keeps lists numbers is_new now → Notes (map (at_places (read_sets (meant_sources old))) lists) (read_sets (meant_sources xs)) is_new (map (at_places (read_sets (meant_sources new))) now)
 sources_noted old new lists now xs numbers is_new grown all are keeps =
-    subst (λ t. Notes (map (at_places t) lists) (plain_sources (meant_sources xs)) is_new (map (at_places (plain_sources (meant_sources new))) now)) (sources_said old)
-    (subst (λ t. Notes (map (at_places (map plain_source old)) lists) (plain_sources (meant_sources xs)) is_new (map (at_places t) now)) (sources_said new)
+    subst (λ t. Notes (map (at_places t) lists) (read_sets (meant_sources xs)) is_new (map (at_places (read_sets (meant_sources new))) now)) (sources_said old)
+    (subst (λ t. Notes (map (at_places (map plain_source old)) lists) (read_sets (meant_sources xs)) is_new (map (at_places t) now)) (sources_said new)
     (subst (λ l. Notes (map (at_places (map plain_source old)) lists) l is_new (map (at_places (map plain_source new)) now)) (sources_said xs)
     (said_notes source_eq plain_source same_sources old new lists now xs numbers is_new grown all are keeps)))
 
 module _ (base : Kept) where
-  abbrev pairs_with : List (List PlainSource) → Kept
+  abbrev pairs_with : List (List ReadSet) → Kept
   pairs_with ls = record base { looked = ls }
 
-  looks_from : (old new : List (List PlainSource)) (two : List PlainSource) (is_new : Bool) → Notes old two is_new new → LooksAt (pairs_with old) two is_new (pairs_with new)
+  looks_from : (old new : List (List ReadSet)) (two : List ReadSet) (is_new : Bool) → Notes old two is_new new → LooksAt (pairs_with old) two is_new (pairs_with new)
   looks_from old new two true (kept, (order, is)) = (kept, (same_sym two kept (same_order two kept order), ap pairs_with is))
   looks_from old new two false (known, is) = (known, ap pairs_with is)
 
   pub looks : (old new : List SelectionSource) (lists now : List (List ℕ)) (xs : List SelectionSource) (numbers : List ℕ) (is_new : Bool) → Grows old new → AllWithin old lists → AreNumbersIn source_eq new xs numbers
-      → Keeps lists numbers is_new now → LooksAt (record base { looked = map (at_places (plain_sources (meant_sources old))) lists }) (plain_sources (meant_sources xs)) is_new
-      (record base { looked = map (at_places (plain_sources (meant_sources new))) now })
+      → Keeps lists numbers is_new now → LooksAt (record base { looked = map (at_places (read_sets (meant_sources old))) lists }) (read_sets (meant_sources xs)) is_new
+      (record base { looked = map (at_places (read_sets (meant_sources new))) now })
   looks old new lists now xs numbers is_new grown all are keeps =
-      looks_from (map (at_places (plain_sources (meant_sources old))) lists) (map (at_places (plain_sources (meant_sources new))) now) (plain_sources (meant_sources xs)) is_new (sources_noted old new lists now xs numbers is_new grown all are keeps)
+      looks_from (map (at_places (read_sets (meant_sources old))) lists) (map (at_places (read_sets (meant_sources new))) now) (read_sets (meant_sources xs)) is_new (sources_noted old new lists now xs numbers is_new grown all are keeps)

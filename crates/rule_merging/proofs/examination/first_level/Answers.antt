@@ -1,5 +1,5 @@
 use Rattle.std.proofs.Common.{[], ◌∷◌, ◌++◌, map, ap, ◌∙◌}
-use Rattle.rule_field_groups.specs.Below.{meant_sets}
+use Rattle.rule_merging.specs.Members.{meant_sets}
 use Rattle.rule_merging.specs.Examined.{all_sets}
 use Rattle.rule_merging.proofs.Examining.{items_in}
 use Rattle.rule_merging.proofs.examination.first_level.Goals as goal

@@ -1,10 +1,10 @@
 use Rattle.std.proofs.Common.{◌∷◌, [], ◌||◌, sym, ap, ◌∙◌}
-use Rattle.rule_field_groups.specs.in_schema.SchemaOf.{schema_tree}
-use Rattle.rule_field_groups.specs.in_typing.DocumentView.{document_meant, operation_meant}
+use Rattle.rule_document_ground.specs.in_schema.SchemaOf.{schema_tree}
+use Rattle.rule_document_ground.specs.in_typing.DocumentView.{document_meant, operation_meant}
 use Rattle.document_typed_selections.specs.TypedTree.{typed_set_tree}
 use Rattle.document_meaning.specs.MeantTree.{meant_of_set}
 use Rattle.rule_definitions.specs.Judged.{judged}
-use Rattle.rule_field_groups.specs.in_ground.Broken.{brokens_of}
+use Rattle.rule_document_ground.specs.Broken.{brokens_of}
 use Rattle.rule_merging.specs.Counted.{AreListed}
 use Rattle.rule_merging.specs.Remembered.{account_of}
 use Rattle.rule_merging.proofs.Counting.{starting_listed, shapes_counted, only_grow}

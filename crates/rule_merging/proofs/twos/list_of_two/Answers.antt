@@ -1,7 +1,7 @@
 use Rattle.std.proofs.Common.{◌≡◌, ◌∙◌, ◌++◌, ◌∷◌, [], Bool, true, false, not, Vec, refl, sym, ap, inl, inr, true≢false}
 use Rattle.std.specs.declared.alloc.Global.{Global}
-use Rattle.rule_field_groups.proofs.in_ground.ContentEquality.{selection_eq}
-use Rattle.rule_field_groups.specs.in_ground.declared.field_selection.FieldSelection.{FieldSelection}
+use Rattle.rule_document_ground.proofs.ContentEquality.{selection_eq}
+use Rattle.rule_field_sets.specs.declared.member.Member.{Member}
 use Rattle.rule_merging.proofs.Remembering.{sound_fields, complete_fields}
 use Rattle.rule_merging.proofs.twos.list_of_two.Goals.{then-ne+in_ok-push-2, else-ne}
 use Rattle.rule_merging.proofs.twos.list_of_two.Goals as goal
@@ -21,10 +21,10 @@ returns c =
     elim c.if-ne.branch [
       | then-ne+in_ok-push-2 w ↦ inr (
         λ e. true≢false (sym (complete_fields c.args.one c.args.other e) ∙ not_true same (sym c.ne.ensures ∙ w.if-ne.true)),
-        ap (λ (v : Vec FieldSelection Global). v.items) w.list-is ∙ w.in_ok-push-2.ensures.items ∙ ap (λ l. l ++ c.args.other ∷ []) first,
+        ap (λ (v : Vec Member Global). v.items) w.list-is ∙ w.in_ok-push-2.ensures.items ∙ ap (λ l. l ++ c.args.other ∷ []) first,
       )
       | else-ne w ↦ inl (
         sound_fields c.args.one c.args.other (not_false same (sym c.ne.ensures ∙ w.if-ne.false)),
-        ap (λ (v : Vec FieldSelection Global). v.items) w.list-is ∙ first,
+        ap (λ (v : Vec Member Global). v.items) w.list-is ∙ first,
       )
     ]

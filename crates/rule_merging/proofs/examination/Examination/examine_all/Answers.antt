@@ -1,14 +1,13 @@
 use Rattle.std.proofs.Common.{◌≡◌, ◌≤◌, ◌∙◌, List, Vec, Contains, [], ◌∷◌, map, sym, ap, subst, refl, append-nil, arith}
 use Rattle.std.proofs.lemmas.Result.{IfOk-weaker}
 use Rattle.std.specs.declared.alloc.Global.{Global}
-use Rattle.rule_field_groups.specs.declared.below.SelectedSet.{SelectedSet}
+use Rattle.rule_merging.specs.declared.below.SelectedSet.{SelectedSet}
 use Rattle.rule_merging.specs.declared.examination.Examination.{Examination}
 use Rattle.graphql_names.specs.Placed.{Place}
 use Rattle.document_meaning.specs.MeantTree.{MeantOperation}
 use Rattle.rule_definitions.proofs.Lists.{not_in_nil}
 use Rattle.rule_document_definitions.specs.Limits.{chain_bound}
-use Rattle.rule_field_groups.specs.in_ground.Broken.{brokens_of}
-use Rattle.rule_field_groups.specs.Below.{meant_at}
+use Rattle.rule_document_ground.specs.Broken.{brokens_of}
 use Rattle.rule_merging.specs.Remembered.{account_of, kept_of}
 use Rattle.rule_merging.specs.Counted.{AreListed}
 use Rattle.rule_merging.specs.Examined.{Sets, all_sets, sets_in, ExaminesSets, HaveFields, schema_of, document_of}

@@ -2,9 +2,8 @@ use Rattle.std.proofs.Common.{◌≡◌, ◌∷◌, [], ◌≤◌, ◌++◌, ◌
 use Rattle.graphql_names.specs.Placed.{Place}
 use Rattle.rule_document_definitions.specs.DocumentFaults.{Broken}
 use Rattle.document_meaning.specs.MeantTree.{MeantOperation}
-use Rattle.rule_field_groups.specs.in_ground.Broken.{brokens_of}
+use Rattle.rule_document_ground.specs.Broken.{brokens_of}
 use Rattle.rule_merging.specs.Counted.{AreListed}
-use Rattle.rule_field_groups.specs.Below.{meant_at}
 use Rattle.rule_merging.specs.Remembered.{kept_of}
 use Rattle.rule_merging.specs.Examined.{sets_in, schema_of, document_of, GrowsOver}
 use Rattle.rule_merging.proofs.Examining.{SoFar}

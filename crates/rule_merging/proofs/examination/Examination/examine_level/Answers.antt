@@ -1,9 +1,9 @@
 use Rattle.std.proofs.Common.{◌<◌, [], ◌∷◌, map, take, length, sym, ap, subst, arith}
 use Rattle.std.proofs.lemmas.List.{take_all}
 use Rattle.rule_document_definitions.proofs.Unplaced.{contains_map}
-use Rattle.rule_field_groups.specs.in_ground.Broken.{brokens_of}
+use Rattle.rule_document_ground.specs.Broken.{brokens_of}
 use Rattle.rule_merging.specs.Counted.{AreListed}
-use Rattle.rule_field_groups.specs.Below.{meant_sets}
+use Rattle.rule_merging.specs.Members.{meant_sets}
 use Rattle.rule_merging.specs.Remembered.{account_of, kept_of}
 use Rattle.rule_merging.specs.Examined.{sets_in, all_sets, ExaminesSets, schema_of, document_of}
 use Rattle.rule_merging.specs.OfProgram.{Lists}

@@ -1,5 +1,5 @@
 use Rattle.std.proofs.Common.{[], map, take}
-use Rattle.rule_field_groups.specs.Below.{meant_sets}
+use Rattle.rule_merging.specs.Members.{meant_sets}
 use Rattle.rule_merging.specs.Remembered.{kept_of}
 use Rattle.rule_merging.specs.Examined.{sets_in, ExaminesSets, GrowsOver}
 use Rattle.rule_merging.proofs.examination.Examination.examine_level.Given as goal

@@ -3,14 +3,14 @@ use Rattle.std.specs.List.{sum}
 use Rattle.std.proofs.lemmas.List.{take_all}
 use Rattle.graphql_names.specs.Placed.{Place}
 use Rattle.rule_document_definitions.specs.Selected.{StandingField}
-use Rattle.rule_field_groups.specs.in_ground.Broken.{brokens_of}
-use Rattle.rule_field_groups.specs.in_ground.Fields.{fields_of}
-use Rattle.rule_field_groups.specs.Compared.{compared}
-use Rattle.rule_field_groups.specs.KeyGroups.{parts_of, parts_in, compared_in}
-use Rattle.rule_field_groups.specs.Under.{sets_in}
+use Rattle.rule_document_ground.specs.Broken.{brokens_of}
+use Rattle.rule_merging.specs.Members.{fields_of}
+use Rattle.rule_merging.specs.Compared.{compared}
+use Rattle.rule_merging.specs.KeyGroups.{parts_of, parts_in, compared_in}
+use Rattle.rule_merging.specs.Under.{sets_in}
 use Rattle.rule_merging.specs.Examined.{GroupsExamined, schema_of, document_of}
 use Rattle.rule_merging.proofs.Examining.{parts_more, no_groups, GroupsTold, groups_step}
-use Rattle.rule_field_groups.proofs.Counts.{left_of}
+use Rattle.rule_merging.proofs.Counts.{left_of}
 use Rattle.rule_merging.proofs.examination.Examination.examine_list.Goals as goal
 
 pub loop-group-init : goal.loop-group-init

@@ -2,8 +2,9 @@ use Rattle.std.proofs.Common.{◌≡◌, ◌∙◌, ◌∷◌, ◌++◌, [], tru
 use Rattle.std.specs.Prelude.{Some, is_some}
 use Rattle.std.proofs.lemmas.Result.{on_ok_weaker}
 use Rattle.rule_number_lists.proofs.Standing.{same_order}
-use Rattle.rule_field_groups.specs.in_ground.Broken.{brokens_of}
-use Rattle.rule_field_groups.specs.Below.{contents_of, meant_sets, IsMergedIn}
+use Rattle.rule_document_ground.specs.Broken.{brokens_of}
+use Rattle.rule_merging.specs.Members.{contents_of, meant_sets}
+use Rattle.rule_merging.specs.Below.{IsMergedIn}
 use Rattle.rule_merging.specs.Counted.{Pays, IsPaidIf, AreLast, AreListed}
 use Rattle.rule_merging.specs.Remembered.{Kept, account_of, kept_of, Remembers, RemembersPaid}
 use Rattle.rule_merging.specs.Examined.{sets_in, schema_of, document_of}

@@ -1,7 +1,7 @@
 use Rattle.std.proofs.Common.{◌∙◌, ap, subst}
 use Rattle.std.proofs.lemmas.Result.{on_ok_weaker}
-use Rattle.rule_field_groups.specs.in_ground.Fields.{fields_of}
-use Rattle.rule_field_groups.specs.Own.{opened, sources, source_meant, meant_sources}
+use Rattle.rule_merging.specs.Members.{fields_of}
+use Rattle.rule_merging.specs.Own.{opened, sources, source_meant, meant_sources}
 use Rattle.rule_merging.specs.Remembered.{Beside, account_of, kept_of}
 use Rattle.rule_merging.specs.Examined.{with_each, schema_of, document_of}
 use Rattle.rule_merging.specs.Pairs.{Looks, each_with}

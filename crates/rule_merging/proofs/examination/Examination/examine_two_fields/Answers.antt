@@ -1,9 +1,9 @@
 use Rattle.std.proofs.Common.{◌∙◌, ◌++◌, true, false, refl, ap, sym, subst, true≢false}
 use Rattle.std.proofs.lemmas.Result.{on_ok_weaker}
 use Rattle.rule_number_lists.proofs.Standing.{same_order}
-use Rattle.rule_field_groups.specs.in_ground.Broken.{brokens_of}
-use Rattle.rule_field_groups.specs.Under.{sets_in}
-use Rattle.rule_field_groups.specs.Below.{contents_of}
+use Rattle.rule_document_ground.specs.Broken.{brokens_of}
+use Rattle.rule_merging.specs.Under.{sets_in}
+use Rattle.rule_merging.specs.Members.{contents_of}
 use Rattle.rule_merging.specs.Counted.{OnlyMeets}
 use Rattle.rule_merging.specs.Remembered.{Kept, account_of, kept_of, Remembers}
 use Rattle.rule_merging.specs.Examined.{schema_of, document_of}

@@ -2,9 +2,9 @@ use Rattle.std.proofs.Common.{◌∷◌, [], List, Contains, sym, ap, subst}
 use Rattle.std.proofs.lemmas.Result.{on_ok_weaker}
 use Rattle.graphql_names.specs.Placed.{Place}
 use Rattle.document_meaning.specs.MeantTree.{MeantOperation, MeantDocument}
-use Rattle.rule_field_groups.specs.in_ground.Broken.{brokens_of}
-use Rattle.rule_field_groups.specs.Under.{sets_in}
-use Rattle.rule_field_groups.specs.Below.{meant_sets}
+use Rattle.rule_document_ground.specs.Broken.{brokens_of}
+use Rattle.rule_merging.specs.Under.{sets_in}
+use Rattle.rule_merging.specs.Members.{meant_sets}
 use Rattle.rule_merging.specs.Counted.{AreListed}
 use Rattle.rule_merging.specs.Remembered.{Kept, Beside, account_of, kept_of}
 use Rattle.rule_merging.specs.Examined.{Sets, Sources, of_sets, opened_here, all_opened, schema_of, document_of, ExaminesPairs}

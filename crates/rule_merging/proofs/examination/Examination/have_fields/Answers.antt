@@ -2,7 +2,8 @@ use Rattle.std.proofs.Common.{◌<◌, Bool, true, false, not, length, map, take
 use Rattle.std.proofs.lemmas.List.{take_all}
 use Rattle.rule_definitions.proofs.Lists.{not_in_nil}
 use Rattle.rule_document_definitions.proofs.Unplaced.{contains_map}
-use Rattle.rule_field_groups.specs.Below.{meant_sets, IsMergedIn}
+use Rattle.rule_merging.specs.Members.{meant_sets}
+use Rattle.rule_merging.specs.Below.{IsMergedIn}
 use Rattle.rule_merging.specs.Examined.{schema_of, document_of, HaveFields}
 use Rattle.rule_merging.proofs.Examining.{sets_at, front_more, emptied, filled, none_more, some_here}
 use Rattle.rule_merging.proofs.examination.Examination.have_fields.Goals as goal

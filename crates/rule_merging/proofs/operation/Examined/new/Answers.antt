@@ -2,7 +2,7 @@ use Rattle.std.proofs.Common.{ap, sym, subst}
 use Rattle.rule_merging.specs.Counted.{Account}
 use Rattle.rule_merging.specs.Verdict.{IsCountedIn}
 use Rattle.rule_merging.specs.Remembered.{kept_of}
-use Rattle.rule_field_groups.specs.declared.pass.Pass.TheVariants.{Shapes, Selections}
+use Rattle.rule_merging.specs.declared.pass.Pass.TheVariants.{Shapes, Selections}
 use Rattle.rule_merging.proofs.Examining.{nothing_settled}
 use Rattle.rule_merging.proofs.Counting.{none_counted}
 use Rattle.rule_merging.proofs.operation.Examined.new.Goals as goal

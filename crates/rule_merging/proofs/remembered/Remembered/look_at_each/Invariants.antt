@@ -1,5 +1,5 @@
 use Rattle.std.proofs.Common.{◌≡◌, take}
-use Rattle.rule_field_groups.specs.Own.{source_meant, meant_sources}
+use Rattle.rule_merging.specs.Own.{source_meant, meant_sources}
 use Rattle.rule_merging.specs.Remembered.{kept_of, beside_of}
 use Rattle.rule_merging.specs.Pairs.{Looks, each_with}
 use Rattle.rule_merging.proofs.remembered.Remembered.look_at_each.Given as goal

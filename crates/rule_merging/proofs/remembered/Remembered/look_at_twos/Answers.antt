@@ -2,10 +2,10 @@ use Rattle.std.proofs.Common.{◌≡◌, ◌∙◌, ◌<◌, ◌+◌, ◌∷◌,
 use Rattle.std.proofs.lemmas.List.{take_all, map-append}
 use Rattle.graphql_names.specs.Placed.{Place}
 use Rattle.document_meaning.specs.MeantTree.{MeantSet}
-use Rattle.rule_field_groups.specs.Below.{meant_at, meant_sets}
-use Rattle.rule_field_groups.specs.Own.{OfSet, meant_sources}
-use Rattle.rule_field_groups.specs.declared.own.SelectionSource.TheVariants as rust
-use Rattle.rule_field_groups.proofs.Selected.{source_push}
+use Rattle.rule_merging.specs.Members.{meant_sets}
+use Rattle.rule_merging.specs.Own.{OfSet, meant_sources}
+use Rattle.rule_merging.specs.declared.own.SelectionSource.TheVariants as rust
+use Rattle.rule_merging.proofs.Selected.{source_push}
 use Rattle.rule_merging.specs.Examined.{of_sets}
 use Rattle.rule_merging.specs.Remembered.{kept_of}
 use Rattle.rule_merging.specs.Pairs.{Looks, LooksAtTwos, each_with}

@@ -1,7 +1,7 @@
 use Rattle.std.proofs.Common.{◌≡◌, take}
-use Rattle.rule_field_groups.specs.Below.{meant_sets}
+use Rattle.rule_merging.specs.Members.{meant_sets}
 use Rattle.rule_merging.specs.Remembered.{kept_of, beside_of}
-use Rattle.rule_field_groups.specs.Own.{meant_sources}
+use Rattle.rule_merging.specs.Own.{meant_sources}
 use Rattle.rule_merging.specs.Examined.{of_sets}
 use Rattle.rule_merging.specs.Pairs.{LooksAtTwos}
 use Rattle.rule_merging.proofs.remembered.Remembered.look_at_twos.Given as goal

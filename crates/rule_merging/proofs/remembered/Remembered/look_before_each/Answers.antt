@@ -1,7 +1,7 @@
 use Rattle.std.proofs.Common.{◌≡◌, ◌∙◌, ◌<◌, ◌+◌, ◌∷◌, ◌++◌, [], take, length, refl, sym, ap, subst, arith}
 use Rattle.std.proofs.lemmas.List.{take_all, map-append}
 use Rattle.graphql_names.specs.Placed.{Place}
-use Rattle.rule_field_groups.specs.Own.{Source, source_meant, meant_sources}
+use Rattle.rule_merging.specs.Own.{Source, source_meant, meant_sources}
 use Rattle.rule_merging.specs.Remembered.{kept_of}
 use Rattle.rule_merging.specs.Examined.{with_each}
 use Rattle.rule_merging.specs.Pairs.{Looks}

@@ -1,5 +1,5 @@
 use Rattle.std.proofs.Common.{◌≡◌, take}
-use Rattle.rule_field_groups.specs.Own.{source_meant, meant_sources}
+use Rattle.rule_merging.specs.Own.{source_meant, meant_sources}
 use Rattle.rule_merging.specs.Remembered.{kept_of, beside_of}
 use Rattle.rule_merging.specs.Examined.{with_each}
 use Rattle.rule_merging.specs.Pairs.{Looks}

@@ -1,16 +1,16 @@
 use Rattle.std.proofs.Common.{map}
 use Rattle.rule_number_lists.specs.Numbered.{at_places}
 use Rattle.rule_number_lists.specs.ListMemory.{items_of}
-use Rattle.rule_field_groups.specs.Below.{contents_of, meant_sets, plain_sets}
-use Rattle.rule_field_groups.specs.Own.{meant_sources}
-use Rattle.rule_merging.specs.Remembered.{plain_sources, two_of}
+use Rattle.rule_merging.specs.Members.{contents_of, meant_sets, read_sets}
+use Rattle.rule_merging.specs.Own.{meant_sources}
+use Rattle.rule_merging.specs.Remembered.{read_sets, two_of}
 use Rattle.rule_merging.proofs.remembered.Remembered.new.Goals as goal
 
 pub returns-clause-kept : goal.returns-clause-kept
 returns-clause-kept c = λ i. record {
   lists = map (at_places (contents_of (items_of c.new.result))) (c.new.ensures.lists i);
-  expanded = map (at_places (plain_sets (meant_sets (items_of c.new-2.result)))) (c.new-2.ensures.lists i);
-  looked = map (at_places (plain_sources (meant_sources (items_of c.new-3.result)))) (c.new-3.ensures.lists i);
+  expanded = map (at_places (read_sets (meant_sets (items_of c.new-2.result)))) (c.new-2.ensures.lists i);
+  looked = map (at_places (read_sets (meant_sources (items_of c.new-3.result)))) (c.new-3.ensures.lists i);
   pairs = map two_of (c.new-4.ensures.items i);
 }
 

@@ -1,13 +1,13 @@
 use Rattle.std.proofs.Common.{◌∙◌, ◌≤◌, List, ℕ, map, length, refl, sym, ap, subst, arith}
 use Rattle.std.proofs.lemmas.List.{length-map}
-use Rattle.rule_document_definitions.specs.Contents.{unplaced_content}
+use Rattle.rule_document_definitions.specs.ReadFields.{field_read}
 use Rattle.rule_number_lists.specs.Numbered.{at_places}
 use Rattle.rule_number_lists.specs.NumberLists.{Keeps}
 use Rattle.rule_number_lists.specs.ListMemory.{items_of, numbers_kept}
 use Rattle.rule_number_lists.proofs.Standing.{of_table}
-use Rattle.rule_field_groups.specs.in_ground.Fields.{field_of, fields_of}
-use Rattle.rule_field_groups.specs.Below.{contents_of}
-use Rattle.rule_field_groups.proofs.in_ground.ContentEquality.{selection_eq}
+use Rattle.rule_merging.specs.Members.{field_of, fields_of}
+use Rattle.rule_merging.specs.Members.{contents_of}
+use Rattle.rule_document_ground.proofs.ContentEquality.{selection_eq}
 use Rattle.rule_merging.specs.Counted.{most_members}
 use Rattle.rule_merging.specs.Remembered.{kept_of, account_of, Remembers}
 use Rattle.rule_merging.proofs.Counting.{pays_nothing, pays_all}
@@ -42,8 +42,8 @@ returns-in_err-is_new-in-Some-clause-pays c =
     let met = ap (λ t. contents_of t.keys) c.remember_numbers.ensures.items in
     pays_all (contents_of c.args.list.now) (account_of c.args.self.now) _
     (fields_met (items_of c.args.self.now.lists) mid c.args.list.now (account_of c.args.self.now) _ c.numbers.ensures.unique c.numbers.ensures.grown c.numbers.ensures.only refl met refl)
-    (omega (arith, c.in-Some.ensures.0, length-map (fields_of c.args.list.now) unplaced_content, length-map c.args.list.now field_of))
-    (subst (λ n. c.in-Some.spent ≤ most_members n) (c.len.ensures ∙ sym (length-map mid field_of) ∙ sym (length-map (fields_of mid) unplaced_content) ∙ sym (ap length met)) c.in-Some.ensures.1)
+    (omega (arith, c.in-Some.ensures.0, length-map (fields_of c.args.list.now) field_read, length-map c.args.list.now field_of))
+    (subst (λ n. c.in-Some.spent ≤ most_members n) (c.len.ensures ∙ sym (length-map mid field_of) ∙ sym (length-map (fields_of mid) field_read) ∙ sym (ap length met)) c.in-Some.ensures.1)
 
 pub returns-in-None-clause-remembers : goal.returns-in-None-clause-remembers
 returns-in-None-clause-remembers c =
@@ -74,5 +74,5 @@ returns-in_ok-is_new-in-Some-clause-pays c =
     let met = ap (λ t. contents_of t.keys) c.remember_numbers.ensures.items in
     pays_all (contents_of c.args.list.now) (account_of c.args.self.now) _
     (fields_met (items_of c.args.self.now.lists) mid c.args.list.now (account_of c.args.self.now) _ c.numbers.ensures.unique c.numbers.ensures.grown c.numbers.ensures.only refl met refl)
-    (omega (arith, c.in-Some.ensures.0, length-map (fields_of c.args.list.now) unplaced_content, length-map c.args.list.now field_of))
-    (subst (λ n. c.in-Some.spent ≤ most_members n) (c.len.ensures ∙ sym (length-map mid field_of) ∙ sym (length-map (fields_of mid) unplaced_content) ∙ sym (ap length met)) c.in-Some.ensures.1)
+    (omega (arith, c.in-Some.ensures.0, length-map (fields_of c.args.list.now) field_read, length-map c.args.list.now field_of))
+    (subst (λ n. c.in-Some.spent ≤ most_members n) (c.len.ensures ∙ sym (length-map mid field_of) ∙ sym (length-map (fields_of mid) field_read) ∙ sym (ap length met)) c.in-Some.ensures.1)

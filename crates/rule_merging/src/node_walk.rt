@@ -1,0 +1,154 @@
+//! A walk over selection sets by their nodes.
+ghost use Rattle.std.specs.Prelude.{◌≡◌, OnOk, IfOk, IsTrue};
+ghost use Rattle.rule_field_sets.specs.Nodes.{AreSets, HasAllStarts};
+ghost use Rattle.rule_merging.specs.Members.{meant_sets, AreMembersOf};
+ghost use Rattle.rule_merging.specs.Below.{IsMerged, IsPartOfMerged};
+ghost use Rattle.rule_document_ground.specs.Fields.{meant_fragments};
+ghost use Rattle.rule_merging.specs.NodeWalk.{PassesMember, PassesMembers, PassesNode, WalksOn, WalksOver, IsBegun};
+
+use crate::nodes::{fragment_of, node_of};
+use indexmap::IndexSet;
+use rule_field_sets::{FieldSets, Member, SetNode};
+use rule_number_lists::NumberSet;
+use std::alloc::{AllocError, Global};
+
+/// What a walk may cost: a step for each field and each spread that it passes. Fields that were not met before pay for more.
+#[derive(Clone, Copy)]
+pub(crate) struct Toll<'a> {
+    /// The numbers of the fields that were met.
+    pub(crate) met: &'a NumberSet,
+    /// How many steps are paid.
+    pub(crate) paid: usize,
+    /// How many steps a field pays that was not met.
+    pub(crate) each: usize,
+}
+
+/// What sets select, through fragments: all of it, or of a walk that was not paid to its end the first part; each number once.
+#[derive(Drop)]
+pub(crate) struct MergedList<'doc> {
+    pub(crate) members: Vec<Member<'doc>>,
+    pub(crate) is_whole: bool,
+    /// How many steps the walk took.
+    pub(crate) steps: usize,
+}
+
+/// A walk over the sets of nodes, one after the other, for the fields that they select. A fragment is walked once for all of them: what
+/// it selects is there when a later set spreads it.
+#[derive(Drop)]
+struct NodeWalk<'doc> {
+    members: Vec<Member<'doc>>,
+    /// The numbers of these.
+    numbers: NumberSet,
+    /// The fragments that are spread, by their places in the document, in the order of their first spreads.
+    spread: IndexSet<usize>,
+    /// How many of these fields were not met before.
+    fresh: usize,
+    steps: usize,
+    is_whole: bool,
+}
+
+impl<'doc> NodeWalk<'doc> {
+    /// Whether so many steps more are paid. They are taken, or the walk is not whole.
+    fn steps_on(&mut self, toll: Toll<'_>, more: usize) -> bool {
+        let paid = toll.paid.saturating_add(self.fresh.saturating_mul(toll.each));
+        let steps = self.steps.saturating_add(more);
+        if steps > paid {
+            self.is_whole = false;
+            return false;
+        }
+        self.steps = steps;
+        true
+    }
+
+    /// Adds a field, unless its number is there.
+    fn pass_member(&mut self, toll: Toll<'_>, member: Member<'doc>) -> Result<(), AllocError> {
+        if !self.numbers.insert(member.number)? {
+            return Ok(());
+        }
+        if !toll.met.contains(member.number) {
+            self.fresh = self.fresh.saturating_add(1);
+        }
+        self.members.push(member)?;
+        Ok(())
+    }
+
+    /// Adds the fields.
+    fn pass_members(&mut self, toll: Toll<'_>, members: &[Member<'doc>]) -> Result<(), AllocError> {
+        for member in members {
+            self.pass_member(toll, *member)?;
+        }
+        Ok(())
+    }
+
+    /// Notes the fragments.
+    fn note_spreads(&mut self, spreads: &[usize]) -> Result<(), AllocError> {
+        for place in spreads {
+            self.spread.insert(*place)?;
+        }
+        Ok(())
+    }
+
+    /// Passes the fields and the spreads of a node, if that is paid.
+    fn pass_node(&mut self, toll: Toll<'_>, node: &SetNode<'doc>) -> Result<(), AllocError> {
+        let more = node.members.len().saturating_add(node.spreads.len());
+        if !self.steps_on(toll, more) {
+            return Ok(());
+        }
+        self.pass_members(toll, &node.members)?;
+        self.note_spreads(&node.spreads)
+    }
+
+    /// Passes the fragments that are noted from this one on, and those that they lead to.
+    fn pass_fragments(
+        &mut self,
+        toll: Toll<'_>,
+        sets: &FieldSets<'doc>,
+        mut entered: usize,
+    ) -> Result<(), AllocError> {
+        while self.is_whole && entered < self.spread.len() {
+            let fragment = fragment_of(sets, self.spread[entered])?;
+            self.pass_node(toll, fragment)?;
+            entered += 1;
+        }
+        Ok(())
+    }
+
+    /// Walks over the set of a node, and over each fragment that it reaches and that no set before it does.
+    fn walk(&mut self, toll: Toll<'_>, sets: &FieldSets<'doc>, node: usize) -> Result<(), AllocError> {
+        let entered = self.spread.len();
+        self.pass_node(toll, node_of(sets, node)?)?;
+        self.pass_fragments(toll, sets, entered)
+    }
+}
+
+/// The merged list of the sets of these nodes: what they select, through fragments, each content once ("mergedSet"), as far as that is
+/// paid.
+pub(crate) fn merged_list<'doc>(
+    alloc: Global,
+    sets: &FieldSets<'doc>,
+    toll: Toll<'_>,
+    nodes: &[usize],
+) -> Result<MergedList<'doc>, AllocError>
+    requires sets { AreSets sets.now }
+    requires starts { HasAllStarts sets.now }
+    ensures whole { IfOk result (λ r. IsTrue r.is_whole → IsMerged (meant_fragments sets.now.fragments.now) (meant_sets sets.now nodes.now) r.members.items) }
+    ensures part { IfOk result (λ r. IsPartOfMerged (meant_fragments sets.now.fragments.now) (meant_sets sets.now nodes.now) r.members.items) }
+    ensures members { IfOk result (λ r. AreMembersOf sets.now r.members.items) }
+{
+    let mut walk = NodeWalk {
+        members: Vec::new(alloc),
+        numbers: NumberSet::new(alloc),
+        spread: IndexSet::new(alloc),
+        fresh: 0,
+        steps: 0,
+        is_whole: true,
+    };
+    for node in nodes {
+        walk.walk(toll, sets, *node)?;
+    }
+    Ok(MergedList {
+        members: walk.members,
+        is_whole: walk.is_whole,
+        steps: walk.steps,
+    })
+}
