@@ -1,5 +1,6 @@
 //! The selection sets of a document as nodes.
-ghost use Rattle.std.specs.Prelude.{◌≡◌, ◌<◌, ◌≤◌, ◌+◌, ◌++◌, ◌∷◌, [], ℕ, List, Some, None, MatchOption, Contains, slice_get, map, length, IfOk, OnOk, OnErr};
+ghost use Rattle.std.specs.Prelude.{◌≡◌, ◌<◌, ◌≤◌, ◌+◌, ◌++◌, ◌∷◌, [], ℕ, List, Some, None, MatchOption, Contains, slice_get, map, length, IfOk, OnOk, OnErr, option_map};
+ghost use Rattle.rule_field_sets.specs.Numbered.{tables_of};
 ghost use Rattle.graphql_names.specs.Placed.{Place};
 ghost use Rattle.document_typed_selections.specs.TypedTree.{TypedSet, typed_set_tree};
 ghost use Rattle.document_walks.specs.WalkView.{fragments_tree};
@@ -150,6 +151,31 @@ impl<'doc> FieldSets<'doc> {
         ensures { slice_get (set_nodes self.now) node ≡ Some result.now }
     {
         &self.nodes[node]
+    }
+
+    /// The node at a place, if there is one.
+    pub fn get(&self, node: usize) -> Option<&SetNode<'doc>>
+        ensures { option_map (λ v. v.now) result ≡ slice_get (set_nodes self.now) node }
+    {
+        self.nodes.get(node)
+    }
+
+    /// The node of the fragment at a place in the document, if that has one.
+    pub fn fragment(&self, fragment: usize) -> Option<usize>
+        ensures { result ≡ slice_get (fragment_nodes self.now) fragment }
+    {
+        match self.starts.get(fragment) {
+            Some(start) => Some(*start),
+            None => None,
+        }
+    }
+
+    /// How many numbers fields have, and how many sets.
+    pub fn counts(&self) -> (usize, usize)
+        ensures fields { result.0 ≡ length (tables_of self.now.numbers).fields }
+        ensures sets { result.1 ≡ length (tables_of self.now.numbers).sets }
+    {
+        self.numbers.counts()
     }
 
     /// The node of a fragment, by its place in the document.

@@ -286,6 +286,14 @@ impl<'doc> Numbers<'doc> {
         }
     }
 
+    /// How many numbers fields have, and how many sets.
+    pub(crate) fn counts(&self) -> (usize, usize)
+        ensures fields { result.0 ≡ length (tables_of self.now).fields }
+        ensures sets { result.1 ≡ length (tables_of self.now).sets }
+    {
+        (self.fields.len(), self.sets.len())
+    }
+
     /// A field of a node as a member, and whether the node has it already. The number of its own set and the node of that are
     /// given, unless that has no selections.
     pub(crate) fn add_field(

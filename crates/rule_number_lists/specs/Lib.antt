@@ -2,3 +2,4 @@ pub mod Numbered
 pub mod Bits
 pub mod NumberPairs
 pub mod NumberLists
+pub mod NumberSet

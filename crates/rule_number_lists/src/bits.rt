@@ -27,6 +27,20 @@ impl Bits {
         }
     }
 
+    /// Whether the number is in it.
+    pub(crate) fn has(&self, number: usize) -> bool
+        ensures { result ≡ has self.now number }
+    {
+        let word = number / WORD;
+        if word < self.before {
+            return false;
+        }
+        match self.words.get(word - self.before) {
+            None => false,
+            Some(word) => word & (1 << (number % WORD)) != 0,
+        }
+    }
+
     /// Puts the number in. Whether it was not there before is given.
     pub(crate) fn set(&mut self, number: usize) -> Result<bool, AllocError>
         ensures set { IfOk result (λ is_new. Sets self.old number is_new self.new) }

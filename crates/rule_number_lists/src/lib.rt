@@ -1,7 +1,8 @@
 //! Lists and pairs of numbers, remembered by which numbers they have.
 //!
 //! For the layer above: a `NumberPairs` remembers pairs of numbers (`KeepsPair` of `specs/NumberPairs.antt`), a `NumberLists` lists
-//! of numbers (`Keeps` of `specs/NumberLists.antt`), in whatever order these stand. `proofs/Rows.antt` and `proofs/Kept.antt` say what
+//! of numbers (`Keeps` of `specs/NumberLists.antt`), in whatever order these stand; a `NumberSet` is a set of numbers
+//! (`specs/NumberSet.antt`). Each tells a number above all that it has (`bound`). `proofs/Rows.antt` and `proofs/Kept.antt` say what
 //! is kept after a call and how many pairs there can be, `proofs/Few.antt` how long lists can be in all, and
 //! `proofs/Standing.antt` what lists of numbered things come to.
 #![tactic(auto)]
@@ -9,6 +10,8 @@
 mod bits;
 mod lists;
 mod pairs;
+mod set;
 
 pub use lists::NumberLists;
 pub use pairs::NumberPairs;
+pub use set::NumberSet;

@@ -1,5 +1,5 @@
 //! Lists of numbers that are remembered.
-ghost use Rattle.std.specs.Prelude.{◌≡◌, ℕ, [], ◌≤◌, length, IfOk, OnErr, IsPermutation, Contains, Vec};
+ghost use Rattle.std.specs.Prelude.{◌≡◌, ℕ, List, [], ◌≤◌, ◌<◌, ◌+◌, length, IfOk, OnErr, IsPermutation, Contains, Vec};
 ghost use Rattle.std.specs.Global.{Global};
 ghost use Rattle.std.specs.List.Sorted.{IsNonDecreasing};
 ghost use Rattle.std.proofs.Props.{props};
@@ -13,7 +13,10 @@ use std::alloc::{AllocError, Global};
 pub struct NumberLists {
     pairs: NumberPairs,
     longer: IndexSet<Vec<usize>>,
+    /// A number above all in the longer lists.
+    above: usize,
     ghost ordered: { (v : Vec ℕ Global) → Contains longer.keys v → IsNonDecreasing v.items } by { Prim.hlevel props },
+    ghost within: { (v : Vec ℕ Global) → Contains longer.keys v → (n : ℕ) → Contains v.items n → n < above } by { Prim.hlevel props },
     ghost long: { (v : Vec ℕ Global) → Contains longer.keys v → 3 ≤ length v.items } by { Prim.hlevel props },
 }
 
@@ -22,6 +25,7 @@ impl Drop for NumberLists {
         let NumberLists {
             pairs: _,
             longer: _,
+            above: _,
         } = self;
     }
 }
@@ -36,7 +40,15 @@ impl NumberLists {
         NumberLists {
             pairs: NumberPairs::new(alloc),
             longer: IndexSet::new(alloc),
+            above: 0,
         }
+    }
+
+    /// A number above all that are in lists.
+    pub fn bound(&self) -> usize
+        ensures { (list : List ℕ) → Contains (lists_kept self.now) list → (n : ℕ) → Contains list n → n < result }
+    {
+        self.above.max(self.pairs.bound())
     }
 
     /// Remembers a list of two numbers, or of one where both are it. Whether it was not remembered before is given.
@@ -67,8 +79,33 @@ impl NumberLists {
         ensures keeps { IfOk result (λ is_new. Keeps (lists_kept self.old) numbers.items is_new (lists_kept self.new)) }
         ensures refused { OnErr result (lists_kept self.new ≡ lists_kept self.old) }
     {
+        let above = above(&numbers)?;
         let numbers = in_order(numbers);
+        self.above = self.above.max(above);
         Ok(self.longer.insert(numbers)?)
+    }
+}
+
+/// A number above all of these. Where there is none that can be told it fails, as where memory does not suffice.
+fn above(numbers: &[usize]) -> Result<usize, AllocError>
+    ensures { IfOk result (λ bound. (n : ℕ) → Contains numbers.now n → n < bound) }
+{
+    let mut bound = 0;
+    for number in numbers {
+        if *number >= bound {
+            bound = one_above(*number)?;
+        }
+    }
+    Ok(bound)
+}
+
+/// The next number, if there is one.
+fn one_above(number: usize) -> Result<usize, AllocError>
+    ensures { IfOk result (λ next. next ≡ number + 1) }
+{
+    match number.checked_add(1) {
+        Some(next) => Ok(next),
+        None => Err(AllocError),
     }
 }
 

@@ -1,5 +1,5 @@
 //! Pairs of numbers that are remembered.
-ghost use Rattle.std.specs.Prelude.{◌≡◌, [], ◌<◌, length, max, min, IfOk, OnOk, OnErr};
+ghost use Rattle.std.specs.Prelude.{◌≡◌, ℕ, Contains, [], ◌<◌, length, max, min, IfOk, OnOk, OnErr};
 
 use crate::bits::Bits;
 use std::alloc::{AllocError, Global};
@@ -20,6 +20,13 @@ impl NumberPairs {
         NumberPairs {
             rows: Vec::new(alloc),
         }
+    }
+
+    /// A number above all that are in pairs.
+    pub fn bound(&self) -> usize
+        ensures { (p : ℕ × ℕ) → Contains (pairs_kept self.now) p → (p.0 < result) × (p.1 < result) }
+    {
+        self.rows.len()
     }
 
     /// Remembers a pair. Whether it was not remembered before is given, in whatever order.
