@@ -48,16 +48,13 @@ struct NodeWalk<'doc> {
 }
 
 impl<'doc> NodeWalk<'doc> {
-    /// Whether so many steps more are paid. They are taken, or the walk is not whole.
-    fn steps_on(&mut self, toll: Toll<'_>, more: usize) -> bool {
+    /// Whether the steps so far are paid. Else the walk is not whole.
+    fn is_paid(&mut self, toll: Toll<'_>) -> bool {
         let paid = toll.paid.saturating_add(self.fresh.saturating_mul(toll.each));
-        let steps = self.steps.saturating_add(more);
-        if steps > paid {
+        if self.steps > paid {
             self.is_whole = false;
-            return false;
         }
-        self.steps = steps;
-        true
+        self.is_whole
     }
 
     /// Adds a field, unless its number is there.
@@ -88,12 +85,13 @@ impl<'doc> NodeWalk<'doc> {
         Ok(())
     }
 
-    /// Passes the fields and the spreads of a node, if that is paid.
+    /// Passes the fields and the spreads of a node, if what came before is paid.
     fn pass_node(&mut self, toll: Toll<'_>, node: &SetNode<'doc>) -> Result<(), AllocError> {
-        let more = node.members.len().saturating_add(node.spreads.len());
-        if !self.steps_on(toll, more) {
+        if !self.is_paid(toll) {
             return Ok(());
         }
+        let more = node.members.len().saturating_add(node.spreads.len());
+        self.steps = self.steps.saturating_add(more);
         self.pass_members(toll, &node.members)?;
         self.note_spreads(&node.spreads)
     }
@@ -146,6 +144,7 @@ pub(crate) fn merged_list<'doc>(
     for node in nodes {
         walk.walk(toll, sets, *node)?;
     }
+    walk.is_paid(toll);
     Ok(MergedList {
         members: walk.members,
         is_whole: walk.is_whole,
