@@ -107,8 +107,8 @@ impl<'doc> FieldSets<'doc> {
         fragments: &'doc FragmentMap,
     ) -> FieldSets<'doc>
         ensures sets { AreSets result }
-        ensures schema { result.schema ≡ schema }
-        ensures fragments { result.fragments ≡ fragments }
+        ensures schema { result.schema ≡ schema.entry }
+        ensures fragments { result.fragments ≡ fragments.entry }
         ensures nodes { set_nodes result ≡ [] }
         ensures starts { fragment_nodes result ≡ [] }
     {
