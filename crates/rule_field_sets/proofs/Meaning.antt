@@ -52,6 +52,10 @@ key_has_text x = by (content x.field.now).alias (content x.field.now).name
     by None name e = name_has_text name e
     by (Some alias) name e = name_has_text alias e
 
+-- what is read of a field that has a number
+abbrev known_read : FieldKey × KnownField → FieldKey × ReadField
+known_read e = (e.0, read_of e.1.first)
+
 first_of_zip : (t : Tables) (ns : List ℕ) (c : ReadField) → AllZip (MeansField t) ns (c ∷ []) → (n : ℕ) × MeansField t n c
 first_of_zip t [] c h = absurd h
 first_of_zip t (n ∷ ns) c h = (n, h.0)
@@ -72,8 +76,7 @@ module _ (w : FieldSets) where
   -- each number that was given is that of a field with a key
   no_default : (n m : ℕ) → MeansField (tables_of w.numbers) n (no_field m) → ⊥
   no_default n m (k, at) =
-      let read = λ (e : FieldKey × KnownField). (e.0, read_of e.1.first) in
-      let e = mapped_some read (slice_get w.numbers.fields.entries n) (k, no_field m) (sym (slice_get-map read w.numbers.fields.entries n) ∙ at) in
+      let e = mapped_some known_read (slice_get w.numbers.fields.entries n) (k, no_field m) (sym (slice_get-map known_read w.numbers.fields.entries n) ∙ at) in
       key_has_text e.0.1.first (sym (ap (λ (p : FieldKey × ReadField). (head_of p.1).key) e.1.1))
 
   -- ---- a node that is there
