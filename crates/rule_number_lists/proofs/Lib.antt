@@ -4,3 +4,4 @@ pub mod Few
 pub mod Words
 pub mod Rows
 pub mod Kept
+pub mod Sets
