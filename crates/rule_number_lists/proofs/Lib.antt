@@ -5,3 +5,4 @@ pub mod Words
 pub mod Rows
 pub mod Kept
 pub mod Sets
+pub mod Said

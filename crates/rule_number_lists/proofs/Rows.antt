@@ -130,7 +130,7 @@ in_row high row low le is_in =
     in_map (with_first high) (filter (has row) (range_with_len 0 (high + 1))) low
     (in_filter (has row) (range_with_len 0 (high + 1)) low is_in (in_range 0 (high + 1) low (omega arith) (omega (arith, le))))
 
-row_apart : (high : ℕ) (p : ℕ → Bool) (a n : ℕ) → Apart (map (with_first high) (filter p (range_with_len a n)))
+pub row_apart : (high : ℕ) (p : ℕ → Bool) (a n : ℕ) → Apart (map (with_first high) (filter p (range_with_len a n)))
 row_apart high p a zero = tt
 row_apart high p a (suc n) = by (p a) (row_apart high p (a + 1) n)
   where

@@ -1,14 +1,19 @@
 -- Sets of numbers: what is in them, and where a number comes to one.
-use Rattle.std.proofs.Common.{◌≡◌, ◌∙◌, ℕ, zero, suc, ◌+◌, ◌<◌, ◌≤◌, max, Bool, true, false, not, cond, ◌∷◌, length, Contains, refl, sym, ap, subst, arith, inl, inr, true≢false}
+use Rattle.std.proofs.Common.{◌≡◌, ◌⊎◌, ◌∙◌, ℕ, zero, suc, ◌+◌, ◌<◌, ◌≤◌, max, Bool, true, false, not, cond, List, ◌∷◌, map, length, Contains, refl, sym, ap, subst, arith, inl, inr, true≢false}
 use Rattle.std.specs.List.{filter, range_with_len}
 use Rattle.std.specs.List.Sorted.{IsPermutation}
 use Rattle.std.proofs.lemmas.Bool.{cases_eq}
 use Rattle.std.proofs.lemmas.List.Elements.{filter_agree}
-use Rattle.std.proofs.lemmas.List.Sorted.{length_permutation}
+use Rattle.std.proofs.lemmas.List.Sorted.{length_permutation, IsPermutation-sym, Contains-permutation}
+use Rattle.rule_cycle_search.specs.Paths.{HasNoRepeat}
+use Rattle.rule_cycle_search.proofs.Lists.{Contains-cons}
 use Rattle.rule_number_lists.specs.declared.bits.Bits.{Bits}
+use Rattle.rule_number_lists.specs.declared.set.NumberSet.{NumberSet}
 use Rattle.rule_number_lists.specs.Bits.{has, bits_below, HaveSameBits, Sets}
-use Rattle.rule_number_lists.specs.NumberSet.{PutsIn}
-use Rattle.rule_number_lists.proofs.Rows.{same_has, of_filter, in_filter, of_range, in_range, one_more}
+use Rattle.rule_number_lists.specs.NumberSet.{numbers_in, PutsIn}
+use Rattle.rule_number_lists.proofs.Standing.{no_repeat_before}
+use Rattle.rule_number_lists.proofs.Few.{from_apart}
+use Rattle.rule_number_lists.proofs.Rows.{same_has, of_filter, in_filter, of_range, in_range, one_more, with_first, row_apart}
 
 -- none that passes the test is that high
 abbrev pub AllBelow : (ℕ → Bool) → ℕ → Type 0
@@ -103,3 +108,23 @@ module _ (old new : Bits) (bound : ℕ) (same : HaveSameBits old new) where
 
   pub same_bound : AllBelow (has old) bound → AllBelow (has new) bound
   same_bound = still_below old new bound (same_has old new same)
+
+-- ---- sets of the program
+
+-- each number stands there once
+pub numbers_once : (s : NumberSet) → HasNoRepeat (numbers_in s)
+numbers_once s = no_repeat_before (with_first 0) (numbers_in s) (from_apart (map (with_first 0) (numbers_in s)) (row_apart 0 (has s.bits) 0 s.bound))
+
+module _ (old new : List ℕ) (n : ℕ) where
+  -- nothing else comes to it
+  pub was_there : (is_new : Bool) → PutsIn old n is_new new → (m : ℕ) → Contains new m → Contains old m ⊎ (n ≡ m)
+  was_there true (none, order) m c = elim (Contains-cons n old m (Contains-permutation new (n ∷ old) m (IsPermutation-sym (n ∷ old) new order) c)) [
+    | inl e ↦ inr e
+    | inr r ↦ inl r
+  ]
+  was_there false (there, is) m c = inl (subst (λ l. Contains l m) is c)
+
+  -- and nothing goes
+  pub as_many : (is_new : Bool) → PutsIn old n is_new new → length old ≤ length new
+  as_many true (none, order) = omega (arith, length_permutation (n ∷ old) new order)
+  as_many false (there, is) = omega (arith, ap length is)
