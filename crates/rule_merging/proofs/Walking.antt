@@ -3,7 +3,7 @@ use Rattle.std.proofs.Common.{◌≡◌, ◌⊎◌, ◌∙◌, ◌++◌, ◌+◌
 use Rattle.std.specs.Prelude.{nat_eq, option_map}
 use Rattle.std.specs.List.{list_any}
 use Rattle.std.specs.List.Sorted.{IsPermutation}
-use Rattle.std.proofs.lemmas.List.{map-append, take-append-le, take_all}
+use Rattle.std.proofs.lemmas.List.{map-append, take-append-le, take_all, take_more}
 use Rattle.std.proofs.lemmas.List.Elements.{Contains-append_left, Contains-append_right, Contains-append_cases}
 use Rattle.std.proofs.lemmas.List.Sorted.{IsPermutation-sym, Contains-permutation}
 use Rattle.std.proofs.lemmas.Map.Views.{Contains-from_any, exact_unsigned_eq}
@@ -142,6 +142,15 @@ member_new m old new put members spread whole = record {
     numbers : numbers_of new.members ≡ numbers_of old.members ++ m.number ∷ []
     numbers = ap numbers_of members ∙ map-append (λ (x : Member). x.number) old.members (m ∷ [])
 
+-- the same where what is counted beside it is no part of the state
+pub member_added : (m : Member) (old mid counted new : WalkState) → PutsIn old.numbers m.number true mid.numbers → mid.members ≡ old.members → mid.spread ≡ old.spread → mid.is_whole ≡ old.is_whole
+    → counted ≡ mid → new.members ≡ counted.members ++ m ∷ [] → new.numbers ≡ counted.numbers → new.spread ≡ counted.spread → new.is_whole ≡ counted.is_whole → Passes (m ∷ []) [] old new
+member_added m old mid counted new put members spread whole same added numbers spread_too whole_too = member_new m old new
+    (subst (PutsIn old.numbers m.number true) (sym (numbers ∙ ap (λ (s : WalkState). s.numbers) same)) put)
+    (added ∙ ap (λ l. l ++ m ∷ []) (ap (λ (s : WalkState). s.members) same ∙ members))
+    (spread_too ∙ (ap (λ (s : WalkState). s.spread) same ∙ spread))
+    (whole_too ∙ (ap (λ (s : WalkState). s.is_whole) same ∙ whole))
+
 pub members_step : (ms : List Member) (i : ℕ) (m : Member) (a b c : WalkState) → i < length ms → m ≡ get_or ms i m → Passes (m ∷ []) [] b c → Passes (take i ms) [] a b → Passes (take (i + 1) ms) [] a c
 members_step ms i m a b c within is one so_far = subst (λ l. Passes l [] a c) (sym (taken_more ms i m within is)) (passes_on (take i ms) (m ∷ []) [] [] a b c so_far one)
 
@@ -170,8 +179,8 @@ spread_noted p old new is = subst (Passes [] (p ∷ []) old) (sym is) (by (list_
       all_spreads = λ h q c. subst (Contains (old.spread ++ p ∷ [])) (sym (only p q c)) (in_last old.spread p);
     }
 
-pub spreads_step : (ps : List ℕ) (i : ℕ) (p : ℕ) (a b c : WalkState) → i < length ps → p ≡ get_or ps i p → Passes [] (p ∷ []) b c → Passes [] (take i ps) a b → Passes [] (take (i + 1) ps) a c
-spreads_step ps i p a b c within is one so_far = subst (λ l. Passes [] l a c) (sym (taken_more ps i p within is)) (passes_on [] [] (take i ps) (p ∷ []) a b c so_far one)
+pub spreads_step : (ps : List ℕ) (i : ℕ) (a b c : WalkState) → i < length ps → Passes [] (get_or ps i 0 ∷ []) b c → Passes [] (take i ps) a b → Passes [] (take (i + 1) ps) a c
+spreads_step ps i a b c within one so_far = subst (λ l. Passes [] l a c) (sym (take_more ps i 0 within)) (passes_on [] [] (take i ps) (get_or ps i 0 ∷ []) a b c so_far one)
 
 -- ---- a node
 
@@ -243,13 +252,13 @@ module _ (w : FieldSets) where
         ];
       }
 
-  pub fragment_passed : (nodes : List ℕ) (k : ℕ) (p : ℕ) (v : SetNode) (old new : WalkState) → k < length old.spread → p ≡ get_or old.spread k p → IsStartOf w p v → PassesNode v old new
+  pub fragment_passed : (nodes : List ℕ) (k : ℕ) (p : ℕ) (v : SetNode) (old new : WalkState) → slice_get old.spread k ≡ Some p → IsStartOf w p v → PassesNode v old new
       → IsWalkOver w nodes (take k old.spread) old → IsWalkOver w nodes (take (k + 1) new.spread) new
-  fragment_passed nodes k p v old new within at start passes walk =
-      let there : Contains old.spread p = (k, (within, sym at)) in
+  fragment_passed nodes k p v old new at start passes walk =
+      let within : k < length old.spread = slice_get_within old.spread k p at in
       subst (λ l. IsWalkOver w nodes l new)
-      (sym (ap (take (k + 1)) passes.spread.1.0 ∙ (take-append-le (k + 1) old.spread passes.spread.0 (omega (arith, within)) ∙ taken_more old.spread k p within at)))
-      (fragment_over nodes (take k old.spread) p v old new there start passes walk)
+      (sym (ap (take (k + 1)) passes.spread.1.0 ∙ (take-append-le (k + 1) old.spread passes.spread.0 (omega (arith, within)) ∙ taken_more old.spread k p within (sym (get_or_from_slice_get old.spread k p p at)))))
+      (fragment_over nodes (take k old.spread) p v old new (contains_at old.spread k p at) start passes walk)
 
   -- a node itself
   pub node_over : (nodes : List ℕ) (n k : ℕ) (v : SetNode) (old new : WalkState) → k ≡ length old.spread → slice_get (set_nodes w) n ≡ Some v → PassesNode v old new
@@ -287,8 +296,8 @@ module _ (w : FieldSets) where
     over_fragments = λ whole p c. walk.over_fragments whole p (subst (λ l. Contains l p) (sym (take_all k s.spread (done whole))) c);
   }
 
-  pub one_more : (nodes : List ℕ) (i n : ℕ) (old new : WalkState) → i < length nodes → n ≡ get_or nodes i n → WalksOver w n old new → IsWalk w (take i nodes) old → IsWalk w (take (i + 1) nodes) new
-  one_more nodes i n old new within at walks so_far = subst (λ l. IsWalk w l new) (sym (taken_more nodes i n within at)) (walks (take i nodes) so_far)
+  pub one_more : (nodes : List ℕ) (i : ℕ) (old new : WalkState) → i < length nodes → WalksOver w (get_or nodes i 0) old new → IsWalk w (take i nodes) old → IsWalk w (take (i + 1) nodes) new
+  one_more nodes i old new within walks so_far = subst (λ l. IsWalk w l new) (sym (take_more nodes i 0 within)) (walks (take i nodes) so_far)
 
   -- ---- what it has found
 

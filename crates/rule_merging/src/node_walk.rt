@@ -75,7 +75,8 @@ impl<'doc> NodeWalk<'doc> {
     fn pass_member(&mut self, toll: Toll<'_>, member: Member<'doc>) -> Result<(), AllocError>
         ensures { OnOk result (PassesMember member.entry (state_of self.old) (state_of self.new)) }
     {
-        if !self.numbers.insert(member.number)? {
+        let is_new = self.numbers.insert(member.number)?;
+        if !is_new {
             return Ok(());
         }
         self.count_fresh(toll, member.number);
@@ -108,7 +109,8 @@ impl<'doc> NodeWalk<'doc> {
         ensures { OnOk result (PassesNode node.now (state_of self.old) (state_of self.new)) }
     {
         let more = node.members.len().saturating_add(node.spreads.len());
-        if !self.steps_on(toll, more) {
+        let is_paid = self.steps_on(toll, more);
+        if !is_paid {
             return Ok(());
         }
         self.pass_members(toll, &node.members)?;
@@ -125,7 +127,8 @@ impl<'doc> NodeWalk<'doc> {
         ensures { OnOk result (WalksOn sets.now entered (state_of self.old) (state_of self.new)) }
     {
         while self.is_whole && entered < self.spread.len() {
-            let fragment = fragment_of(sets, self.spread[entered])?;
+            let place = self.spread[entered];
+            let fragment = fragment_of(sets, place)?;
             self.pass_node(toll, fragment)?;
             entered += 1;
         }
@@ -137,7 +140,8 @@ impl<'doc> NodeWalk<'doc> {
         ensures { OnOk result (WalksOver sets.now node (state_of self.old) (state_of self.new)) }
     {
         let entered = self.spread.len();
-        self.pass_node(toll, node_of(sets, node)?)?;
+        let start = node_of(sets, node)?;
+        self.pass_node(toll, start)?;
         self.pass_fragments(toll, sets, entered)
     }
 }
