@@ -5,7 +5,6 @@ use Rattle.std.specs.Prelude.{Option, None, Some, IsSome, option_map, find}
 use Rattle.std.specs.Option.{option_map_or}
 use Rattle.std.specs.Str.{bytes_eq}
 use Rattle.std.proofs.lemmas.Option.{slice_get-get_or, slice_get_within}
-use Rattle.indexmap.specs.IndexMap.{IndexMap}
 use Rattle.graphql_names.specs.NameValue.{NameValue}
 use Rattle.graphql_names.specs.Placed.{Place, Placed, node_tree}
 use Rattle.graphql_names.specs.declared.node.Node.{Node}
@@ -15,12 +14,12 @@ use Rattle.document_typing.specs.DocumentView.{meant_by_fragment}
 use Rattle.document_typed_operations.specs.TypedDocument.{TypedFragment, typed_fragment_tree}
 use Rattle.document_typed_operations.specs.declared.operation.Fragment.{Fragment}
 use Rattle.document_walks.specs.Reached.{NamedSet, Fragments, fragment_named}
-use Rattle.document_walks.specs.WalkView.{fragment_set, fragments_tree}
+use Rattle.document_walks.specs.WalkView.{fragment_set}
 use Rattle.rule_definitions.specs.in_schema_types.Addresses.{under}
-use Rattle.rule_definitions.proofs.Lists.{not_in_nil, Contains-first, only, mapped_some, index_found}
+use Rattle.rule_definitions.proofs.Lists.{not_in_nil, Contains-first, only, mapped_some}
 use Rattle.rule_document_definitions.specs.Selected.{InOperation, StandingField}
 use Rattle.rule_document_definitions.specs.Reached.{Closed, first, next}
-use Rattle.rule_document_definitions.specs.Written.{fields_written, spreads_written, SpreadsSet, IsSetFrom, IsWrittenFrom, HasContent}
+use Rattle.rule_document_definitions.specs.Written.{fields_written, spreads_written, SpreadsSet, IsSetFrom, HasContent}
 use Rattle.rule_document_definitions.specs.PlainFields.{IsSelected}
 use Rattle.rule_document_definitions.specs.ReadFields.{ReadField, ReadSet, listed, fields_read, field_read, list_read}
 use Rattle.rule_document_definitions.proofs.Unplaced.{contains_map, contains_unmap, closed_map, closed_unmap}
@@ -30,7 +29,7 @@ use Rattle.rule_document_ground.specs.Fields.{meant_fragments}
 use Rattle.rule_field_sets.specs.declared.field_sets.FieldSets.{FieldSets}
 use Rattle.rule_field_sets.specs.declared.member.Member.{Member}
 use Rattle.rule_field_sets.specs.declared.member.SetNode.{SetNode}
-use Rattle.rule_field_sets.specs.Nodes.{typed_at, fields_at, names_at, IsNodeOf, AreSets, HasMember, HasAllStarts, set_nodes, fragment_nodes, fragments_in}
+use Rattle.rule_field_sets.specs.Nodes.{typed_at, fields_at, names_at, AreSets, HasAllStarts, set_nodes, fragment_nodes, fragments_in}
 use Rattle.rule_field_sets.specs.Read.{set_at, no_selections}
 use Rattle.rule_field_sets.proofs.Meaning.{set_of_node}
 use Rattle.rule_field_sets.proofs.Once.{inside}
@@ -208,6 +207,10 @@ module _ (w : FieldSets) (are : AreSets w) (starts : HasAllStarts w) where
         let y = written_member m.0 u.0 u.1 x here in
         (m.0, (u.0, (y.0, (m.1.0, (u.1, (y.1.0, y.1.1))))))
 
+    -- it is selected by any sets of which that one is
+    pub selected_among : (sets : List (MeantSet Place)) (n : ℕ) (x : StandingField Place) → Contains sets (set_at w n) → IsSelected d (set_at w n ∷ []) x → IsSelected d sets x
+    selected_among sets n x c (s, (i, has)) = (s, (subst (Contains sets) (sym (only (set_at w n) s i)) c, has))
+
     -- the set of a node selects each of its members
     pub member_selected : (n : ℕ) (v : SetNode) → slice_get (set_nodes w) n ≡ Some v → (m : Member) → Contains v.members.items m → IsSelected d (set_at w n ∷ []) (field_of m)
     member_selected n v at m c = selected_from n n v m (first refl) at c
@@ -217,8 +220,7 @@ module _ (w : FieldSets) (are : AreSets w) (starts : HasAllStarts w) where
     spread_selects n k leads x (s, (c, has)) =
         let t = (written_from d (InOperation None) (set_at w k) x).0 (subst (λ z. HasContent d (InOperation None) z x) (only (set_at w k) s c) has) in
         let m = from_up k t.0 t.1.0 in
-        let r = closed_from n k (next (first refl) leads) m.0 m.1.0 in
-        (
+        let r = closed_from n k (next (first refl) leads) m.0 m.1.0 in (
           set_at w n,
           (
             Contains-first (set_at w n) [] (set_at w n) refl,

@@ -1,8 +1,7 @@
 -- A walk over the sets of nodes in which no fragment is walked twice: what it passes, and what it has found.
-use Rattle.std.proofs.Common.{◌≡◌, ◌⊎◌, ◌∙◌, ◌++◌, ◌+◌, ◌<◌, ◌≤◌, ℕ, Bool, true, false, List, [], ◌∷◌, map, take, length, get_or, slice_get, Some, Contains, refl, sym, ap, subst, inl, inr, append-nil, append_assoc, arith, true≢false, if◌then◌else◌}
+use Rattle.std.proofs.Common.{◌≡◌, ◌∙◌, ◌++◌, ◌+◌, ◌<◌, ◌≤◌, ℕ, Bool, true, false, List, [], ◌∷◌, take, length, get_or, slice_get, Some, Contains, refl, sym, ap, subst, inl, inr, append-nil, append_assoc, arith, true≢false, if◌then◌else◌}
 use Rattle.std.specs.Prelude.{nat_eq, option_map}
 use Rattle.std.specs.List.{list_any}
-use Rattle.std.specs.List.Sorted.{IsPermutation}
 use Rattle.std.proofs.lemmas.List.{map-append, take-append-le, take_all, take_more}
 use Rattle.std.proofs.lemmas.List.Elements.{Contains-append_left, Contains-append_right, Contains-append_cases}
 use Rattle.std.proofs.lemmas.List.Sorted.{IsPermutation-sym, Contains-permutation}
@@ -10,7 +9,7 @@ use Rattle.std.proofs.lemmas.Map.Views.{Contains-from_any, exact_unsigned_eq}
 use Rattle.std.proofs.lemmas.Option.{slice_get_within, get_or_from_slice_get}
 use Rattle.indexmap.specs.IndexSet.{insert_key}
 use Rattle.graphql_names.specs.Placed.{Place}
-use Rattle.document_meaning.specs.MeantTree.{MeantSet, MeantDocument}
+use Rattle.document_meaning.specs.MeantTree.{MeantDocument}
 use Rattle.rule_definitions.proofs.Lists.{not_in_nil, Contains-first, Contains-cons, only, mapped_some, slice_get-map}
 use Rattle.rule_cycle_search.specs.Paths.{HasNoRepeat}
 use Rattle.rule_document_definitions.specs.Selected.{StandingField}
@@ -23,7 +22,7 @@ use Rattle.rule_number_lists.specs.NumberSet.{PutsIn}
 use Rattle.rule_field_sets.specs.declared.field_sets.FieldSets.{FieldSets}
 use Rattle.rule_field_sets.specs.declared.member.Member.{Member}
 use Rattle.rule_field_sets.specs.declared.member.SetNode.{SetNode}
-use Rattle.rule_field_sets.specs.Nodes.{AreSets, HasMember, HasAllStarts, set_nodes, fragment_nodes}
+use Rattle.rule_field_sets.specs.Nodes.{AreSets, HasMember, HasAllStarts, set_nodes}
 use Rattle.rule_field_sets.specs.Read.{set_at}
 use Rattle.rule_field_sets.proofs.Among.{one_number}
 use Rattle.rule_field_sets.proofs.Growing.{contains_at, none_twice, apart_more}
@@ -31,8 +30,8 @@ use Rattle.rule_field_sets.proofs.Members.{in_last, taken_more}
 use Rattle.rule_field_sets.proofs.Once.{inside}
 use Rattle.rule_merging.specs.Members.{field_of, fields_of, content_of, contents_of, AreMembersOf, meant_sets}
 use Rattle.rule_merging.specs.Below.{IsMergedIn, IsPartOfMergedIn}
-use Rattle.rule_merging.specs.NodeWalk.{WalkState, numbers_of, AreNumbered, with_paid, Passes, PassesNode, IsPassed, IsStartOf, SpreadsNode, IsNodeFrom, IsReached, IsWalkOver, IsWalk, WalksOn, WalksOver}
-use Rattle.rule_merging.proofs.NodeFacts.{selected_from, selects_from}
+use Rattle.rule_merging.specs.NodeWalk.{WalkState, numbers_of, AreNumbered, with_paid, Passes, PassesNode, IsPassed, IsStartOf, SpreadsNode, IsNodeFrom, IsReached, IsWalkOver, IsWalk, WalksOver}
+use Rattle.rule_merging.proofs.NodeFacts.{selected_from, selected_among, selects_from}
 
 -- ---- nothing is passed, or one thing after the other
 
@@ -343,7 +342,7 @@ module _ (w : FieldSets) where
           let from = u.1.0 in
           let one = selected_from w are starts d (sym same) from.0 from.1.1.0 u.0 m.0 from.1.1.1.0 from.1.1.1.1 u.1.1 in
           subst (IsSelected d (meant_sets w nodes)) m.1.1
-          (one.0, (subst (Contains (meant_sets w nodes)) (sym (only (set_at w from.0) one.0 one.1.0)) (contains_map (set_at w) nodes from.0 from.1.0), one.1.1))
+          (selected_among w are starts d (sym same) (meant_sets w nodes) from.0 (field_of m.0) (contains_map (set_at w) nodes from.0 from.1.0) one)
 
       found_covers : s.is_whole ≡ true → (x : StandingField Place) → IsSelected d (meant_sets w nodes) x → Contains (contents_of s.members) (field_read x)
       found_covers whole x (t, (c, has)) =

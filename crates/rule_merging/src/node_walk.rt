@@ -1,5 +1,5 @@
 //! A walk over selection sets by their nodes.
-ghost use Rattle.std.specs.Prelude.{◌≡◌, ◌∷◌, [], OnOk, IfOk, IsTrue};
+ghost use Rattle.std.specs.Prelude.{◌≡◌, OnOk, IfOk, IsTrue};
 ghost use Rattle.rule_field_sets.specs.Nodes.{AreSets, HasAllStarts};
 ghost use Rattle.rule_merging.specs.Members.{meant_sets, AreMembersOf};
 ghost use Rattle.rule_merging.specs.Below.{IsMerged, IsPartOfMerged};
@@ -52,7 +52,9 @@ impl<'doc> NodeWalk<'doc> {
     fn steps_on(&mut self, toll: Toll<'_>, more: usize) -> bool
         ensures { state_of self.new ≡ with_paid result (state_of self.old) }
     {
-        let paid = toll.paid.saturating_add(self.fresh.saturating_mul(toll.each));
+        let paid = toll
+            .paid
+            .saturating_add(self.fresh.saturating_mul(toll.each));
         let steps = self.steps.saturating_add(more);
         if steps > paid {
             self.is_whole = false;
@@ -136,7 +138,12 @@ impl<'doc> NodeWalk<'doc> {
     }
 
     /// Walks over the set of a node, and over each fragment that it reaches and that no set before it does.
-    fn walk(&mut self, toll: Toll<'_>, sets: &FieldSets<'doc>, node: usize) -> Result<(), AllocError>
+    fn walk(
+        &mut self,
+        toll: Toll<'_>,
+        sets: &FieldSets<'doc>,
+        node: usize,
+    ) -> Result<(), AllocError>
         ensures { OnOk result (WalksOver sets.now node (state_of self.old) (state_of self.new)) }
     {
         let entered = self.spread.len();
