@@ -5,22 +5,21 @@ use Rattle.std.specs.Prelude.{Option, None, Some, IsSome, option_map, find}
 use Rattle.std.specs.Option.{option_map_or}
 use Rattle.std.specs.Str.{bytes_eq}
 use Rattle.std.proofs.lemmas.Option.{slice_get-get_or, slice_get_within}
-use Rattle.indexmap.specs.IndexMap.{IndexMap}
 use Rattle.graphql_names.specs.NameValue.{NameValue}
-use Rattle.graphql_names.specs.Placed.{Place, node_tree}
+use Rattle.graphql_names.specs.Placed.{Place, Placed, node_tree}
 use Rattle.graphql_names.specs.declared.node.Node.{Node}
 use Rattle.schema_types.specs.TypeView.{name_text}
 use Rattle.document_meaning.specs.MeantTree.{MeantSet, MeantFragment, MeantDocument, meant_of_set}
 use Rattle.document_typing.specs.DocumentView.{meant_by_fragment}
-use Rattle.document_typed_operations.specs.TypedDocument.{typed_fragment_tree}
+use Rattle.document_typed_operations.specs.TypedDocument.{TypedFragment, typed_fragment_tree}
 use Rattle.document_typed_operations.specs.declared.operation.Fragment.{Fragment}
 use Rattle.document_walks.specs.Reached.{NamedSet, Fragments, fragment_named}
-use Rattle.document_walks.specs.WalkView.{fragment_set, fragments_tree}
+use Rattle.document_walks.specs.WalkView.{fragment_set}
 use Rattle.rule_definitions.specs.in_schema_types.Addresses.{under}
-use Rattle.rule_definitions.proofs.Lists.{not_in_nil, Contains-first, only, mapped_some, index_found}
+use Rattle.rule_definitions.proofs.Lists.{not_in_nil, Contains-first, only, mapped_some}
 use Rattle.rule_document_definitions.specs.Selected.{InOperation, StandingField}
 use Rattle.rule_document_definitions.specs.Reached.{Closed, first, next}
-use Rattle.rule_document_definitions.specs.Written.{fields_written, spreads_written, SpreadsSet, IsSetFrom, IsWrittenFrom, HasContent}
+use Rattle.rule_document_definitions.specs.Written.{fields_written, spreads_written, SpreadsSet, IsSetFrom, HasContent}
 use Rattle.rule_document_definitions.specs.PlainFields.{IsSelected}
 use Rattle.rule_document_definitions.specs.ReadFields.{ReadField, ReadSet, listed, fields_read, field_read, list_read}
 use Rattle.rule_document_definitions.proofs.Unplaced.{contains_map, contains_unmap, closed_map, closed_unmap}
@@ -30,7 +29,7 @@ use Rattle.rule_document_ground.specs.Fields.{meant_fragments}
 use Rattle.rule_field_sets.specs.declared.field_sets.FieldSets.{FieldSets}
 use Rattle.rule_field_sets.specs.declared.member.Member.{Member}
 use Rattle.rule_field_sets.specs.declared.member.SetNode.{SetNode}
-use Rattle.rule_field_sets.specs.Nodes.{typed_at, fields_at, names_at, IsNodeOf, AreSets, HasMember, HasAllStarts, set_nodes, fragment_nodes, fragments_in}
+use Rattle.rule_field_sets.specs.Nodes.{typed_at, fields_at, names_at, AreSets, HasAllStarts, set_nodes, fragment_nodes, fragments_in}
 use Rattle.rule_field_sets.specs.Read.{set_at, no_selections}
 use Rattle.rule_field_sets.proofs.Meaning.{set_of_node}
 use Rattle.rule_field_sets.proofs.Once.{inside}
@@ -42,7 +41,7 @@ use Rattle.rule_merging.specs.NodeWalk.{SpreadsNode, IsNodeFrom}
 -- ---- fragments by name
 
 abbrev meant_in : List (NameValue × Node Fragment) → List (List ℕ × MeantFragment Place)
-meant_in es = map (λ e. (e.0, meant_by_fragment e.1)) (map (λ (e : NameValue × Node Fragment). (name_text e.0, node_tree typed_fragment_tree e.1)) es)
+meant_in es = map (λ (e : List ℕ × Placed Place (TypedFragment Place)). (e.0, meant_by_fragment e.1)) (map (λ (e : NameValue × Node Fragment). (name_text e.0, node_tree typed_fragment_tree e.1)) es)
 
 abbrev sets_in : List (NameValue × Node Fragment) → Fragments Place
 sets_in es = map (λ (e : NameValue × Node Fragment). (e.0.text, fragment_set e.1)) es
@@ -81,17 +80,6 @@ module _ (w : FieldSets) (are : AreSets w) (starts : HasAllStarts w) where
 
     pub written_member : (f : StandingField Place) → Contains (fields_written (set_at w n)) f → (m : Member) × (Contains v.members.items m × (content_of m ≡ field_read f))
     written_member f c = (are.nodes n v at).members.covers f (subst (λ l. Contains l f) fields_of_node c)
-
-    pub read_own : (x : ReadField) → ReadOwn (list_read (set_at w n)) x ↔ ((m : Member) × (Contains v.members.items m × (content_of m ≡ x)))
-    read_own x =
-        let all : listed (fields_read (set_at w n)) ≡ map field_read (fields_written (set_at w n)) = read_written (set_at w n) in (
-          λ c.
-              let f = contains_unmap field_read (fields_written (set_at w n)) x (subst (λ l. Contains l x) all c) in
-              let m = written_member f.0 f.1.0 in
-              (m.0, (m.1.0, m.1.1 ∙ f.1.1)),
-          λ h. subst (λ l. Contains l x) (sym all)
-              (subst (Contains (map field_read (fields_written (set_at w n)))) h.1.1 (contains_map field_read (fields_written (set_at w n)) (field_of h.0) (member_written h.0 h.1.0))),
-        )
 
   -- a place without a node has a set without selections
   no_node : (n : ℕ) → slice_get (set_nodes w) n ≡ None → set_at w n ≡ no_selections
@@ -135,6 +123,18 @@ module _ (w : FieldSets) (are : AreSets w) (starts : HasAllStarts w) where
         (f.0, (f.1.0, sym f.1.1))
 
     module _ (n : ℕ) (v : SetNode) (at : slice_get (set_nodes w) n ≡ Some v) where
+      -- what is read of its own fields
+      pub read_own : (x : ReadField) → ReadOwn d (list_read (set_at w n)) x ↔ ((m : Member) × (Contains v.members.items m × (content_of m ≡ x)))
+      read_own x =
+          let all : listed (fields_read (set_at w n)) ≡ map field_read (fields_written (set_at w n)) = read_written (set_at w n) in (
+            λ c.
+                let f = contains_unmap field_read (fields_written (set_at w n)) x (subst (λ l. Contains l x) all c) in
+                let m = written_member n v at f.0 f.1.0 in
+                (m.0, (m.1.0, m.1.1 ∙ f.1.1)),
+            λ h. subst (λ l. Contains l x) (sym all)
+                (subst (Contains (map field_read (fields_written (set_at w n)))) h.1.1 (contains_map field_read (fields_written (set_at w n)) (field_of h.0) (member_written n v at h.0 h.1.0))),
+          )
+
       -- the set of the fragment at a place that the node spreads is spread by its set, and each one that its set spreads is such
       place_spread : (p k : ℕ) → Contains v.spreads.items p → slice_get (fragment_nodes w) p ≡ Some k
           → (a : List ℕ) × (Contains (spreads_written (set_at w n)) a × (option_map (λ (g : MeantFragment Place). g.set) (under a d.fragments) ≡ Some (set_at w k)))
@@ -207,6 +207,10 @@ module _ (w : FieldSets) (are : AreSets w) (starts : HasAllStarts w) where
         let y = written_member m.0 u.0 u.1 x here in
         (m.0, (u.0, (y.0, (m.1.0, (u.1, (y.1.0, y.1.1))))))
 
+    -- it is selected by any sets of which that one is
+    pub selected_among : (sets : List (MeantSet Place)) (n : ℕ) (x : StandingField Place) → Contains sets (set_at w n) → IsSelected d (set_at w n ∷ []) x → IsSelected d sets x
+    selected_among sets n x c (s, (i, has)) = (s, (subst (Contains sets) (sym (only (set_at w n) s i)) c, has))
+
     -- the set of a node selects each of its members
     pub member_selected : (n : ℕ) (v : SetNode) → slice_get (set_nodes w) n ≡ Some v → (m : Member) → Contains v.members.items m → IsSelected d (set_at w n ∷ []) (field_of m)
     member_selected n v at m c = selected_from n n v m (first refl) at c
@@ -216,8 +220,7 @@ module _ (w : FieldSets) (are : AreSets w) (starts : HasAllStarts w) where
     spread_selects n k leads x (s, (c, has)) =
         let t = (written_from d (InOperation None) (set_at w k) x).0 (subst (λ z. HasContent d (InOperation None) z x) (only (set_at w k) s c) has) in
         let m = from_up k t.0 t.1.0 in
-        let r = closed_from n k (next (first refl) leads) m.0 m.1.0 in
-        (
+        let r = closed_from n k (next (first refl) leads) m.0 m.1.0 in (
           set_at w n,
           (
             Contains-first (set_at w n) [] (set_at w n) refl,

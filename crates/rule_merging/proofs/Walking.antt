@@ -1,16 +1,15 @@
 -- A walk over the sets of nodes in which no fragment is walked twice: what it passes, and what it has found.
-use Rattle.std.proofs.Common.{◌≡◌, ◌⊎◌, ◌∙◌, ◌++◌, ◌+◌, ◌<◌, ◌≤◌, ℕ, Bool, true, false, List, [], ◌∷◌, map, take, length, get_or, slice_get, Some, Contains, refl, sym, ap, subst, inl, inr, append-nil, append_assoc, arith, true≢false, if◌then◌else◌}
+use Rattle.std.proofs.Common.{◌≡◌, ◌∙◌, ◌++◌, ◌+◌, ◌<◌, ◌≤◌, ℕ, Bool, true, false, List, [], ◌∷◌, take, length, get_or, slice_get, Some, Contains, refl, sym, ap, subst, inl, inr, append-nil, append_assoc, arith, true≢false, if◌then◌else◌}
 use Rattle.std.specs.Prelude.{nat_eq, option_map}
 use Rattle.std.specs.List.{list_any}
-use Rattle.std.specs.List.Sorted.{IsPermutation}
-use Rattle.std.proofs.lemmas.List.{map-append, take-append-le, take_all}
+use Rattle.std.proofs.lemmas.List.{map-append, take-append-le, take_all, take_more}
 use Rattle.std.proofs.lemmas.List.Elements.{Contains-append_left, Contains-append_right, Contains-append_cases}
 use Rattle.std.proofs.lemmas.List.Sorted.{IsPermutation-sym, Contains-permutation}
 use Rattle.std.proofs.lemmas.Map.Views.{Contains-from_any, exact_unsigned_eq}
 use Rattle.std.proofs.lemmas.Option.{slice_get_within, get_or_from_slice_get}
 use Rattle.indexmap.specs.IndexSet.{insert_key}
 use Rattle.graphql_names.specs.Placed.{Place}
-use Rattle.document_meaning.specs.MeantTree.{MeantSet, MeantDocument}
+use Rattle.document_meaning.specs.MeantTree.{MeantDocument}
 use Rattle.rule_definitions.proofs.Lists.{not_in_nil, Contains-first, Contains-cons, only, mapped_some, slice_get-map}
 use Rattle.rule_cycle_search.specs.Paths.{HasNoRepeat}
 use Rattle.rule_document_definitions.specs.Selected.{StandingField}
@@ -23,7 +22,7 @@ use Rattle.rule_number_lists.specs.NumberSet.{PutsIn}
 use Rattle.rule_field_sets.specs.declared.field_sets.FieldSets.{FieldSets}
 use Rattle.rule_field_sets.specs.declared.member.Member.{Member}
 use Rattle.rule_field_sets.specs.declared.member.SetNode.{SetNode}
-use Rattle.rule_field_sets.specs.Nodes.{AreSets, HasMember, HasAllStarts, set_nodes, fragment_nodes}
+use Rattle.rule_field_sets.specs.Nodes.{AreSets, HasMember, HasAllStarts, set_nodes}
 use Rattle.rule_field_sets.specs.Read.{set_at}
 use Rattle.rule_field_sets.proofs.Among.{one_number}
 use Rattle.rule_field_sets.proofs.Growing.{contains_at, none_twice, apart_more}
@@ -31,8 +30,8 @@ use Rattle.rule_field_sets.proofs.Members.{in_last, taken_more}
 use Rattle.rule_field_sets.proofs.Once.{inside}
 use Rattle.rule_merging.specs.Members.{field_of, fields_of, content_of, contents_of, AreMembersOf, meant_sets}
 use Rattle.rule_merging.specs.Below.{IsMergedIn, IsPartOfMergedIn}
-use Rattle.rule_merging.specs.NodeWalk.{WalkState, numbers_of, AreNumbered, with_paid, Passes, PassesNode, IsPassed, IsStartOf, SpreadsNode, IsNodeFrom, IsReached, IsWalkOver, IsWalk, WalksOn, WalksOver}
-use Rattle.rule_merging.proofs.NodeFacts.{selected_from, selects_from}
+use Rattle.rule_merging.specs.NodeWalk.{WalkState, numbers_of, AreNumbered, with_paid, Passes, PassesNode, IsPassed, IsStartOf, SpreadsNode, IsNodeFrom, IsReached, IsWalkOver, IsWalk, WalksOver}
+use Rattle.rule_merging.proofs.NodeFacts.{selected_from, selected_among, selects_from}
 
 -- ---- nothing is passed, or one thing after the other
 
@@ -142,6 +141,15 @@ member_new m old new put members spread whole = record {
     numbers : numbers_of new.members ≡ numbers_of old.members ++ m.number ∷ []
     numbers = ap numbers_of members ∙ map-append (λ (x : Member). x.number) old.members (m ∷ [])
 
+-- the same where what is counted beside it is no part of the state
+pub member_added : (m : Member) (old mid counted new : WalkState) → PutsIn old.numbers m.number true mid.numbers → mid.members ≡ old.members → mid.spread ≡ old.spread → mid.is_whole ≡ old.is_whole
+    → counted ≡ mid → new.members ≡ counted.members ++ m ∷ [] → new.numbers ≡ counted.numbers → new.spread ≡ counted.spread → new.is_whole ≡ counted.is_whole → Passes (m ∷ []) [] old new
+member_added m old mid counted new put members spread whole same added numbers spread_too whole_too = member_new m old new
+    (subst (PutsIn old.numbers m.number true) (sym (numbers ∙ ap (λ (s : WalkState). s.numbers) same)) put)
+    (added ∙ ap (λ l. l ++ m ∷ []) (ap (λ (s : WalkState). s.members) same ∙ members))
+    (spread_too ∙ (ap (λ (s : WalkState). s.spread) same ∙ spread))
+    (whole_too ∙ (ap (λ (s : WalkState). s.is_whole) same ∙ whole))
+
 pub members_step : (ms : List Member) (i : ℕ) (m : Member) (a b c : WalkState) → i < length ms → m ≡ get_or ms i m → Passes (m ∷ []) [] b c → Passes (take i ms) [] a b → Passes (take (i + 1) ms) [] a c
 members_step ms i m a b c within is one so_far = subst (λ l. Passes l [] a c) (sym (taken_more ms i m within is)) (passes_on (take i ms) (m ∷ []) [] [] a b c so_far one)
 
@@ -170,8 +178,8 @@ spread_noted p old new is = subst (Passes [] (p ∷ []) old) (sym is) (by (list_
       all_spreads = λ h q c. subst (Contains (old.spread ++ p ∷ [])) (sym (only p q c)) (in_last old.spread p);
     }
 
-pub spreads_step : (ps : List ℕ) (i : ℕ) (p : ℕ) (a b c : WalkState) → i < length ps → p ≡ get_or ps i p → Passes [] (p ∷ []) b c → Passes [] (take i ps) a b → Passes [] (take (i + 1) ps) a c
-spreads_step ps i p a b c within is one so_far = subst (λ l. Passes [] l a c) (sym (taken_more ps i p within is)) (passes_on [] [] (take i ps) (p ∷ []) a b c so_far one)
+pub spreads_step : (ps : List ℕ) (i : ℕ) (a b c : WalkState) → i < length ps → Passes [] (get_or ps i 0 ∷ []) b c → Passes [] (take i ps) a b → Passes [] (take (i + 1) ps) a c
+spreads_step ps i a b c within one so_far = subst (λ l. Passes [] l a c) (sym (take_more ps i 0 within)) (passes_on [] [] (take i ps) (get_or ps i 0 ∷ []) a b c so_far one)
 
 -- ---- a node
 
@@ -243,13 +251,13 @@ module _ (w : FieldSets) where
         ];
       }
 
-  pub fragment_passed : (nodes : List ℕ) (k : ℕ) (p : ℕ) (v : SetNode) (old new : WalkState) → k < length old.spread → p ≡ get_or old.spread k p → IsStartOf w p v → PassesNode v old new
+  pub fragment_passed : (nodes : List ℕ) (k : ℕ) (p : ℕ) (v : SetNode) (old new : WalkState) → slice_get old.spread k ≡ Some p → IsStartOf w p v → PassesNode v old new
       → IsWalkOver w nodes (take k old.spread) old → IsWalkOver w nodes (take (k + 1) new.spread) new
-  fragment_passed nodes k p v old new within at start passes walk =
-      let there : Contains old.spread p = (k, (within, sym at)) in
+  fragment_passed nodes k p v old new at start passes walk =
+      let within : k < length old.spread = slice_get_within old.spread k p at in
       subst (λ l. IsWalkOver w nodes l new)
-      (sym (ap (take (k + 1)) passes.spread.1.0 ∙ (take-append-le (k + 1) old.spread passes.spread.0 (omega (arith, within)) ∙ taken_more old.spread k p within at)))
-      (fragment_over nodes (take k old.spread) p v old new there start passes walk)
+      (sym (ap (take (k + 1)) passes.spread.1.0 ∙ (take-append-le (k + 1) old.spread passes.spread.0 (omega (arith, within)) ∙ taken_more old.spread k p within (sym (get_or_from_slice_get old.spread k p p at)))))
+      (fragment_over nodes (take k old.spread) p v old new (contains_at old.spread k p at) start passes walk)
 
   -- a node itself
   pub node_over : (nodes : List ℕ) (n k : ℕ) (v : SetNode) (old new : WalkState) → k ≡ length old.spread → slice_get (set_nodes w) n ≡ Some v → PassesNode v old new
@@ -287,8 +295,8 @@ module _ (w : FieldSets) where
     over_fragments = λ whole p c. walk.over_fragments whole p (subst (λ l. Contains l p) (sym (take_all k s.spread (done whole))) c);
   }
 
-  pub one_more : (nodes : List ℕ) (i n : ℕ) (old new : WalkState) → i < length nodes → n ≡ get_or nodes i n → WalksOver w n old new → IsWalk w (take i nodes) old → IsWalk w (take (i + 1) nodes) new
-  one_more nodes i n old new within at walks so_far = subst (λ l. IsWalk w l new) (sym (taken_more nodes i n within at)) (walks (take i nodes) so_far)
+  pub one_more : (nodes : List ℕ) (i : ℕ) (old new : WalkState) → i < length nodes → WalksOver w (get_or nodes i 0) old new → IsWalk w (take i nodes) old → IsWalk w (take (i + 1) nodes) new
+  one_more nodes i old new within walks so_far = subst (λ l. IsWalk w l new) (sym (take_more nodes i 0 within)) (walks (take i nodes) so_far)
 
   -- ---- what it has found
 
@@ -334,7 +342,7 @@ module _ (w : FieldSets) where
           let from = u.1.0 in
           let one = selected_from w are starts d (sym same) from.0 from.1.1.0 u.0 m.0 from.1.1.1.0 from.1.1.1.1 u.1.1 in
           subst (IsSelected d (meant_sets w nodes)) m.1.1
-          (one.0, (subst (Contains (meant_sets w nodes)) (sym (only (set_at w from.0) one.0 one.1.0)) (contains_map (set_at w) nodes from.0 from.1.0), one.1.1))
+          (selected_among w are starts d (sym same) (meant_sets w nodes) from.0 (field_of m.0) (contains_map (set_at w) nodes from.0 from.1.0) one)
 
       found_covers : s.is_whole ≡ true → (x : StandingField Place) → IsSelected d (meant_sets w nodes) x → Contains (contents_of s.members) (field_read x)
       found_covers whole x (t, (c, has)) =

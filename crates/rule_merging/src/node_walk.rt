@@ -1,5 +1,5 @@
 //! A walk over selection sets by their nodes.
-ghost use Rattle.std.specs.Prelude.{◌≡◌, ◌∷◌, [], OnOk, IfOk, IsTrue};
+ghost use Rattle.std.specs.Prelude.{◌≡◌, OnOk, IfOk, IsTrue};
 ghost use Rattle.rule_field_sets.specs.Nodes.{AreSets, HasAllStarts};
 ghost use Rattle.rule_merging.specs.Members.{meant_sets, AreMembersOf};
 ghost use Rattle.rule_merging.specs.Below.{IsMerged, IsPartOfMerged};
@@ -52,7 +52,9 @@ impl<'doc> NodeWalk<'doc> {
     fn steps_on(&mut self, toll: Toll<'_>, more: usize) -> bool
         ensures { state_of self.new ≡ with_paid result (state_of self.old) }
     {
-        let paid = toll.paid.saturating_add(self.fresh.saturating_mul(toll.each));
+        let paid = toll
+            .paid
+            .saturating_add(self.fresh.saturating_mul(toll.each));
         if self.steps > paid {
             self.is_whole = false;
             return false;
@@ -74,7 +76,8 @@ impl<'doc> NodeWalk<'doc> {
     fn pass_member(&mut self, toll: Toll<'_>, member: Member<'doc>) -> Result<(), AllocError>
         ensures { OnOk result (PassesMember member.entry (state_of self.old) (state_of self.new)) }
     {
-        if !self.numbers.insert(member.number)? {
+        let is_new = self.numbers.insert(member.number)?;
+        if !is_new {
             return Ok(());
         }
         self.count_fresh(toll, member.number);
@@ -102,12 +105,13 @@ impl<'doc> NodeWalk<'doc> {
         Ok(())
     }
 
-    /// Passes the fields and the spreads of a node, if what came before is paid: fields that are new pay for themselves.
+    /// Passes the fields and the spreads of a node, if that is paid.
     fn pass_node(&mut self, toll: Toll<'_>, node: &SetNode<'doc>) -> Result<(), AllocError>
         ensures { OnOk result (PassesNode node.now (state_of self.old) (state_of self.new)) }
     {
         let more = node.members.len().saturating_add(node.spreads.len());
-        if !self.steps_on(toll, more) {
+        let is_paid = self.steps_on(toll, more);
+        if !is_paid {
             return Ok(());
         }
         self.pass_members(toll, &node.members)?;
@@ -124,7 +128,8 @@ impl<'doc> NodeWalk<'doc> {
         ensures { OnOk result (WalksOn sets.now entered (state_of self.old) (state_of self.new)) }
     {
         while self.is_whole && entered < self.spread.len() {
-            let fragment = fragment_of(sets, self.spread[entered])?;
+            let place = self.spread[entered];
+            let fragment = fragment_of(sets, place)?;
             self.pass_node(toll, fragment)?;
             entered += 1;
         }
@@ -132,11 +137,17 @@ impl<'doc> NodeWalk<'doc> {
     }
 
     /// Walks over the set of a node, and over each fragment that it reaches and that no set before it does.
-    fn walk(&mut self, toll: Toll<'_>, sets: &FieldSets<'doc>, node: usize) -> Result<(), AllocError>
+    fn walk(
+        &mut self,
+        toll: Toll<'_>,
+        sets: &FieldSets<'doc>,
+        node: usize,
+    ) -> Result<(), AllocError>
         ensures { OnOk result (WalksOver sets.now node (state_of self.old) (state_of self.new)) }
     {
         let entered = self.spread.len();
-        self.pass_node(toll, node_of(sets, node)?)?;
+        let start = node_of(sets, node)?;
+        self.pass_node(toll, start)?;
         self.pass_fragments(toll, sets, entered)
     }
 }
