@@ -16,6 +16,7 @@ pub mod Bare
 pub mod Examining
 pub mod Remembering
 pub mod Looking
+pub mod Known
 pub mod Pairing
 pub mod PairStep
 pub mod Counting
