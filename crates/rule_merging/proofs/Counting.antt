@@ -25,7 +25,7 @@ use Rattle.rule_number_lists.specs.NumberLists.{HaveSame, length_above_two}
 use Rattle.rule_number_lists.specs.NumberPairs.{pairs_kept}
 use Rattle.rule_number_lists.specs.declared.pairs.NumberPairs.{NumberPairs}
 use Rattle.rule_number_lists.proofs.Standing.{same_order, same_trans, same_sym, no_repeat_order}
-use Rattle.rule_number_lists.proofs.Few.{no_longer, few, above_two_length, above_two_le, differ_cons, differ_order}
+use Rattle.rule_number_lists.proofs.Few.{no_longer, few, above_two_length, above_two_le, differ_cons, differ_order, from_apart}
 use Rattle.rule_number_lists.proofs.Rows.{kept_few}
 use Rattle.rule_field_sets.specs.declared.member.Member.{Member}
 use Rattle.rule_field_sets.specs.declared.field_sets.FieldSets.{FieldSets}
@@ -42,7 +42,6 @@ use Rattle.rule_merging.specs.Verdict.{OnlyGrow, IsCountedIn}
 use Rattle.rule_merging.specs.Compared.{compared}
 use Rattle.rule_merging.specs.Counted.{Account, no_account, most_members, most_comparisons, IsWithin, Meets, Pays, DifferInMembers, AreApart, IsLast, AreLast, AreListed, Grows, IsCountedBy, IsPaidBy}
 use Rattle.rule_merging.proofs.Counts.{sums, sums_order}
-use Rattle.rule_merging.proofs.Lists.{none_twice, apart_more}
 
 -- ---- sums
 
@@ -242,9 +241,9 @@ module _ (d : MeantDocument Place) where
       ]
 
   two_apart : (one other : Member) (list : List Member) → IsListOf one other list → HasNoRepeat (contents_of list)
-  two_apart one other list (inl (e, l)) = subst (λ (m : List Member). HasNoRepeat (contents_of m)) (sym l) (apart_more [] (content_of one) none_twice (λ c. not_in_nil (content_of one) c))
+  two_apart one other list (inl (e, l)) = subst (λ (m : List Member). HasNoRepeat (contents_of m)) (sym l) (from_apart (content_of one ∷ []) (λ c. not_in_nil (content_of one) c, tt))
   two_apart one other list (inr (e, l)) = subst (λ (m : List Member). HasNoRepeat (contents_of m)) (sym l)
-      (apart_more (content_of one ∷ []) (content_of other) (apart_more [] (content_of one) none_twice (λ c. not_in_nil (content_of one) c)) (λ c. e (sym (only (content_of one) (content_of other) c))))
+      (from_apart (content_of one ∷ content_of other ∷ []) (λ c. e (sym (only (content_of other) (content_of one) c)), (λ c. not_in_nil (content_of other) c, tt)))
 
   -- two are not many
   two_short : (one other : Member) (list : List Member) → IsListOf one other list → length_above_two (contents_of list) ≡ 0
@@ -301,7 +300,7 @@ module _ (d : MeantDocument Place) where
     pub none_counted : IsCountedIn d os no_account
     none_counted = (
       record { bound = omega arith; different = none_differ; listed = λ list c. not_in_nil list c },
-      record { paid = omega arith; within = omega arith; once = none_twice; last = λ x c. not_in_nil x c },
+      record { paid = omega arith; within = omega arith; once = from_apart [] tt; last = λ x c. not_in_nil x c },
     )
 
     -- lists that were examined for shapes
