@@ -1,11 +1,11 @@
 //! The sets below a group of fields.
-ghost use Rattle.std.specs.Prelude.{◌≡◌, ◌++◌, ◌∷◌, [], map, IfOk, OnOk};
+ghost use Rattle.std.specs.Prelude.{◌≡◌, ◌++◌, ◌∷◌, [], map, Contains, IfOk, OnOk};
 ghost use Rattle.rule_field_sets.specs.Nodes.{AreSets, HasMember};
 ghost use Rattle.rule_merging.specs.Members.{field_of, fields_of, meant_sets, AreMembersOf};
 ghost use Rattle.rule_merging.specs.Below.{AreSetsOf, NotesSet};
 ghost use Rattle.rule_merging.specs.Grouped.{lists_of};
-ghost use Rattle.rule_merging.specs.Under.{sets_in, each_with, AreFurther, AddsFurther, JoinsSets, JoinsTwos, PutsTogether, JoinsEach, AreListsBelow, AreNumbered, IsGroupOf};
-ghost use Rattle.rule_merging.specs.KeyGroups.{parts_of, own_lists};
+ghost use Rattle.rule_merging.specs.Under.{sets_in, each_with, AreFurther, AddsFurther, JoinsSets, JoinsTwos, PutsTogether, JoinsEach, AreListsBelow, AreNumbered, AddsNode, IsGroupOf};
+ghost use Rattle.rule_merging.specs.KeyGroups.{parts_of};
 
 use crate::groups::{KeyGroup, OwnFields};
 use crate::nodes::number_of;
@@ -37,10 +37,13 @@ impl SetsBelow {
     }
 
     /// Adds the set of a node, unless its number is there.
-    fn add(&mut self, number: usize, node: usize) -> Result<(), AllocError> {
-        if self.numbers.insert(number)? {
-            self.nodes.push(node)?;
+    fn add(&mut self, number: usize, node: usize) -> Result<(), AllocError>
+        ensures { OnOk result (AddsNode number node self.old self.new) }
+    {
+        if !self.numbers.insert(number)? {
+            return Ok(());
         }
+        self.nodes.push(node)?;
         Ok(())
     }
 }
