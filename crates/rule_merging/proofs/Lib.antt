@@ -8,7 +8,6 @@ pub mod ShapesTold
 pub mod Lists
 pub mod Sets
 pub mod Under
-pub mod Selected
 pub mod PairedFacts
 pub mod Bare
 pub mod Passing
