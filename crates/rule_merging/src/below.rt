@@ -55,7 +55,7 @@ fn note_set(
     found: &mut SetsBelow,
 ) -> Result<(), AllocError>
     requires sets { AreSets sets.now }
-    requires member { HasMember sets.now field.entry }
+    requires member { HasMember sets.now field }
     requires numbered { AreNumbered sets.now found.old }
     ensures notes { OnOk result (NotesSet (field_of field.entry) (meant_sets sets.now found.old.nodes.items) (meant_sets sets.now found.new.nodes.items)) }
     ensures numbered { OnOk result (AreNumbered sets.now found.new) }
@@ -92,7 +92,7 @@ fn note_further(
     found: &mut SetsBelow,
 ) -> Result<(), AllocError>
     requires sets { AreSets sets.now }
-    requires member { HasMember sets.now field.entry }
+    requires member { HasMember sets.now field }
     requires others { AreNumbered sets.now others.now }
     requires numbered { AreNumbered sets.now found.old }
     ensures notes { OnOk result (AddsFurther (field_of field.entry) (meant_sets sets.now others.now.nodes.items) (meant_sets sets.now found.old.nodes.items) (meant_sets sets.now found.new.nodes.items)) }
