@@ -109,11 +109,15 @@ sets_more field group old new notes so_far = record {
 }
 
 module _ (w : FieldSets) where
+  -- the set of the node is read as the number
+  abbrev reads_so : ℕ → ℕ → Type 0
+  reads_so n i = set_content_at w n ≡ node_read w i
+
   -- none
   pub none_numbered : (found : SetsBelow) → found.numbers.keys ≡ [] → found.nodes.items ≡ [] → AreNumbered w found
   none_numbered found numbers nodes =
-      subst (λ l. AllZip (λ n i. set_content_at w n ≡ node_read w i) l found.nodes.items) (sym numbers)
-      (subst (AllZip (λ n i. set_content_at w n ≡ node_read w i) []) (sym nodes) tt)
+      subst (λ l. AllZip reads_so l found.nodes.items) (sym numbers)
+      (subst (AllZip reads_so []) (sym nodes) tt)
 
   pub sets_begun : (nodes : List ℕ) → nodes ≡ [] → AreSetsOf [] (meant_sets w nodes)
   sets_begun nodes e = subst (λ l. AreSetsOf [] (meant_sets w l)) (sym e) no_sets
@@ -129,7 +133,7 @@ module _ (w : FieldSets) where
   pub read_there : (found : SetsBelow) → AreNumbered w found → (number node : ℕ) → Contains found.numbers.keys number → set_content_at w number ≡ node_read w node
       → {s : MeantSet Place} → set_at w node ≡ s → Contains (read_sets (meant_sets w found.nodes.items)) (list_read s)
   read_there found are number node there reads same =
-      let i = beside (λ n i. set_content_at w n ≡ node_read w i) found.numbers.keys found.nodes.items are number there in
+      let i = beside reads_so found.numbers.keys found.nodes.items are number there in
       subst (Contains (read_sets (meant_sets w found.nodes.items))) (sym i.1.1 ∙ reads ∙ ap list_read same)
       (contains_map list_read (meant_sets w found.nodes.items) (set_at w i.0) (contains_map (set_at w) found.nodes.items i.0 i.1.0))
 
@@ -159,8 +163,5 @@ module _ (w : FieldSets) where
       | inr b ↦ by (sym b.1.0) (sym b.1.1) (AllZip-push reads_so old.numbers.keys old.nodes.items number node are reads)
     ]
       where
-        abbrev reads_so : ℕ → ℕ → Type 0
-        reads_so n i = set_content_at w n ≡ node_read w i
-
         by : {ns is : List ℕ} → ns ≡ new.numbers.keys → is ≡ new.nodes.items → AllZip reads_so ns is → AllZip reads_so new.numbers.keys new.nodes.items
         by {ns} {is} e f all = subst (λ l. AllZip reads_so l new.nodes.items) e (subst (AllZip reads_so ns) f all)
