@@ -13,6 +13,7 @@ pub mod Walking
 pub mod Selected
 pub mod PairedFacts
 pub mod Bare
+pub mod Passing
 pub mod Examining
 pub mod Remembering
 pub mod Looking
