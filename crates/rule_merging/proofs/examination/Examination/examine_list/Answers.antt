@@ -8,7 +8,7 @@ use Rattle.rule_merging.specs.Members.{fields_of}
 use Rattle.rule_merging.specs.Compared.{compared}
 use Rattle.rule_merging.specs.KeyGroups.{parts_of, parts_in, compared_in}
 use Rattle.rule_merging.specs.Under.{sets_in}
-use Rattle.rule_merging.specs.Examined.{GroupsExamined, schema_of, document_of}
+use Rattle.rule_merging.specs.Examined.{GroupsExamined, schema_of, document_of, sets_of}
 use Rattle.rule_merging.proofs.Examining.{parts_more, no_groups, GroupsTold, groups_step}
 use Rattle.rule_merging.proofs.Counts.{left_of}
 use Rattle.rule_merging.proofs.examination.Examination.examine_list.Goals as goal
@@ -19,7 +19,7 @@ loop-group-init c =
     let all : sum (map (compared_in e.pass) c.deref-group-items.result.now) ≤ compared e.pass c.args.list.now =
     subst (λ l. sum (map (compared_in e.pass) l) ≤ compared e.pass c.args.list.now) (sym c.deref-group-items.ensures.value) c.in_ok-groups.ensures.counted in
     record {
-      examined = ([], ([], (sym (append-nil (brokens_of c.args.breaches.now)), (sym (append-nil (sets_in c.args.next.now)), no_groups e.pass (schema_of e) (document_of e)))));
+      examined = ([], ([], (sym (append-nil (brokens_of c.args.breaches.now)), (sym (append-nil (sets_in (sets_of e) c.args.next.now)), no_groups e.pass (schema_of e) (document_of e)))));
       more = omega arith;
       counted = omega (arith, all);
     }
@@ -36,9 +36,9 @@ loop-group-preserved c =
     let groups : List (List (StandingField Place)) = map fields_of (parts_in (take i xs)) in
     record {
       examined = subst
-          (GroupsTold e.pass (schema_of e) (document_of e) (brokens_of c.args.breaches.now) (brokens_of c.examine_group.new.breaches) (sets_in c.args.next.now) (sets_in c.examine_group.new.next)) (sym (parts_more xs i x h c.group-item.is))
+          (GroupsTold e.pass (schema_of e) (document_of e) (brokens_of c.args.breaches.now) (brokens_of c.examine_group.new.breaches) (sets_in (sets_of e) c.args.next.now) (sets_in (sets_of e) c.examine_group.new.next)) (sym (parts_more xs i x h c.group-item.is))
           (groups_step e.pass (schema_of e) (document_of e) (brokens_of c.args.breaches.now) (brokens_of c.loop-group.breaches) (brokens_of c.examine_group.new.breaches)
-          (sets_in c.args.next.now) (sets_in c.loop-group.next) (sets_in c.examine_group.new.next) groups (map fields_of (parts_of x)) inv.examined here.examined);
+          (sets_in (sets_of e) c.args.next.now) (sets_in (sets_of e) c.loop-group.next) (sets_in (sets_of e) c.examine_group.new.next) groups (map fields_of (parts_of x)) inv.examined here.examined);
       more = omega (arith, inv.more, here.more);
       counted = omega (arith, inv.counted, here.counted, left_of (compared_in e.pass) xs i x h c.group-item.is);
     }
