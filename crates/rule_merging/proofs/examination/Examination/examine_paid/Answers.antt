@@ -1,28 +1,16 @@
-use Rattle.std.proofs.Common.{◌≡◌, ◌∙◌, ◌∷◌, ◌++◌, List, [], true, false, Contains, refl, ap, sym, subst, append-nil}
+use Rattle.std.proofs.Common.{◌≡◌, ◌∙◌, ◌∷◌, ◌++◌, [], true, false, refl, ap, sym, subst, append-nil}
 use Rattle.std.specs.Prelude.{Some, is_some}
 use Rattle.std.proofs.lemmas.Result.{on_ok_weaker}
-use Rattle.graphql_names.specs.Placed.{Place}
-use Rattle.document_meaning.specs.MeantTree.{MeantSet, MeantOperation, MeantDocument}
-use Rattle.rule_definitions.proofs.Lists.{Contains-first}
-use Rattle.rule_document_definitions.specs.ReadFields.{field_read}
-use Rattle.rule_document_definitions.proofs.Unplaced.{contains_unmap}
 use Rattle.rule_document_ground.specs.Broken.{brokens_of}
-use Rattle.rule_field_sets.specs.declared.member.Member.{Member}
-use Rattle.rule_merging.specs.Members.{fields_of, contents_of, meant_sets, AreMembersOf}
+use Rattle.rule_merging.specs.Members.{contents_of, meant_sets}
 use Rattle.rule_merging.specs.Below.{IsMergedIn, IsPartOfMergedIn}
-use Rattle.rule_merging.specs.Counted.{Pays, IsPaidIf, IsLast, AreLast, AreListed}
+use Rattle.rule_merging.specs.Counted.{Pays, IsPaidIf, AreLast, AreListed}
 use Rattle.rule_merging.specs.Remembered.{Kept, account_of, kept_of, Remembers, RemembersPaid}
 use Rattle.rule_merging.specs.Under.{sets_in}
 use Rattle.rule_merging.specs.Examined.{schema_of, document_of, sets_of}
 use Rattle.rule_merging.proofs.Examining.{SetsTold, new_fields, known_fields}
-use Rattle.rule_merging.proofs.Counting.{grows_on, grows_given, grows_paying, grows_paid}
+use Rattle.rule_merging.proofs.Counting.{grows_on, grows_given, grows_paying, grows_paid, part_listed_fields}
 use Rattle.rule_merging.proofs.examination.Examination.examine_paid.Goals as goal
-
--- some of the fields that such sets select
-part_listed : (d : MeantDocument Place) (os : List (MeantOperation Place)) (sets : List (MeantSet Place)) (list : List Member) → IsPartOfMergedIn d sets list → AreListed d os (sets ∷ []) → AreLast d os (contents_of list)
-part_listed d os sets list part listed x c =
-    let y = contains_unmap field_read (fields_of list) x c in
-    subst (IsLast d os) y.1.1 (listed sets (Contains-first sets [] sets refl) y.0 (part.within y.0 y.1.0))
 
 pub returns-in_err-remember_paid-clause-counted : goal.returns-in_err-remember_paid-clause-counted
 returns-in_err-remember_paid-clause-counted c =
@@ -35,7 +23,7 @@ returns-in_err-remember_paid-clause-counted c =
     let old = account_of w c.args.examined.now in
     let new = account_of w c.remember_paid.new.self in
     let part = c.in_ok-list.ensures.part d (sym has.fragments) in
-    grows_given d (λ os. AreLast d os (contents_of items)) (λ os. AreListed d os (sets ∷ [])) (λ os. part_listed d os sets items part) e.pass old new
+    grows_given d (λ os. AreLast d os (contents_of items)) (λ os. AreListed d os (sets ∷ [])) (λ os. part_listed_fields d os sets items part) e.pass old new
     (grows_paying d e.pass (contents_of items) old new (ap (λ (k : Kept). k.lists) (c.in_err-remember_paid.ensures.refused w)) (c.in_err-remember_paid.ensures.pays w has.are c.in_ok-list.ensures.members))
 
 pub returns-in_ok-remember_paid-None-clause-examined : goal.returns-in_ok-remember_paid-None-clause-examined
@@ -70,7 +58,7 @@ returns-in_ok-remember_paid-None-clause-counted c =
     let same : kept_of w c.remember_paid.new.self ≡ kept_of w c.args.examined.now =
     subst (λ o. RemembersPaid (kept_of w c.args.examined.now) (contents_of items) o (kept_of w c.remember_paid.new.self)) c.in-None.is (c.in_ok-remember_paid.ensures.remembers w has.are c.in_ok-list.ensures.members) in
     grows_on d (λ os. AreListed d os (sets ∷ [])) e.pass old mid (account_of w c.examine_twos.new.examined)
-    (grows_given d (λ os. AreLast d os (contents_of items)) (λ os. AreListed d os (sets ∷ [])) (λ os. part_listed d os sets items part) e.pass old mid
+    (grows_given d (λ os. AreLast d os (contents_of items)) (λ os. AreListed d os (sets ∷ [])) (λ os. part_listed_fields d os sets items part) e.pass old mid
     (grows_paying d e.pass (contents_of items) old mid (ap (λ (k : Kept). k.lists) same) (c.in_ok-remember_paid.ensures.pays w has.are c.in_ok-list.ensures.members)))
     c.examine_twos.ensures.counted
 
@@ -115,7 +103,7 @@ returns-in-Some-false-clause-counted c =
     let is = c.in-Some-false.is ∙ ap (λ b. Some b) c.in-Some-false.field-0-test in
     let known : Remembers (kept_of w c.args.examined.now) (contents_of items) false (kept_of w c.remember_paid.new.self) =
     subst (λ o. RemembersPaid (kept_of w c.args.examined.now) (contents_of items) o (kept_of w c.remember_paid.new.self)) is (c.in_ok-remember_paid.ensures.remembers w has.are c.in_ok-list.ensures.members) in
-    grows_given d (λ os. AreLast d os (contents_of items)) (λ os. AreListed d os (sets ∷ [])) (λ os. part_listed d os sets items part) e.pass old new
+    grows_given d (λ os. AreLast d os (contents_of items)) (λ os. AreListed d os (sets ∷ [])) (λ os. part_listed_fields d os sets items part) e.pass old new
     (grows_paying d e.pass (contents_of items) old new (ap (λ (k : Kept). k.lists) known.1) (c.in_ok-remember_paid.ensures.pays w has.are c.in_ok-list.ensures.members))
 
 pub returns-clause-examined : goal.returns-clause-examined
@@ -170,6 +158,6 @@ returns-clause-counted c =
     (c.in_ok-remember_paid.ensures.remembers w has.are c.in_ok-list.ensures.members)) in
     let paid : IsPaidIf true (contents_of items) old mid =
     subst (λ l. IsPaidIf true (contents_of l) old mid) same (subst (λ o. IsPaidIf (is_some o) (contents_of c.in_ok-list.list.members.items) old mid) is (c.in_ok-remember_paid.ensures.paid w)) in
-    grows_given d (λ os. AreLast d os (contents_of items)) (λ os. AreListed d os (sets ∷ [])) (λ os. part_listed d os sets items part) e.pass old _
+    grows_given d (λ os. AreLast d os (contents_of items)) (λ os. AreListed d os (sets ∷ [])) (λ os. part_listed_fields d os sets items part) e.pass old _
     (grows_paid d e.pass items fresh.1.0 old mid _ (subst (λ l. Pays (contents_of l) old mid) same (c.in_ok-remember_paid.ensures.pays w has.are c.in_ok-list.ensures.members))
     (paid refl) list.apart (fresh.1.1.1.0 list.apart) fresh.0 fresh.1.1.1.1.0 c.examine_list.ensures.more c.examine_list.ensures.counted refl)
