@@ -1,15 +1,16 @@
 use Rattle.std.proofs.Common.{◌<◌, ◌≤◌, List, [], map, take, length, sym, ap, subst, ◌∙◌, append-nil, arith}
-use Rattle.std.specs.List.{sum}
+use Rattle.std.specs.List.{sum, flat_map}
 use Rattle.std.proofs.lemmas.List.{take_all}
 use Rattle.graphql_names.specs.Placed.{Place}
 use Rattle.rule_document_definitions.specs.Selected.{StandingField}
 use Rattle.rule_document_ground.specs.Broken.{brokens_of}
 use Rattle.rule_merging.specs.Members.{fields_of}
 use Rattle.rule_merging.specs.Compared.{compared}
-use Rattle.rule_merging.specs.KeyGroups.{parts_of, parts_in, compared_in}
+use Rattle.rule_merging.specs.Grouped.{ArePartsOf}
+use Rattle.rule_merging.specs.KeyGroups.{parts_of, parts_in, lists_in_group, compared_in}
 use Rattle.rule_merging.specs.Under.{sets_in}
 use Rattle.rule_merging.specs.Examined.{GroupsExamined, schema_of, document_of, sets_of}
-use Rattle.rule_merging.proofs.Examining.{parts_more, no_groups, GroupsTold, groups_step}
+use Rattle.rule_merging.proofs.Examining.{parts_more, group_members, no_groups, GroupsTold, groups_step}
 use Rattle.rule_merging.proofs.Counts.{left_of}
 use Rattle.rule_merging.proofs.examination.Examination.examine_list.Goals as goal
 
@@ -23,6 +24,15 @@ loop-group-init c =
       more = omega arith;
       counted = omega (arith, all);
     }
+
+pub examine_group-requires-clause-members : goal.examine_group-requires-clause-members
+examine_group-requires-clause-members c =
+    let xs = c.deref-group-items.result.now in
+    let i = c.loop-group.group-index in
+    let x = c.group-item.result in
+    let h : i < length xs = omega arith in
+    group_members (sets_of c.args.self.now) c.args.list.now xs x c.requires.members
+    (subst (λ gs. ArePartsOf c.args.list.now (flat_map lists_in_group gs)) (sym c.deref-group-items.ensures.value) c.in_ok-groups.ensures.ordered) (i, h, sym c.group-item.is)
 
 pub loop-group-preserved : goal.loop-group-preserved
 loop-group-preserved c =
