@@ -26,7 +26,7 @@ returns-clause-examined c =
     let now = map (map (set_content_at w)) (lists_kept c.expand.new.expanded) in
     let is_new = c.in_ok-expand.field-0 in
     let here : Expands base.expanded (read_sets sets) is_new now =
-    subst (λ m. Expands (map (map (set_content_at w)) (lists_kept m)) (read_sets sets) is_new now) c.replace-expanded.ensures.value c.in_ok-expand.ensures in
+    subst (λ m. Expands (map (map (set_content_at w)) (lists_kept m)) (read_sets sets) is_new now) c.replace-expanded.ensures.value c.in_ok-expand.ensures.expands in
     elim c.if-branch.branch [
       | then-branch+in_ok-examine_paid b ↦
           let mid = kept_of w b.examine_paid.new.examined in
