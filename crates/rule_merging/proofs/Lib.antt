@@ -11,6 +11,7 @@ pub mod Under
 pub mod Selected
 pub mod PairedFacts
 pub mod Bare
+pub mod Passing
 pub mod Examining
 pub mod Remembering
 pub mod Looking
