@@ -34,7 +34,7 @@ use Rattle.rule_merging.specs.Twos.{are_of, both_of, FieldsPaired}
 use Rattle.rule_merging.proofs.Passing.{together_read}
 use Rattle.rule_merging.proofs.Counts.{drop_first}
 use Rattle.rule_merging.proofs.PairedFacts.{pairs_stand}
-use Rattle.rule_merging.proofs.Examining.{left_empty, right_empty, together_more, moved_lists, left_wider, dropped, all_of_one, looked_more, HasMore, DoneIn, SetsStand, done_more, swapped, same_plain}
+use Rattle.rule_merging.proofs.Examining.{left_empty, right_empty, together_more, moved_lists, left_wider, dropped, all_of_one, looked_more, HasMore, DoneIn, SetsStand, done_more, swapped, same_read}
 
 -- lists of two with the same members
 pub two_same : {X : Type 0} (a b c e : X) → HaveSame (a ∷ b ∷ []) (c ∷ e ∷ []) → ((a ≡ c) × (b ≡ e)) ⊎ ((a ≡ e) × (b ≡ c))
@@ -138,7 +138,7 @@ module _ (pass : Pass) (s : Judged) (d : MeantDocument Place) where
 
     of_two : (p q v : MeantSet Place) → SpreadsSet d.fragments p v → (x : StandingField Place) → IsSelected d (v ∷ q ∷ []) x → IsSelected d (p ∷ q ∷ []) x
     of_two p q v spread x (w, (k, sel)) = elim (Contains-cons v (q ∷ []) w k) [
-      | inl e ↦ (p, (Contains-first p (q ∷ []) p refl, spread_selected p v x spread (subst (λ u. HasContent d (InOperation None) u x) (sym e) sel)))
+      | inl e ↦ (p, (Contains-first p (q ∷ []) p refl, spread_selected d p v x spread (subst (λ u. HasContent d (InOperation None) u x) (sym e) sel)))
       | inr r ↦ (w, (Contains-rest p (q ∷ []) w r, sel))
     ]
 
@@ -357,7 +357,7 @@ module _ (pass : Pass) (s : Judged) (d : MeantDocument Place) where
     looked_two v w a b =
         let two = are.covers v w a b in
         let known = looks.has two.0 two.1.0 in
-        (known.0, (pairs.looks known.0 known.1.0, same_trans known.0 (read_sets two.0) (read_sets (v ∷ w ∷ [])) known.1.1 (same_plain two.0 (v ∷ w ∷ []) two.1.1)))
+        (known.0, (pairs.looks known.0 known.1.0, same_trans known.0 (read_sets two.0) (read_sets (v ∷ w ∷ [])) known.1.1 (same_read two.0 (v ∷ w ∷ []) two.1.1)))
 
     sets_stand : PairsAreDone d pass s [] new → SetsStand pass s d sets new.lists
     sets_stand done x y (p, (a, i)) (q, (b, j)) =

@@ -1,12 +1,11 @@
 -- Fields of two sets that are looked at together: two by two they are compared.
 use Rattle.std.proofs.Common.{◌≡◌, ◌⊎◌, ◌∙◌, ℕ, ◌+◌, ◌<◌, ◌==◌, Bool, true, false, cond, List, [], ◌∷◌, ◌++◌, take, length, get_or, Contains, true≢false, refl, sym, ap, subst, append_assoc, append-nil, arith, inl, inr}
-use Rattle.std.specs.List.Sorted.{IsPermutation}
 use Rattle.std.proofs.lemmas.Bool.Decides.{Decides-eqb}
 use Rattle.std.proofs.lemmas.List.{length-append, length-map, map-append}
 use Rattle.std.proofs.lemmas.List.Elements.{Contains-append_left, Contains-append_right, Contains-append_cases}
 use Rattle.graphql_names.specs.Placed.{Place}
 use Rattle.schema_components.proofs.Places.{Contains-rest}
-use Rattle.rule_definitions.proofs.Lists.{not_in_nil, only, Contains-cons, Contains-first}
+use Rattle.rule_definitions.proofs.Lists.{not_in_nil, only, Contains-first}
 use Rattle.document_meaning.specs.MeantTree.{MeantDocument}
 use Rattle.rule_definitions.specs.Judged.{Judged}
 use Rattle.rule_document_definitions.specs.DocumentFaults.{Broken}
@@ -21,13 +20,12 @@ use Rattle.rule_merging.specs.Passes.{Together}
 use Rattle.rule_merging.specs.Members.{contents_of, read_sets}
 use Rattle.rule_merging.proofs.Lists.{taken_more}
 use Rattle.rule_number_lists.specs.NumberLists.{HaveSame}
-use Rattle.rule_number_lists.proofs.Standing.{same_order}
 use Rattle.rule_document_definitions.specs.ReadFields.{ReadField, ReadSet}
 use Rattle.rule_document_definitions.specs.Settled.{StandIn}
 use Rattle.rule_merging.specs.Remembered.{Kept, Remembers}
 use Rattle.rule_merging.specs.Examined.{Sets, Breaches, all_read, IsFresh, ListExamined}
 use Rattle.rule_merging.specs.Twos.{TwoFields, are_two, IsListOf, IsListOfTwo, contents_of_two, both_of, GoTogether, FieldsPaired}
-use Rattle.rule_merging.proofs.Examining.{left_empty, right_empty, stand_more, left_wider, list_fresh, HasMore}
+use Rattle.rule_merging.proofs.Examining.{left_empty, right_empty, more_there, one_there, there_before, stand_more, left_wider, list_fresh, HasMore}
 
 -- where more is told, something is added
 pub more_told : {X : Type 0} (told later added : List X) → later ≡ told ++ added → added ≡ [] → length told < length later → ⊥
@@ -206,9 +204,9 @@ module _ (pass : Pass) (s : Judged) (d : MeantDocument Place) where
           let u = h.examined.under vs c in
           (one, (other, ((refl, refl), (u.0, ((λ f g a b. let w = h.are.within u.0 f g u.1.0 a b in (no_more list two f w.0, w.1)), u.1.1)))));
       same = is;
-      more = λ l c. (same_order (kept ∷ old.lists) new.lists there l).0 (Contains-rest kept old.lists l c);
-      stand = λ e. these new.lists (kept, ((same_order (kept ∷ old.lists) new.lists there kept).0 (Contains-first kept old.lists kept refl), ((same (content_of one)).0 (has_one list two), (same (content_of other)).0 (has_other list two))));
-      fresh = λ e l c. elim (Contains-cons kept old.lists l ((same_order (kept ∷ old.lists) new.lists there l).1 c)) [
+      more = more_there kept old.lists new.lists there;
+      stand = λ e. these new.lists (kept, (one_there kept old.lists new.lists there, ((same (content_of one)).0 (has_one list two), (same (content_of other)).0 (has_other list two))));
+      fresh = λ e l c. elim (there_before kept old.lists new.lists there l c) [
         | inl b ↦ inr (subst (IsFresh pass s d (all_read next)) b (list_fresh pass s d list next (subst (λ a. ListExamined pass s d list a next) e h) kept same))
         | inr a ↦ inl a
       ];
@@ -228,8 +226,8 @@ read_of_two one other list (inl (e, is)) = ap contents_of is ∙ sym (ap (λ (b 
 read_of_two one other list (inr (e, is)) = ap contents_of is ∙ sym (ap (λ (b : Bool). cond b (content_of one ∷ []) (content_of one ∷ content_of other ∷ [])) (differ (one.number == other.number) (λ t. e ((Decides-eqb one.number other.number).0 t))))
   where
     differ : (b : Bool) → (b ≡ true → ⊥) → b ≡ false
-    differ true no = absurd (no refl)
-    differ false no = refl
+    differ true never = absurd (never refl)
+    differ false never = refl
 
 -- some list of them
 pub some_list : (one other : Member) → (list : List Member) × IsListOfTwo one other list

@@ -8,7 +8,7 @@ use Rattle.rule_merging.specs.Under.{sets_in}
 use Rattle.rule_document_definitions.specs.PlainFields.{IsSelected}
 use Rattle.rule_merging.specs.Counted.{AreListed}
 use Rattle.rule_merging.specs.Remembered.{account_of, kept_of, two_of}
-use Rattle.rule_merging.specs.Examined.{Sources, SelectsAsMuch, opened_here, all_opened, schema_of, document_of}
+use Rattle.rule_merging.specs.Examined.{Sources, SelectsAsMuch, opened_here, all_opened, schema_of, document_of, sets_of}
 use Rattle.rule_document_definitions.proofs.Unplaced.{contains_map}
 use Rattle.rule_merging.proofs.Pairing.{brokens_long}
 use Rattle.rule_merging.proofs.PairStep.{no_pairs, pairs_step}
@@ -37,9 +37,10 @@ longer old new more is here here' e f n within = omega (arith, within, length-ma
 pub loop-done-init : goal.loop-done-init
 loop-done-init c =
     let e = c.args.self.now in
+    let w = sets_of e in
     record {
-      examined = ([], ([], (sym (append-nil (brokens_of c.args.breaches.now)), (sym (append-nil (sets_in c.args.examined.now.next)), no_pairs e.pass (schema_of e) (document_of e) (kept_of c.args.examined.now)))));
-      counted = grows_not (document_of e) _ e.pass (account_of c.args.examined.now);
+      examined = ([], ([], (sym (append-nil (brokens_of c.args.breaches.now)), (sym (append-nil (sets_in w c.args.examined.now.next)), no_pairs e.pass (schema_of e) (document_of e) (kept_of w c.args.examined.now)))));
+      counted = grows_not (document_of e) _ e.pass (account_of w c.args.examined.now);
       within = omega arith;
     }
 
@@ -47,31 +48,33 @@ loop-done-init c =
 pub returns-in_err-examine_pair-clause-counted : goal.returns-in_err-examine_pair-clause-counted
 returns-in_err-examine_pair-clause-counted c =
     let e = c.args.self.now in
+    let w = sets_of e in
     let d = document_of e in
     let inv = c.loop-done.invariant in
-    let old = kept_of c.args.examined.now in
+    let old = kept_of w c.args.examined.now in
     let here = c.loop-done.examined.pairs.items in
     let pair = c.index-pair.result.now in
     let within : c.loop-done.done < length here = omega (arith, c.len.ensures, c.loop-done-test.true) in
     let two = two_at here c.loop-done.done pair within c.index-pair.ensures in
-    grows_with d _ _ e.pass (account_of c.args.examined.now) (account_of c.loop-done.examined) (account_of c.examine_pair.new.examined)
+    grows_with d _ _ e.pass (account_of w c.args.examined.now) (account_of w c.loop-done.examined) (account_of w c.examine_pair.new.examined)
     inv.counted (λ os given. pair_given d os old.pairs (map two_of here) (two_of pair) inv.examined.1.1.1.1.within (index_of (map two_of here) c.loop-done.done (two_of pair) two.0 two.1) given) c.in_err-examine_pair.ensures.counted
 
 pub loop-done-preserved : goal.loop-done-preserved
 loop-done-preserved c =
     let e = c.args.self.now in
+    let w = sets_of e in
     let d = document_of e in
     let inv = c.loop-done.invariant in
-    let old = kept_of c.args.examined.now in
+    let old = kept_of w c.args.examined.now in
     let here = c.loop-done.examined.pairs.items in
     let pair = c.index-pair.result.now in
     let within : c.loop-done.done < length here = omega (arith, c.len.ensures, c.loop-done-test.true) in
     let two = two_at here c.loop-done.done pair within c.index-pair.ensures in
-    let step = pairs_step e.pass (schema_of e) d c.loop-done.done old (kept_of c.loop-done.examined) (kept_of c.examine_pair.new.examined)
-    (brokens_of c.args.breaches.now) (brokens_of c.loop-done.breaches) (brokens_of c.examine_pair.new.breaches) (sets_in c.args.examined.now.next) (sets_in c.loop-done.examined.next) (sets_in c.examine_pair.new.examined.next) (two_of pair) two.0 two.1 inv.examined c.in_ok-examine_pair.ensures.examined in
+    let step = pairs_step e.pass (schema_of e) d c.loop-done.done old (kept_of w c.loop-done.examined) (kept_of w c.examine_pair.new.examined)
+    (brokens_of c.args.breaches.now) (brokens_of c.loop-done.breaches) (brokens_of c.examine_pair.new.breaches) (sets_in w c.args.examined.now.next) (sets_in w c.loop-done.examined.next) (sets_in w c.examine_pair.new.examined.next) (two_of pair) two.0 two.1 inv.examined c.in_ok-examine_pair.ensures.examined in
     record {
       examined = step;
-      counted = grows_with d _ _ e.pass (account_of c.args.examined.now) (account_of c.loop-done.examined) (account_of c.examine_pair.new.examined)
+      counted = grows_with d _ _ e.pass (account_of w c.args.examined.now) (account_of w c.loop-done.examined) (account_of w c.examine_pair.new.examined)
           inv.counted (λ os given. pair_given d os old.pairs (map two_of here) (two_of pair) inv.examined.1.1.1.1.within (index_of (map two_of here) c.loop-done.done (two_of pair) two.0 two.1) given) c.in_ok-examine_pair.ensures.counted;
       within = longer (map two_of here) (map two_of c.examine_pair.new.examined.pairs.items) c.in_ok-examine_pair.ensures.examined.1.1.1.1.pairs c.in_ok-examine_pair.ensures.examined.1.1.1.1.is_pairs here c.examine_pair.new.examined.pairs.items refl refl c.loop-done.done within;
     }
