@@ -6,7 +6,7 @@ use Rattle.document_meaning.specs.in_components.Names.{Entries}
 use Rattle.rule_document_definitions.specs.Selected.{InOperation, StandingField}
 use Rattle.rule_document_definitions.specs.Reached.{Closed, first, next, IsFieldOf}
 use Rattle.rule_document_definitions.specs.Contents.{content}
-use Rattle.rule_document_definitions.specs.ReadFields.{ReadField, ReadSet, fields_in, spreads_in, set_read, IsReadFrom, SelectsRead}
+use Rattle.rule_document_definitions.specs.ReadFields.{ReadField, ReadSet, nothing_read, fields_in, spreads_in, set_read, IsReadFrom, SelectsRead}
 use Rattle.rule_merging.specs.Below.{IsBare}
 
 nothing_there : {X : Type 0} (First : X → Type 0) (Next : X → X → Type 0) → ((x : X) → First x → ⊥) → (x : X) → Closed First Next x → ⊥
@@ -34,5 +34,5 @@ pub nothing_listed : (fragments : Entries ReadSet) (s : ReadSet) → fields_in s
 nothing_listed fragments s fields spreads y (t, (r, c)) = not_in_nil y (subst (λ l. Contains l y) fields (subst (λ v. Contains (fields_in v) y) (stays fragments s t spreads r) c))
 
 pub bare_reads : {P : Type 0} (fragments : Entries ReadSet) (v : MeantSet P) → IsBare v → (y : ReadField) → SelectsRead fragments (set_read v) y → ⊥
-bare_reads fragments (meant_set t no_meant) bare y h = nothing_listed fragments (set_read (meant_set t no_meant)) refl refl y h
+bare_reads fragments (meant_set t no_meant) bare y h = nothing_listed fragments nothing_read refl refl y h
 bare_reads fragments (meant_set t (meant_then m ms)) bare y h = absurd bare

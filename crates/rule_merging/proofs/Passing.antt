@@ -1,5 +1,5 @@
 -- Fields and what is read of them: both go together and agree alike in each pass, and sets select alike.
-use Rattle.std.proofs.Common.{◌≡◌, ◌↔◌, None, List, Contains, refl, sym, subst}
+use Rattle.std.proofs.Common.{◌≡◌, ◌↔◌, None, List, [], Contains, refl, sym, subst}
 use Rattle.graphql_names.specs.Placed.{Place}
 use Rattle.document_meaning.specs.MeantTree.{MeantSet, meant_set, no_meant, meant_then, MeantDocument}
 use Rattle.document_meaning.specs.in_components.Names.{Entries}
@@ -7,7 +7,7 @@ use Rattle.rule_definitions.specs.Judged.{Judged}
 use Rattle.rule_document_definitions.specs.Selected.{InOperation, StandingField}
 use Rattle.rule_document_definitions.specs.Contents.{content}
 use Rattle.rule_document_definitions.specs.PlainFields.{IsSelected}
-use Rattle.rule_document_definitions.specs.ReadFields.{ReadField, ReadSet, list_read, set_read, field_read, fragments_read, SelectsRead}
+use Rattle.rule_document_definitions.specs.ReadFields.{ReadField, ReadSet, nothing_read, read_set, no_reads, list_read, set_read, field_read, fragments_read, SelectsRead}
 use Rattle.rule_document_definitions.proofs.Unplaced.{contains_map, contains_unmap}
 use Rattle.rule_document_definitions.proofs.ReadFacts.{key_read, may_share_read, shape_read, selections_read, selects_read, read_selects}
 use Rattle.rule_merging.specs.declared.pass.Pass.{Pass}
@@ -32,8 +32,8 @@ agree_read Selections s f g = selections_read f g
 -- a set selects what it does as any set is read: without selections it selects nothing, either way
 pub selects_listed : {P : Type 0} (fragments : Entries ReadSet) (v : MeantSet P) (y : ReadField) → SelectsRead fragments (set_read v) y ↔ SelectsRead fragments (list_read v) y
 selects_listed fragments (meant_set t no_meant) y = (
-  λ h. absurd (nothing_listed fragments (set_read (meant_set t no_meant)) refl refl y h),
-  λ h. absurd (nothing_listed fragments (list_read (meant_set t no_meant)) refl refl y h),
+  λ h. absurd (nothing_listed fragments nothing_read refl refl y h),
+  λ h. absurd (nothing_listed fragments (read_set no_reads []) refl refl y h),
 )
 selects_listed fragments (meant_set t (meant_then m ms)) y = (λ h. h, λ h. h)
 
