@@ -17,6 +17,7 @@ pub mod Remembering
 pub mod Looking
 pub mod Pairing
 pub mod PairStep
+pub mod OpenedNodes
 pub mod Counting
 pub mod Written
 pub mod Operating

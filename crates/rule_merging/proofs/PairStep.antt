@@ -1,6 +1,6 @@
 -- A pair of sets is looked at: the fields of the one are compared with those of the other, and what each spreads is looked at with the other.
 use Rattle.std.proofs.Common.{◌≡◌, ◌⊎◌, ◌∙◌, ℕ, ◌+◌, ◌<◌, ◌≤◌, List, [], ◌∷◌, ◌++◌, drop, length, get_or, Contains, refl, sym, ap, subst, append_assoc, append-nil, arith, inl, inr}
-use Rattle.std.specs.Prelude.{None, Some, option_map}
+use Rattle.std.specs.Prelude.{option_map}
 use Rattle.std.proofs.lemmas.List.{map-append, drop-append-le, drop_all}
 use Rattle.std.proofs.lemmas.List.Elements.{Contains-append_left, Contains-append_right, Contains-append_cases}
 use Rattle.graphql_names.specs.Placed.{Place}
@@ -10,14 +10,12 @@ use Rattle.document_meaning.specs.MeantTree.{MeantSet, meant_set, no_meant, mean
 use Rattle.rule_definitions.specs.Judged.{Judged}
 use Rattle.rule_definitions.specs.in_schema_types.Addresses.{under}
 use Rattle.rule_document_definitions.specs.DocumentFaults.{Broken}
-use Rattle.rule_document_definitions.specs.Selected.{InOperation, StandingField}
+use Rattle.rule_document_definitions.specs.Selected.{StandingField}
 use Rattle.rule_document_definitions.specs.Reached.{first as starts_here, next as leads_on}
-use Rattle.rule_document_definitions.specs.Written.{fields_written, SpreadsSet, IsSetFrom, HasContent}
 use Rattle.rule_document_definitions.specs.ReadFields.{ReadField, ReadSet, fields_in, spreads_in, set_read, list_read, fragments_read, IsReadFrom, SelectsRead, ReadBelow, ReadStarts}
 use Rattle.rule_document_definitions.specs.PlainFields.{IsSelected}
 use Rattle.rule_document_definitions.specs.Settled.{StandIn, IsUnderWay}
 use Rattle.rule_document_definitions.proofs.Unplaced.{contains_map, contains_unmap, under_same}
-use Rattle.rule_document_definitions.proofs.WrittenFacts.{written_from}
 use Rattle.rule_number_lists.specs.NumberLists.{HaveSame}
 use Rattle.rule_number_lists.proofs.Standing.{same_trans, same_sym}
 use Rattle.rule_field_sets.specs.declared.member.Member.{Member}
@@ -94,36 +92,30 @@ module _ (d : MeantDocument Place) where
 
   -- these are fields of the set, and sets of fragments that it spreads, all of them by what is read
   pub record IsOpened (a : MeantSet Place) (members : List Member) (spread : Sets) : Type 0 where
-    pub within : (p : Member) → Contains members p → Contains (fields_written a) (field_of p)
+    pub within : (p : Member) → Contains members p → IsSelected d (a ∷ []) (field_of p)
     pub covers : (x : ReadField) → ReadOwn d (list_read a) x → (p : Member) × (Contains members p × (content_of p ≡ x))
-    pub leads : (v : MeantSet Place) → Contains spread v → SpreadsSet d.fragments a v
+    pub leads : (v : MeantSet Place) → Contains spread v → SelectsAsMuch d (a ∷ []) (v ∷ [])
     pub reaches : (v : ReadSet) → ReadSpreads d (list_read a) v → (u : MeantSet Place) × (Contains spread u × (list_read u ≡ v))
-
-  -- what a set that is spread selects, the set does
-  spread_before : (a v t : MeantSet Place) → SpreadsSet d.fragments a v → IsSetFrom d.fragments v t → IsSetFrom d.fragments a t
-  spread_before a v t c (starts_here e) = leads_on (starts_here refl) (subst (SpreadsSet d.fragments a) (sym e) c)
-  spread_before a v t c (leads_on {x} r step) = leads_on (spread_before a v x c r) step
-
-  spread_selected : (a v : MeantSet Place) (x : StandingField Place) → SpreadsSet d.fragments a v → HasContent d (InOperation None) v x → HasContent d (InOperation None) a x
-  spread_selected a v x c h =
-      let t = (written_from d (InOperation None) v x).0 h in
-      (written_from d (InOperation None) a x).1 (t.0, (spread_before a v t.0 c t.1.0, t.1.1))
 
 module _ (pass : Pass) (s : Judged) (d : MeantDocument Place) where
   -- ---- fields of the two
-
-  own_selected : (a : MeantSet Place) (f : StandingField Place) → Contains (fields_written a) f → HasContent d (InOperation None) a f
-  own_selected a f c = (written_from d (InOperation None) a f).1 (a, (starts_here refl, c))
 
   module _ (a b : MeantSet Place) (ones others : List Member) (vs ws : Sets) (open_one : IsOpened d a ones vs) (open_other : IsOpened d b others ws) where
     abbrev two : Sets
     two = a ∷ b ∷ []
 
+    -- what the one selects, and the other
+    first_selects : (p q : MeantSet Place) (x : StandingField Place) → IsSelected d (p ∷ []) x → IsSelected d (p ∷ q ∷ []) x
+    first_selects p q x (w, (k, sel)) = (w, (Contains-first p (q ∷ []) w (sym (only p w k)), sel))
+
+    last_selects : (p q : MeantSet Place) (x : StandingField Place) → IsSelected d (q ∷ []) x → IsSelected d (p ∷ q ∷ []) x
+    last_selects p q x (w, (k, sel)) = (w, (Contains-rest p (q ∷ []) w k, sel))
+
     from_one : (p : Member) → Contains ones p → IsSelected d two (field_of p)
-    from_one p c = (a, (Contains-first a (b ∷ []) a refl, own_selected a (field_of p) (open_one.within p c)))
+    from_one p c = first_selects a b (field_of p) (open_one.within p c)
 
     from_other : (q : Member) → Contains others q → IsSelected d two (field_of q)
-    from_other q c = (b, (Contains-rest a (b ∷ []) b (Contains-first b [] b refl), own_selected b (field_of q) (open_other.within q c)))
+    from_other q c = last_selects a b (field_of q) (open_other.within q c)
 
     -- two fields that go together, of the one set and of the other
     both_selected : (p q : Member) → are_of ones others p q → (f : StandingField Place) → Contains (both_of p q) f → IsSelected d two f
@@ -136,10 +128,10 @@ module _ (pass : Pass) (s : Judged) (d : MeantDocument Place) where
     pub pair_listed : (os : List (MeantOperation Place)) → AreListed d os (two ∷ []) → (p q : Member) → are_of ones others p q → IsLast d os (content_of p) × IsLast d os (content_of q)
     pair_listed os listed p q (c, e) = (listed two (Contains-first two [] two refl) (field_of p) (from_one p c), listed two (Contains-first two [] two refl) (field_of q) (from_other q e))
 
-    of_two : (p q v : MeantSet Place) → SpreadsSet d.fragments p v → (x : StandingField Place) → IsSelected d (v ∷ q ∷ []) x → IsSelected d (p ∷ q ∷ []) x
+    of_two : (p q v : MeantSet Place) → SelectsAsMuch d (p ∷ []) (v ∷ []) → (x : StandingField Place) → IsSelected d (v ∷ q ∷ []) x → IsSelected d (p ∷ q ∷ []) x
     of_two p q v spread x (w, (k, sel)) = elim (Contains-cons v (q ∷ []) w k) [
-      | inl e ↦ (p, (Contains-first p (q ∷ []) p refl, spread_selected d p v x spread (subst (λ u. HasContent d (InOperation None) u x) (sym e) sel)))
-      | inr r ↦ (w, (Contains-rest p (q ∷ []) w r, sel))
+      | inl e ↦ first_selects p q x (spread x (w, (Contains-first v [] w e, sel)))
+      | inr r ↦ last_selects p q x (w, (r, sel))
     ]
 
     module _ (old mid new : Kept) (added : List (Broken Place)) (next : List Sets) (paired : FieldsPaired pass s d (are_of ones others) old mid added next)

@@ -1,11 +1,10 @@
-//! The examination of two sets or fragments that are looked at together.
-ghost use Rattle.std.specs.Prelude.{◌≡◌, ◌<◌, ◌∷◌, [], length, IsTrue, OnOk, IfOk};
-ghost use Rattle.std.specs.Str.{bytes_eq};
-ghost use Rattle.rule_merging.specs.Grouped.{key_of};
-ghost use Rattle.rule_merging.specs.Below.{meant_sets};
+//! The examination of two sets that are looked at together.
+ghost use Rattle.std.specs.Prelude.{◌≡◌, ◌↔◌, ◌<◌, ◌∷◌, [], length, IsTrue, OnOk, IfOk};
+ghost use Rattle.rule_field_sets.specs.Nodes.{HasMember};
+ghost use Rattle.rule_merging.specs.Members.{meant_sets, AreMembersOf};
 ghost use Rattle.rule_merging.specs.Remembered.{two_of};
-ghost use Rattle.rule_merging.specs.Twos.{are_two, are_of, IsListOf, GrowsByTwo};
-ghost use Rattle.rule_merging.specs.Examined.{ExaminesPair, ExaminesPairs, GrowsOver, GrowsOverTwo, GrowsHere};
+ghost use Rattle.rule_merging.specs.Twos.{are_two, are_of, IsListOfTwo, GrowsByTwo};
+ghost use Rattle.rule_merging.specs.Examined.{sets_of, HasSets, ExaminesPair, ExaminesPairs, GrowsOver, GrowsOverTwo, GrowsHere};
 ghost use Rattle.rule_merging.specs.OfProgram.{Comes, ExaminesThese, PairsOf};
 
 use crate::examination::Examination;
