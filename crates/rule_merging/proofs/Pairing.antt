@@ -5,7 +5,7 @@ use Rattle.std.proofs.lemmas.List.{length-append, length-map, map-append}
 use Rattle.std.proofs.lemmas.List.Elements.{Contains-append_left, Contains-append_right, Contains-append_cases}
 use Rattle.graphql_names.specs.Placed.{Place}
 use Rattle.schema_components.proofs.Places.{Contains-rest}
-use Rattle.rule_definitions.proofs.Lists.{not_in_nil, only, Contains-first}
+use Rattle.rule_definitions.proofs.Lists.{not_in_nil, only, Contains-cons, Contains-first}
 use Rattle.document_meaning.specs.MeantTree.{MeantDocument}
 use Rattle.rule_definitions.specs.Judged.{Judged}
 use Rattle.rule_document_definitions.specs.DocumentFaults.{Broken}
@@ -14,10 +14,12 @@ use Rattle.rule_document_definitions.specs.Merging.{SameKey}
 use Rattle.rule_document_ground.specs.Broken.{broken_of, brokens_of}
 use Rattle.rule_merging.specs.Members.{field_of, fields_of, content_of}
 use Rattle.rule_field_sets.specs.declared.member.Member.{Member}
+use Rattle.rule_field_sets.specs.declared.field_sets.FieldSets.{FieldSets}
+use Rattle.rule_field_sets.specs.Nodes.{HasMember}
 use Rattle.rule_merging.specs.declared.pass.Pass.{Pass}
 use Rattle.rule_merging.specs.declared.pass.Pass.TheVariants.{Shapes, Selections}
 use Rattle.rule_merging.specs.Passes.{Together}
-use Rattle.rule_merging.specs.Members.{contents_of, read_sets}
+use Rattle.rule_merging.specs.Members.{contents_of, read_sets, AreMembersOf}
 use Rattle.rule_merging.proofs.Lists.{taken_more}
 use Rattle.rule_number_lists.specs.NumberLists.{HaveSame}
 use Rattle.rule_document_definitions.specs.ReadFields.{ReadField, ReadSet}
@@ -219,6 +221,14 @@ pub by_contents : (one other : Member) (list : List Member) → ((one.number ≡
     → IsListOfTwo one other list → IsListOf one other list
 by_contents one other list to back (inl (e, is)) = inl (to e, is)
 by_contents one other list to back (inr (e, is)) = inr ((λ same. e (back same)), is)
+
+-- its members are members of nodes
+pub members_of_two : (w : FieldSets) (one other : Member) (list : List Member) → HasMember w one → HasMember w other → IsListOfTwo one other list → AreMembersOf w list
+members_of_two w one other list a b (inl (e, is)) m c = subst (HasMember w) (sym (only one m (subst (λ (l : List Member). Contains l m) is c))) a
+members_of_two w one other list a b (inr (e, is)) m c = elim (Contains-cons one (other ∷ []) m (subst (λ (l : List Member). Contains l m) is c)) [
+  | inl i ↦ subst (HasMember w) i a
+  | inr r ↦ subst (HasMember w) (sym (only other m r)) b
+]
 
 -- what is read of it
 pub read_of_two : (one other : Member) (list : List Member) → IsListOfTwo one other list → contents_of list ≡ contents_of_two one other

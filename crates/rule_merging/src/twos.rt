@@ -54,8 +54,8 @@ impl<'doc> Examination<'_, 'doc> {
         breaches: &mut Vec<Breach>,
     ) -> Result<(), AllocError>
         requires sets { HasSets self.now }
-        requires one { HasMember (sets_of self.now) one.entry }
-        requires other { HasMember (sets_of self.now) other.entry }
+        requires one { HasMember (sets_of self.now) one }
+        requires other { HasMember (sets_of self.now) other }
         ensures examined { OnOk result (PairsOf self.now (are_two one.entry other.entry) examined.old examined.new breaches.old breaches.new) }
         ensures counted { GrowsByTwo self.now (are_two one.entry other.entry) examined.old examined.new }
     {
@@ -79,7 +79,7 @@ impl<'doc> Examination<'_, 'doc> {
         breaches: &mut Vec<Breach>,
     ) -> Result<(), AllocError>
         requires sets { HasSets self.now }
-        requires one { HasMember (sets_of self.now) one.entry }
+        requires one { HasMember (sets_of self.now) one }
         requires others { AreMembersOf (sets_of self.now) others.now }
         ensures examined { OnOk result (PairsOf self.now (are_of (one.entry ∷ []) others.now) examined.old examined.new breaches.old breaches.new) }
         ensures counted { GrowsByTwo self.now (are_of (one.entry ∷ []) others.now) examined.old examined.new }
