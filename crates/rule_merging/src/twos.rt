@@ -123,8 +123,8 @@ impl<'doc> Examination<'_, 'doc> {
         breaches: &mut Vec<Breach>,
     ) -> Result<(), AllocError>
         requires sets { HasSets self.now }
-        ensures examined { OnOk result (Comes (sets_of self.now) (ExaminesPair self.now (two_of (sets_of self.now) pair.entry)) examined.old examined.new breaches.old breaches.new) }
-        ensures counted { GrowsOverTwo self.now (two_of (sets_of self.now) pair.entry) examined.old examined.new }
+        ensures examined { OnOk result (Comes (sets_of self.now) (ExaminesPair self.now (two_of (sets_of self.now) pair)) examined.old examined.new breaches.old breaches.new) }
+        ensures counted { GrowsOverTwo self.now (two_of (sets_of self.now) pair) examined.old examined.new }
     {
         let Pair { one, other } = pair;
         let sets = self.sets;

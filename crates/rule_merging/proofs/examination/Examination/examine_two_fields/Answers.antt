@@ -1,4 +1,4 @@
-use Rattle.std.proofs.Common.{◌≡◌, ◌∙◌, ◌++◌, Bool, true, false, List, refl, ap, sym, subst, true≢false}
+use Rattle.std.proofs.Common.{◌≡◌, ◌∙◌, ◌++◌, Bool, true, false, List, refl, ap, sym, subst, arith, true≢false}
 use Rattle.std.proofs.lemmas.Result.{on_ok_weaker}
 use Rattle.rule_document_ground.specs.Broken.{brokens_of}
 use Rattle.rule_document_definitions.specs.ReadFields.{ReadField}
@@ -86,8 +86,8 @@ returns-in_err-list-clause-counted c =
     grows_two (document_of e) e.pass one other list.0 fresh.1.0 (account_of w c.args.examined.now) (account_of w c.remember_two.new.self) (account_of w c.remember_two.new.self)
     (as_contents w c.requires.sets.are one other c.requires.one c.requires.other list.0 list.1) fresh.1.1.1.0 fresh.0 fresh.1.1.1.1.0 (c.in_ok-remember_two.ensures.account w) (omega arith) (omega arith) refl
 
-pub examine_list-requires-members : goal.examine_list-requires-members
-examine_list-requires-members c =
+pub examine_list-requires-clause-members : goal.examine_list-requires-clause-members
+examine_list-requires-clause-members c =
     subst (AreMembersOf (sets_of c.args.self.now)) (sym c.deref.ensures.value) (members_of_two (sets_of c.args.self.now) c.args.one c.args.other c.list.result c.requires.one c.requires.other c.in_ok-list.ensures)
 
 pub returns-clause-examined : goal.returns-clause-examined
