@@ -24,7 +24,7 @@ one_set_content t n c d (k, a) (j, b) = ap (λ (p : SetParts × ReadSet). p.1) (
 same_key : (a b : FieldKey) → a.key ≡ b.key → a.parent ≡ b.parent → a.call ≡ b.call → a.ty ≡ b.ty → a.set ≡ b.set → a ≡ b
 same_key a b key parent call ty set = λ i. record { key = key i; parent = parent i; call = call i; ty = ty i; set = set i }
 
-fields_same : (fs gs : ReadFields) (ns ms : List (List ℕ)) → read_set fs ns ≡ read_set gs ms → fs ≡ gs
+pub fields_same : (fs gs : ReadFields) (ns ms : List (List ℕ)) → read_set fs ns ≡ read_set gs ms → fs ≡ gs
 fields_same fs gs ns ms e = cc
 
 names_same : (fs gs : ReadFields) (ns ms : List (List ℕ)) → read_set fs ns ≡ read_set gs ms → ns ≡ ms

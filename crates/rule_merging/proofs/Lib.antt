@@ -8,6 +8,8 @@ pub mod ShapesTold
 pub mod Lists
 pub mod Sets
 pub mod Under
+pub mod NodeFacts
+pub mod Walking
 pub mod Selected
 pub mod PairedFacts
 pub mod Bare

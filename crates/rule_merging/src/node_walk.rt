@@ -1,10 +1,10 @@
 //! A walk over selection sets by their nodes.
-ghost use Rattle.std.specs.Prelude.{◌≡◌, OnOk, IfOk, IsTrue};
+ghost use Rattle.std.specs.Prelude.{◌≡◌, ◌∷◌, [], OnOk, IfOk, IsTrue};
 ghost use Rattle.rule_field_sets.specs.Nodes.{AreSets, HasAllStarts};
 ghost use Rattle.rule_merging.specs.Members.{meant_sets, AreMembersOf};
 ghost use Rattle.rule_merging.specs.Below.{IsMerged, IsPartOfMerged};
 ghost use Rattle.rule_document_ground.specs.Fields.{meant_fragments};
-ghost use Rattle.rule_merging.specs.NodeWalk.{PassesMember, PassesMembers, PassesNode, WalksOn, WalksOver, IsBegun};
+ghost use Rattle.rule_merging.specs.NodeWalk.{state_of, with_paid, PassesMember, PassesMembers, PassesSpreads, PassesNode, WalksOn, WalksOver};
 
 use crate::nodes::{fragment_of, node_of};
 use indexmap::IndexSet;
@@ -49,7 +49,9 @@ struct NodeWalk<'doc> {
 
 impl<'doc> NodeWalk<'doc> {
     /// Whether so many steps more are paid. They are taken, or the walk is not whole.
-    fn steps_on(&mut self, toll: Toll<'_>, more: usize) -> bool {
+    fn steps_on(&mut self, toll: Toll<'_>, more: usize) -> bool
+        ensures { state_of self.new ≡ with_paid result (state_of self.old) }
+    {
         let paid = toll.paid.saturating_add(self.fresh.saturating_mul(toll.each));
         let steps = self.steps.saturating_add(more);
         if steps > paid {
@@ -60,20 +62,32 @@ impl<'doc> NodeWalk<'doc> {
         true
     }
 
-    /// Adds a field, unless its number is there.
-    fn pass_member(&mut self, toll: Toll<'_>, member: Member<'doc>) -> Result<(), AllocError> {
-        if !self.numbers.insert(member.number)? {
-            return Ok(());
-        }
-        if !toll.met.contains(member.number) {
+    /// Counts a field that was not met before.
+    fn count_fresh(&mut self, toll: Toll<'_>, number: usize)
+        ensures { state_of self.new ≡ state_of self.old }
+    {
+        if !toll.met.contains(number) {
             self.fresh = self.fresh.saturating_add(1);
         }
+    }
+
+    /// Adds a field, unless its number is there.
+    fn pass_member(&mut self, toll: Toll<'_>, member: Member<'doc>) -> Result<(), AllocError>
+        ensures { OnOk result (PassesMember member.entry (state_of self.old) (state_of self.new)) }
+    {
+        let is_new = self.numbers.insert(member.number)?;
+        if !is_new {
+            return Ok(());
+        }
+        self.count_fresh(toll, member.number);
         self.members.push(member)?;
         Ok(())
     }
 
     /// Adds the fields.
-    fn pass_members(&mut self, toll: Toll<'_>, members: &[Member<'doc>]) -> Result<(), AllocError> {
+    fn pass_members(&mut self, toll: Toll<'_>, members: &[Member<'doc>]) -> Result<(), AllocError>
+        ensures { OnOk result (PassesMembers members.now (state_of self.old) (state_of self.new)) }
+    {
         for member in members {
             self.pass_member(toll, *member)?;
         }
@@ -81,7 +95,9 @@ impl<'doc> NodeWalk<'doc> {
     }
 
     /// Notes the fragments.
-    fn note_spreads(&mut self, spreads: &[usize]) -> Result<(), AllocError> {
+    fn note_spreads(&mut self, spreads: &[usize]) -> Result<(), AllocError>
+        ensures { OnOk result (PassesSpreads spreads.now (state_of self.old) (state_of self.new)) }
+    {
         for place in spreads {
             self.spread.insert(*place)?;
         }
@@ -89,9 +105,12 @@ impl<'doc> NodeWalk<'doc> {
     }
 
     /// Passes the fields and the spreads of a node, if that is paid.
-    fn pass_node(&mut self, toll: Toll<'_>, node: &SetNode<'doc>) -> Result<(), AllocError> {
+    fn pass_node(&mut self, toll: Toll<'_>, node: &SetNode<'doc>) -> Result<(), AllocError>
+        ensures { OnOk result (PassesNode node.now (state_of self.old) (state_of self.new)) }
+    {
         let more = node.members.len().saturating_add(node.spreads.len());
-        if !self.steps_on(toll, more) {
+        let is_paid = self.steps_on(toll, more);
+        if !is_paid {
             return Ok(());
         }
         self.pass_members(toll, &node.members)?;
@@ -104,9 +123,12 @@ impl<'doc> NodeWalk<'doc> {
         toll: Toll<'_>,
         sets: &FieldSets<'doc>,
         mut entered: usize,
-    ) -> Result<(), AllocError> {
+    ) -> Result<(), AllocError>
+        ensures { OnOk result (WalksOn sets.now entered (state_of self.old) (state_of self.new)) }
+    {
         while self.is_whole && entered < self.spread.len() {
-            let fragment = fragment_of(sets, self.spread[entered])?;
+            let place = self.spread[entered];
+            let fragment = fragment_of(sets, place)?;
             self.pass_node(toll, fragment)?;
             entered += 1;
         }
@@ -114,9 +136,12 @@ impl<'doc> NodeWalk<'doc> {
     }
 
     /// Walks over the set of a node, and over each fragment that it reaches and that no set before it does.
-    fn walk(&mut self, toll: Toll<'_>, sets: &FieldSets<'doc>, node: usize) -> Result<(), AllocError> {
+    fn walk(&mut self, toll: Toll<'_>, sets: &FieldSets<'doc>, node: usize) -> Result<(), AllocError>
+        ensures { OnOk result (WalksOver sets.now node (state_of self.old) (state_of self.new)) }
+    {
         let entered = self.spread.len();
-        self.pass_node(toll, node_of(sets, node)?)?;
+        let start = node_of(sets, node)?;
+        self.pass_node(toll, start)?;
         self.pass_fragments(toll, sets, entered)
     }
 }
