@@ -17,6 +17,7 @@ pub mod Passing
 pub mod Examining
 pub mod Remembering
 pub mod Looking
+pub mod Known
 pub mod Pairing
 pub mod PairStep
 pub mod OpenedNodes

@@ -1,9 +1,10 @@
 -- Lists that are kept: those of a pair, and longer ones.
-use Rattle.std.proofs.Common.{◌≡◌, ◌⊎◌, ◌∙◌, ℕ, ◌<◌, ◌≤◌, min, max, Bool, true, false, cond, List, [], ◌∷◌, ◌++◌, map, length, get_or, Some, Vec, Result, Ok, Err, IfOk, OnErr, Contains, refl, sym, ap, ap₂, subst, append_assoc, arith, inl, inr, eq-eqb, ne_eqb}
+use Rattle.std.proofs.Common.{◌≡◌, ◌⊎◌, ◌∙◌, ℕ, suc, ◌+◌, ◌<◌, ◌≤◌, min, max, Bool, true, false, cond, List, [], ◌∷◌, ◌++◌, map, length, get_or, take, Some, Vec, Result, Ok, Err, IfOk, OnErr, Contains, refl, sym, ap, ap₂, subst, append_assoc, arith, inl, inr, eq-eqb, ne_eqb}
 use Rattle.std.specs.Global.{Global}
 use Rattle.std.specs.List.Sorted.{IsPermutation}
 use Rattle.std.proofs.lemmas.Bool.{cases_eq, cases_order}
-use Rattle.std.proofs.lemmas.List.Elements.{Contains-append_left, Contains-append_right, Contains-append_cases}
+use Rattle.std.proofs.Math.Seq.{take-suc}
+use Rattle.std.proofs.lemmas.List.Elements.{Contains-push_cases, Contains-append_left, Contains-append_right, Contains-append_cases}
 use Rattle.std.proofs.lemmas.List.Sorted.{IsPermutation-refl, IsPermutation-sym, IsPermutation-map, IsPermutation-to_front, IsPermutation-append_left, Contains-permutation}
 use Rattle.rule_cycle_search.specs.Paths.{HasNoRepeat}
 use Rattle.rule_cycle_search.proofs.Lists.{not_in_nil, Contains-cons, Contains-first}
@@ -102,6 +103,35 @@ all_so f Q xs all y c = let x = of_map f xs y c in subst Q x.1.1 (all x.0 x.1.0)
 
 pub all_long : (keys : List (Vec ℕ Global)) → ((v : Vec ℕ Global) → Contains keys v → 3 ≤ length v.items) → (l : List ℕ) → Contains (map items_of keys) l → 3 ≤ length l
 all_long keys = all_so items_of (λ (l : List ℕ). 3 ≤ length l) keys
+
+-- ---- a number above all that are in lists
+
+-- what is above the first of a list, and above one more
+pub above_next : (l : List ℕ) (i d bound next : ℕ) → i < length l → ((n : ℕ) → Contains (take i l) n → n < bound) → next ≡ max bound (get_or l i d + 1) → (n : ℕ) → Contains (take (i + 1) l) n → n < next
+above_next l i d bound next lt below is n c =
+    let more : i + 1 ≡ suc i = omega arith in
+    elim (Contains-push_cases (take i l) (get_or l i d) n (subst (λ xs. Contains xs n) (ap (λ k. take k l) more ∙ take-suc l i d lt) c)) [
+      | inl a ↦ omega (arith, below n a, is)
+      | inr e ↦ omega (arith, e, is)
+    ]
+
+-- what is above all of a list that is inserted, and of those that are there
+pub within_more : (numbers : List ℕ) (v : Vec ℕ Global) (bound above next : ℕ) → IsPermutation numbers v.items → ((n : ℕ) → Contains numbers n → n < bound) → next ≡ max above bound → (n : ℕ) → Contains v.items n → n < next
+within_more numbers v bound above next order below is n c = omega (arith, below n (Contains-permutation v.items numbers n (IsPermutation-sym numbers v.items order) c), is)
+
+-- what is above pairs, and above longer lists
+pub all_under : (pairs : List (ℕ × ℕ)) (keys : List (Vec ℕ Global)) (above high bound : ℕ) → bound ≡ max above high → ((v : Vec ℕ Global) → Contains keys v → (n : ℕ) → Contains v.items n → n < above)
+    → ((p : ℕ × ℕ) → Contains pairs p → (p.0 < high) × (p.1 < high)) → (list : List ℕ) → Contains (map list_of pairs ++ map items_of keys) list → (n : ℕ) → Contains list n → n < bound
+all_under pairs keys above high bound is long two list c n k = elim (Contains-append_cases (map list_of pairs) (map items_of keys) list c) [
+  | inl a ↦
+      let p = of_map list_of pairs list a in
+      let below = two p.0 p.1.0 in
+      elim (one_of p.0.0 p.0.1 n ((as_two p.0.0 p.0.1 n).0 (subst (λ l. Contains l n) (sym p.1.1) k))) [
+        | inl e ↦ omega (arith, e, below.0, is)
+        | inr e ↦ omega (arith, e, below.1, is)
+      ]
+  | inr b ↦ let v = of_map items_of keys list b in omega (arith, long v.0 v.1.0 n (subst (λ l. Contains l n) (sym v.1.1) k), is)
+]
 
 -- ---- lists of pairs, and longer ones behind them
 

@@ -4,3 +4,5 @@ pub mod Few
 pub mod Words
 pub mod Rows
 pub mod Kept
+pub mod Sets
+pub mod Said

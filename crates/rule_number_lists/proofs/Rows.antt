@@ -30,7 +30,7 @@ sets_after old mid new number is_new same (says, (is_in, others)) = (says ∙ ap
 
 -- ---- the numbers that a test keeps
 
-of_filter : {X : Type 0} (p : X → Bool) (xs : List X) (x : X) → Contains (filter p xs) x → (p x ≡ true) × Contains xs x
+pub of_filter : {X : Type 0} (p : X → Bool) (xs : List X) (x : X) → Contains (filter p xs) x → (p x ≡ true) × Contains xs x
 of_filter p [] x c = not_in_nil x c
 of_filter {X} p (y ∷ ys) x c = by (p y) refl c (of_filter p ys x)
   where
@@ -41,7 +41,7 @@ of_filter {X} p (y ∷ ys) x c = by (p y) refl c (of_filter p ys x)
     ]
     by false e c rest = let k = rest c in (k.0, in_rest y ys x k.1)
 
-in_filter : {X : Type 0} (p : X → Bool) (xs : List X) (x : X) → p x ≡ true → Contains xs x → Contains (filter p xs) x
+pub in_filter : {X : Type 0} (p : X → Bool) (xs : List X) (x : X) → p x ≡ true → Contains xs x → Contains (filter p xs) x
 in_filter p [] x e c = not_in_nil x c
 in_filter {X} p (y ∷ ys) x e c = by (p y) refl (Contains-cons y ys x c) (in_filter p ys x e)
   where
@@ -55,13 +55,13 @@ none_kept : {X : Type 0} (p : X → Bool) (xs : List X) → ((x : X) → p x ≡
 none_kept p [] none = refl
 none_kept p (x ∷ xs) none = ap (λ b. cond b (x ∷ filter p xs) (filter p xs)) (none x) ∙ none_kept p xs none
 
-of_range : (a n k : ℕ) → Contains (range_with_len a n) k → (a ≤ k) × (k < a + n)
+pub of_range : (a n k : ℕ) → Contains (range_with_len a n) k → (a ≤ k) × (k < a + n)
 of_range a n k (i, low, e) =
     let within : i < n = omega (arith, low, length-range_with_len a n) in
     let is = get_or-range_with_len a n i k within in
     (omega (arith, is, e), omega (arith, is, e, within))
 
-in_range : (a n k : ℕ) → a ≤ k → k < a + n → Contains (range_with_len a n) k
+pub in_range : (a n k : ℕ) → a ≤ k → k < a + n → Contains (range_with_len a n) k
 in_range a zero k le lt = absurd (omega (arith, le, lt))
 in_range a (suc n) k le lt = elim (cases_eq a k) [
   | inl e ↦ Contains-first a (range_with_len (a + 1) n) k e
@@ -88,7 +88,7 @@ new_later a low false true us vs e p = absurd (true≢false e)
 new_later a low false false us vs e p = p
 
 -- one more passes the test
-one_more : (p q : ℕ → Bool) (low a n : ℕ) → a ≤ low → low < a + n → p low ≡ false → q low ≡ true → ((k : ℕ) → k ≢ low → q k ≡ p k)
+pub one_more : (p q : ℕ → Bool) (low a n : ℕ) → a ≤ low → low < a + n → p low ≡ false → q low ≡ true → ((k : ℕ) → k ≢ low → q k ≡ p k)
     → IsPermutation (low ∷ filter p (range_with_len a n)) (filter q (range_with_len a n))
 one_more p q low a zero le lt is_out is_in same = absurd (omega (arith, le, lt))
 one_more p q low a (suc n) le lt is_out is_in same = elim (cases_eq a low) [
@@ -130,7 +130,7 @@ in_row high row low le is_in =
     in_map (with_first high) (filter (has row) (range_with_len 0 (high + 1))) low
     (in_filter (has row) (range_with_len 0 (high + 1)) low is_in (in_range 0 (high + 1) low (omega arith) (omega (arith, le))))
 
-row_apart : (high : ℕ) (p : ℕ → Bool) (a n : ℕ) → Apart (map (with_first high) (filter p (range_with_len a n)))
+pub row_apart : (high : ℕ) (p : ℕ → Bool) (a n : ℕ) → Apart (map (with_first high) (filter p (range_with_len a n)))
 row_apart high p a zero = tt
 row_apart high p a (suc n) = by (p a) (row_apart high p (a + 1) n)
   where
@@ -210,6 +210,11 @@ kept_once p = from_apart (pairs_kept p) (rows_apart 0 p.rows.items)
 rows_ordered : (rows : List Bits) (q : ℕ × ℕ) → Contains (pairs_from 0 rows) q → q.1 ≤ q.0
 rows_ordered [] q c = not_in_nil q c
 rows_ordered (r ∷ rows) q c = let k = of_rows 0 (r ∷ rows) r q c in k.1.1.1.0
+
+-- both of a pair are below the number of rows
+pub rows_below : (rows : List Bits) (n : ℕ) → n ≡ length rows → (q : ℕ × ℕ) → Contains (pairs_from 0 rows) q → (q.0 < n) × (q.1 < n)
+rows_below [] n e q c = not_in_nil q c
+rows_below (r ∷ rows) n e q c = let k = of_rows 0 (r ∷ rows) r q c in (omega (arith, e, k.1.0, k.1.1.0), omega (arith, e, k.1.0, k.1.1.0, k.1.1.1.0))
 
 pub kept_ordered : (p : NumberPairs) (q : ℕ × ℕ) → Contains (pairs_kept p) q → q.1 ≤ q.0
 kept_ordered p = rows_ordered p.rows.items

@@ -1,5 +1,5 @@
 -- Words of bits: where words without bits come to them, and where a bit of one is set.
-use Rattle.std.proofs.Common.{◌≡◌, ◌≢◌, ◌∙◌, ℕ, ◌-◌, ◌*◌, ◌/◌, ◌%◌, ◌^◌, ◌<◌, ◌≤◌, true, false, not, ◌==◌, List, [], ◌++◌, length, get_or, set, replicate, refl, sym, ap, subst, append_assoc, append-nil, arith, w64, bit_and, bit_or, inl, inr, get_or-set_same, get_or-set_other, mod-lt, zero-lt-suc, pow_pos, shl_exact, one-mul, zero-mul, eq-eqb, ne_eqb}
+use Rattle.std.proofs.Common.{◌≡◌, ◌≢◌, ◌∙◌, ℕ, ◌-◌, ◌*◌, ◌/◌, ◌%◌, ◌^◌, ◌<◌, ◌≤◌, Bool, true, false, not, ◌==◌, List, [], ◌++◌, length, get_or, set, replicate, refl, sym, ap, subst, append_assoc, append-nil, arith, w64, bit_and, bit_or, inl, inr, get_or-set_same, get_or-set_other, mod-lt, zero-lt-suc, pow_pos, shl_exact, one-mul, zero-mul, eq-eqb, ne_eqb}
 use Rattle.std.specs.Int.{bit_at}
 use Rattle.std.proofs.lemmas.Bool.{cases_lt, cases_eq}
 use Rattle.std.proofs.lemmas.List.{length-replicate, get_or-replicate, replicate-append-replicate, get_or_append_left, get_or-append_right, get_or_past}
@@ -98,3 +98,14 @@ module _ (before : ℕ) (words : List ℕ) (number : ℕ) (above : before ≤ nu
             ∙ get_or-set_other words place (k - before) (bit_or (get_or words place 0) (one_bit (number % 64))) 0 (λ e. apart (omega (arith, e, high, above)))
             ∙ sym (at_kept before words k high)
       ]
+
+twice : (b : Bool) → not (not b) ≡ b
+twice true = refl
+twice false = refl
+
+-- a bit that is read
+pub bit_is : (before : ℕ) (words : List ℕ) (number word : ℕ) → before ≤ number / 64 → word ≡ get_or words (number / 64 - before) 0
+    → not (bit_and word (one_bit (number % 64)) == 0) ≡ (bit_at (get_or (replicate before 0 ++ words) (number / 64) 0) (number % 64) == 1)
+bit_is before words number word above is =
+    let same : get_or (replicate before 0 ++ words) (number / 64) 0 ≡ word = at_kept before words (number / 64) above ∙ sym is in
+    ap not (tested word (number % 64) (mod-lt number (zero-lt-suc 63))) ∙ twice (bit_at word (number % 64) == 1) ∙ ap (λ w. bit_at w (number % 64) == 1) (sym same)

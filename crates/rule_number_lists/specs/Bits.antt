@@ -1,5 +1,6 @@
--- Private: leads to `pairs_kept` of `specs/NumberPairs.antt`. A set of numbers that is kept as bits.
-use Rattle.std.specs.Prelude.{◌≡◌, ◌≢◌, ◌++◌, ℕ, ◌/◌, ◌%◌, ◌==◌, Bool, true, not, get_or, replicate}
+-- Private: leads to `pairs_kept` of `specs/NumberPairs.antt` and `numbers_in` of `specs/NumberSet.antt`. A set of numbers that is kept as bits.
+use Rattle.std.specs.Prelude.{◌≡◌, ◌≢◌, ◌++◌, ℕ, ◌/◌, ◌%◌, ◌==◌, Bool, true, not, List, get_or, replicate}
+use Rattle.std.specs.List.{filter, range_with_len}
 use Rattle.std.specs.Int.{bit_at}
 use Rattle.rule_number_lists.specs.declared.bits.Bits.{Bits}
 
@@ -10,6 +11,10 @@ word_at b k = get_or (replicate b.before 0 ++ b.words.items) k 0
 -- whether the number is in the set
 abbrev pub has : Bits → ℕ → Bool
 has b n = bit_at (word_at b (n / 64)) (n % 64) == 1
+
+-- those of the set below a number, in ascending order
+abbrev pub bits_below : Bits → ℕ → List ℕ
+bits_below b bound = filter (has b) (range_with_len 0 bound)
 
 -- the same words, and so the same numbers
 abbrev pub HaveSameBits : Bits → Bits → Type 0

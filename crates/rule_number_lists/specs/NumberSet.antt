@@ -1,14 +1,8 @@
 -- Sets of numbers.
 use Rattle.std.specs.Prelude.{◌≡◌, ◌∷◌, ℕ, Bool, true, false, List, Contains}
-use Rattle.std.specs.List.{filter, range_with_len}
 use Rattle.std.specs.List.Sorted.{IsPermutation}
-use Rattle.rule_number_lists.specs.Bits.{has}
-use Rattle.rule_number_lists.specs.declared.bits.Bits.{Bits}
+use Rattle.rule_number_lists.specs.Bits.{bits_below}
 use Rattle.rule_number_lists.specs.declared.set.NumberSet.{NumberSet}
-
--- those below a number, in ascending order
-abbrev pub bits_below : Bits → ℕ → List ℕ
-bits_below bits bound = filter (has bits) (range_with_len 0 bound)
 
 -- the numbers that are in it, each once, in ascending order
 abbrev pub numbers_in : NumberSet → List ℕ

@@ -90,11 +90,9 @@ impl NumberLists {
 fn above(numbers: &[usize]) -> Result<usize, AllocError>
     ensures { IfOk result (λ bound. (n : ℕ) → Contains numbers.now n → n < bound) }
 {
-    let mut bound = 0;
+    let mut bound: usize = 0;
     for number in numbers {
-        if *number >= bound {
-            bound = one_above(*number)?;
-        }
+        bound = bound.max(one_above(*number)?);
     }
     Ok(bound)
 }

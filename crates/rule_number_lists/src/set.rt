@@ -1,6 +1,7 @@
 //! Sets of numbers.
-ghost use Rattle.std.specs.Prelude.{◌≡◌, ℕ, [], ◌<◌, ◌↔◌, length, Contains, IsTrue, IfOk, OnErr};
+ghost use Rattle.std.specs.Prelude.{◌≡◌, ℕ, true, [], ◌<◌, ◌↔◌, length, Contains, IsTrue, IfOk, OnErr};
 ghost use Rattle.std.proofs.Props.{props};
+ghost use Rattle.rule_number_lists.specs.Bits.{has, bits_below};
 
 use crate::bits::Bits;
 use std::alloc::{AllocError, Global};
