@@ -10,7 +10,6 @@ pub mod Sets
 pub mod Under
 pub mod NodeFacts
 pub mod Walking
-pub mod Selected
 pub mod PairedFacts
 pub mod Bare
 pub mod Passing

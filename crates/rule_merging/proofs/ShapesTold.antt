@@ -13,11 +13,11 @@ use Rattle.rule_merging.specs.Shapes.{same_type}
 use Rattle.rule_merging.proofs.Shaped.{same_type-Decides}
 
 -- the type of a field is that of its definition
-type_of : (x : Member) (f : Field) (t : «Type») → f ≡ content x.field.now → type_tree t ≡ type_tree (content f.definition).ty → unplaced_type (type_tree t) ≡ (field_of x).definition.ty
+type_of : (x : Member) (f : Field) (t : «Type») → f ≡ content x.selection.field.now → type_tree t ≡ type_tree (content f.definition).ty → unplaced_type (type_tree t) ≡ (field_of x).definition.ty
 type_of x f t is e = ap unplaced_type (e ∙ ap (λ (y : Field). type_tree (content y.definition).ty) is)
 
-pub shapes_told : (s : Judged) (first other : Member) (f g : Field) (t u : «Type») → f ≡ content first.field.now → type_tree t ≡ type_tree (content f.definition).ty
-    → g ≡ content other.field.now → type_tree u ≡ type_tree (content g.definition).ty
+pub shapes_told : (s : Judged) (first other : Member) (f g : Field) (t u : «Type») → f ≡ content first.selection.field.now → type_tree t ≡ type_tree (content f.definition).ty
+    → g ≡ content other.selection.field.now → type_tree u ≡ type_tree (content g.definition).ty
     → (r : Bool) → r ≡ same_type s (unplaced_type (type_tree t)) (unplaced_type (type_tree u)) → Decides r (SameShape s (field_of first) (field_of other))
 shapes_told s first other f g t u f_is t_is g_is u_is r e =
     subst (λ b. Decides b (SameShape s (field_of first) (field_of other)))
