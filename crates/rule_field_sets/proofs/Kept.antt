@@ -173,7 +173,7 @@ next_on a b s grow (f, (next, is)) = (
   f,
   (
     subst (λ (fs : Fragments Place). slice_get fs (length (fragment_nodes b)) ≡ Some f) (ap_fragments b a grow.fragments)
-    (subst (λ l. slice_get (fragments_in a) (length l) ≡ Some f) (sym grow.starts) next),
+        (subst (λ l. slice_get (fragments_in a) (length l) ≡ Some f) (sym grow.starts) next),
     is,
   ),
 )

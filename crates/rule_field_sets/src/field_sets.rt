@@ -102,14 +102,10 @@ impl<'doc> NodeFields<'doc> {
 
 impl<'doc> FieldSets<'doc> {
     /// No nodes, of a document with these fragments.
-    pub fn new(
-        alloc: Global,
-        schema: &'doc Schema,
-        fragments: &'doc FragmentMap,
-    ) -> FieldSets<'doc>
+    pub fn new(alloc: Global, schema: &'doc Schema, fragments: &'doc FragmentMap) -> FieldSets<'doc>
         ensures sets { AreSets result }
-        ensures schema { result.schema ≡ schema }
-        ensures fragments { result.fragments ≡ fragments }
+        ensures schema { result.schema ≡ schema.entry }
+        ensures fragments { result.fragments ≡ fragments.entry }
         ensures nodes { set_nodes result ≡ [] }
         ensures starts { fragment_nodes result ≡ [] }
     {

@@ -1,5 +1,6 @@
 -- The steps of an examination, from one group to all levels.
 use Rattle.std.proofs.Common.{◌≡◌, ◌⊎◌, ◌∙◌, ℕ, ◌+◌, ◌<◌, ◌≤◌, ◌==◌, Bool, true, false, List, [], ◌∷◌, ◌++◌, map, take, length, get_or, Vec, Contains, true≢false, refl, sym, ap, subst, append_assoc, append-nil, arith, inl, inr}
+use Rattle.std.specs.List.{flat_map}
 use Rattle.std.specs.List.Sorted.{IsPermutation}
 use Rattle.std.specs.declared.alloc.Global.{Global}
 use Rattle.std.proofs.lemmas.Bool.Decides.{Decides-eqb}
@@ -9,7 +10,7 @@ use Rattle.graphql_names.specs.Placed.{Place}
 use Rattle.schema_components.proofs.Places.{Contains-rest}
 use Rattle.document_meaning.specs.MeantTree.{MeantSet, MeantOperation, MeantDocument}
 use Rattle.rule_definitions.specs.Judged.{Judged}
-use Rattle.rule_definitions.proofs.Lists.{not_in_nil, only, Contains-cons, Contains-first}
+use Rattle.rule_definitions.proofs.Lists.{not_in_nil, only, Contains-cons, Contains-first, given_in}
 use Rattle.rule_document_definitions.specs.DocumentFaults.{Broken}
 use Rattle.rule_document_definitions.specs.Selected.{StandingField}
 use Rattle.rule_document_definitions.specs.Contents.{ContentBelow, ContentStarts}
@@ -30,17 +31,19 @@ use Rattle.rule_field_sets.specs.declared.member.Member.{Member}
 use Rattle.rule_field_sets.specs.declared.field_sets.FieldSets.{FieldSets}
 use Rattle.rule_merging.specs.declared.pass.Pass.{Pass}
 use Rattle.rule_merging.specs.declared.pass.Pass.TheVariants.{Shapes, Selections}
-use Rattle.rule_merging.specs.Members.{field_of, fields_of, contents_of, meant_sets, read_sets}
+use Rattle.rule_merging.specs.Members.{field_of, fields_of, contents_of, meant_sets, read_sets, AreMembersOf}
 use Rattle.rule_merging.specs.Passes.{Together, Agree, Conflict, ReadTogether, ReadAgree, TellsEach}
 use Rattle.rule_merging.specs.Paired.{IsPairDone}
-use Rattle.rule_merging.specs.Under.{Sets, all_sets, AreOf, HaveBoth, AreListsBelow}
+use Rattle.rule_merging.specs.Under.{Sets, all_sets, AreOf, HaveBoth, AreListsBelow, IsGroupOf}
 use Rattle.rule_merging.specs.Below.{IsMergedIn, IsPartOfMergedIn}
 use Rattle.rule_merging.specs.declared.groups.KeyGroup.{KeyGroup}
-use Rattle.rule_merging.specs.KeyGroups.{parts_of, parts_in}
+use Rattle.rule_merging.specs.Grouped.{ArePartsOf}
+use Rattle.rule_merging.specs.KeyGroups.{parts_of, parts_in, lists_in_group}
 use Rattle.rule_merging.specs.Remembered.{Kept, nothing_kept, HasLooked, Remembers, Expands}
 use Rattle.rule_merging.specs.Pairs.{each_with}
 use Rattle.rule_merging.specs.Examined.{all_read, StandTogether, ReadOwn, ReadSelected, ReadSpreads, AreLookedAt, IsLeft, AllStand, PairsAreDone, AreSettled, AreUnderWay, HaveFields, IsFresh, GroupsExamined, ListExamined, SetsExamined, AreTwosOf, AllExamined}
 use Rattle.rule_merging.proofs.Counts.{flat_push}
+use Rattle.rule_merging.proofs.Filing.{of_filter}
 use Rattle.rule_merging.proofs.Lists.{taken_more}
 use Rattle.rule_merging.proofs.Bare.{IsIn, bare_reads}
 use Rattle.rule_merging.proofs.Passing.{together_read, agree_read, selects_listed, reads_selected}
@@ -84,6 +87,12 @@ front_more f xs i x h e = ap (map f) (taken_more xs i x h e) ∙ map-append f (t
 pub parts_more : (xs : List KeyGroup) (i : ℕ) (x : KeyGroup) → i < length xs → x ≡ get_or xs i x → map fields_of (parts_in (take (i + 1) xs)) ≡ map fields_of (parts_in (take i xs)) ++ map fields_of (parts_of x)
 parts_more xs i x h e =
     ap (λ l. map fields_of (parts_in l)) (taken_more xs i x h e) ∙ ap (map fields_of) (flat_push parts_of (take i xs) x) ∙ map-append fields_of (parts_in (take i xs)) (parts_of x)
+
+-- what stands in a group stands in the list
+pub group_members : (w : FieldSets) (list : List Member) (groups : List KeyGroup) (group : KeyGroup) → AreMembersOf w list → ArePartsOf list (flat_map lists_in_group groups) → Contains groups group → IsGroupOf w group
+group_members w list groups group are parts there part c m k =
+    let p = parts part (given_in lists_in_group part groups group there c) in
+    are m (of_filter p.0 list m (subst (λ l. Contains l m) p.1 k)).0
 
 no_items : {X : Type 0} (xs : List X) → length xs ≡ 0 → xs ≡ []
 no_items [] e = refl

@@ -1,5 +1,5 @@
 -- Fields and what is read of them: both go together and agree alike in each pass, and sets select alike.
-use Rattle.std.proofs.Common.{◌≡◌, ◌↔◌, None, List, [], Contains, refl, sym, subst}
+use Rattle.std.proofs.Common.{◌≡◌, ◌↔◌, None, List, [], refl, sym, subst}
 use Rattle.graphql_names.specs.Placed.{Place}
 use Rattle.document_meaning.specs.MeantTree.{MeantSet, meant_set, no_meant, meant_then, MeantDocument}
 use Rattle.document_meaning.specs.in_components.Names.{Entries}

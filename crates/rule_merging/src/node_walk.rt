@@ -48,17 +48,16 @@ struct NodeWalk<'doc> {
 }
 
 impl<'doc> NodeWalk<'doc> {
-    /// Whether so many steps more are paid. They are taken, or the walk is not whole.
+    /// Whether the steps so far are paid. Then so many more are taken; else the walk is not whole.
     fn steps_on(&mut self, toll: Toll<'_>, more: usize) -> bool
         ensures { state_of self.new ≡ with_paid result (state_of self.old) }
     {
         let paid = toll.paid.saturating_add(self.fresh.saturating_mul(toll.each));
-        let steps = self.steps.saturating_add(more);
-        if steps > paid {
+        if self.steps > paid {
             self.is_whole = false;
             return false;
         }
-        self.steps = steps;
+        self.steps = self.steps.saturating_add(more);
         true
     }
 
@@ -104,7 +103,7 @@ impl<'doc> NodeWalk<'doc> {
         Ok(())
     }
 
-    /// Passes the fields and the spreads of a node, if that is paid.
+    /// Passes the fields and the spreads of a node, if what came before is paid: fields that are new pay for themselves.
     fn pass_node(&mut self, toll: Toll<'_>, node: &SetNode<'doc>) -> Result<(), AllocError>
         ensures { OnOk result (PassesNode node.now (state_of self.old) (state_of self.new)) }
     {

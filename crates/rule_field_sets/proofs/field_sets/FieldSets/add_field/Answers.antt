@@ -42,12 +42,12 @@ returns c =
     subst (IsNodeBelow (set_nodes w) (length (set_nodes w)) (set_of c.args.field)) (sym c.node_below-below.ensures) (node_is_below (set_nodes w) c.args.last (set_of c.args.field) c.args.field.below c.requires.below) in
     record {
       sets = with_tables (schema_in w) (fragments_in w) t u (nodes_of w.numbers) (nodes_of numbers) w.begun (set_nodes w) (fragment_nodes w) c.add_field.ensures.grown c.add_field.ensures.right c.add_field.ensures.judged
-      (noted_within (nodes_of w.numbers) (nodes_of numbers) m.number w.begun b e.noted c.requires.sets.met) c.requires.sets;
+          (noted_within (nodes_of w.numbers) (nodes_of numbers) m.number w.begun b e.noted c.requires.sets.met) c.requires.sets;
       same = record { schema = refl; fragments = refl; tables = c.add_field.ensures.grown; nodes = refl; starts = refl; begun = refl };
       added = both_ok c.add.result c.add.ensures.numbers c.add.ensures.members
-      (λ more_numbers more_members xs so_far.
-      field_passed t u (nodes_of w.numbers) (nodes_of numbers) w.begun (set_nodes w) x below m c.add_field.ensures.grown e.member there
-      xs c.args.fields.now.numbers.items c.args.fields.now.members.items so_far b c.add.new.self.numbers.items c.add.new.self.members.items e.noted more_numbers more_members);
+          (λ more_numbers more_members xs so_far.
+          field_passed t u (nodes_of w.numbers) (nodes_of numbers) w.begun (set_nodes w) x below m c.add_field.ensures.grown e.member there
+          xs c.args.fields.now.numbers.items c.args.fields.now.members.items so_far b c.add.new.self.numbers.items c.add.new.self.members.items e.noted more_numbers more_members);
     }
 
 pub returns-in_err-member-clause-sets : goal.returns-in_err-member-clause-sets

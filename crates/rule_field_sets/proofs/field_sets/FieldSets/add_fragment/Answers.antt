@@ -18,7 +18,7 @@ returns c =
     let next : IsNextFragment w (typed_set_tree c.args.set.now) = next_on a w (typed_set_tree c.args.set.now) grown c.requires.fragment in
     record {
       sets = with_start (schema_in w) (fragments_in w) (tables_of w.numbers) (nodes_of w.numbers) w.begun (set_nodes w) (fragment_nodes w) c.push.new.self.items n pushed
-      next.0 next.1.0 (subst (IsNodeOf (set_nodes w) n) (sym next.1.1) c.in_ok-start.ensures.node) c.add_nodes.ensures.sets;
+          next.0 next.1.0 (subst (IsNodeOf (set_nodes w) n) (sym next.1.1) c.in_ok-start.ensures.node) c.add_nodes.ensures.sets;
       grown = record {
         schema = grown.schema;
         fragments = grown.fragments;

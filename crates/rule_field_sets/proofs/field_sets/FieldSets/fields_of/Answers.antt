@@ -11,5 +11,5 @@ returns c =
       sets = c.add_each.ensures.sets;
       same = c.add_each.ensures.same;
       added = c.in_ok-add_each.ensures.added []
-      (none_passed (tables_of w.numbers) (nodes_of w.numbers) w.begun (set_nodes w) c.new-2.result.items c.new.result.items c.requires.fresh c.new-2.ensures.items c.new.ensures.items);
+          (none_passed (tables_of w.numbers) (nodes_of w.numbers) w.begun (set_nodes w) c.new-2.result.items c.new.result.items c.requires.fresh c.new-2.ensures.items c.new.ensures.items);
     }
