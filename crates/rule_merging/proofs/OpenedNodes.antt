@@ -42,7 +42,7 @@ module _ (w : FieldSets) (are : AreSets w) (starts : HasAllStarts w) (d : MeantD
   pub opened_node : (n : ℕ) (v : SetNode) → slice_get (set_nodes w) n ≡ Some v → (nodes : List ℕ) → AllZip HasStart v.spreads.items nodes → IsOpened d (set_at w n) v.members.items (meant_sets w nodes)
   opened_node n v at nodes led = record {
     within = member_selected w are starts d same n v at;
-    covers = λ x c. (read_own w are starts n v at d x).0 c;
+    covers = λ x c. (read_own w are starts d same n v at x).0 c;
     leads = λ u c.
         let k = contains_unmap (set_at w) nodes u c in
         subst (λ t. SelectsAsMuch d (set_at w n ∷ []) (t ∷ [])) k.1.1 (spread_selects w are starts d same n k.0 (v, (at, zip_right HasStart v.spreads.items nodes led k.0 k.1.0)));

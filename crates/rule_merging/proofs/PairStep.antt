@@ -100,16 +100,24 @@ module _ (d : MeantDocument Place) where
 module _ (pass : Pass) (s : Judged) (d : MeantDocument Place) where
   -- ---- fields of the two
 
+  -- what the one selects, and the other
+  first_selects : (p q : MeantSet Place) (x : StandingField Place) → IsSelected d (p ∷ []) x → IsSelected d (p ∷ q ∷ []) x
+  first_selects p q x (w, (k, sel)) = (w, (Contains-first p (q ∷ []) w (sym (only p w k)), sel))
+
+  last_selects : (p q : MeantSet Place) (x : StandingField Place) → IsSelected d (q ∷ []) x → IsSelected d (p ∷ q ∷ []) x
+  last_selects p q x (w, (k, sel)) = (w, (Contains-rest p (q ∷ []) w k, sel))
+
+  -- own fields of the two are last fields of chains, if what the two select is
+  pub pair_listed : (a b : MeantSet Place) (ones others : List Member) → ((p : Member) → Contains ones p → IsSelected d (a ∷ []) (field_of p)) → ((q : Member) → Contains others q → IsSelected d (b ∷ []) (field_of q))
+      → (os : List (MeantOperation Place)) → AreListed d os ((a ∷ b ∷ []) ∷ []) → (p q : Member) → are_of ones others p q → IsLast d os (content_of p) × IsLast d os (content_of q)
+  pair_listed a b ones others in_one in_other os listed p q (c, e) = (
+    listed (a ∷ b ∷ []) (Contains-first (a ∷ b ∷ []) [] (a ∷ b ∷ []) refl) (field_of p) (first_selects a b (field_of p) (in_one p c)),
+    listed (a ∷ b ∷ []) (Contains-first (a ∷ b ∷ []) [] (a ∷ b ∷ []) refl) (field_of q) (last_selects a b (field_of q) (in_other q e)),
+  )
+
   module _ (a b : MeantSet Place) (ones others : List Member) (vs ws : Sets) (open_one : IsOpened d a ones vs) (open_other : IsOpened d b others ws) where
     abbrev two : Sets
     two = a ∷ b ∷ []
-
-    -- what the one selects, and the other
-    first_selects : (p q : MeantSet Place) (x : StandingField Place) → IsSelected d (p ∷ []) x → IsSelected d (p ∷ q ∷ []) x
-    first_selects p q x (w, (k, sel)) = (w, (Contains-first p (q ∷ []) w (sym (only p w k)), sel))
-
-    last_selects : (p q : MeantSet Place) (x : StandingField Place) → IsSelected d (q ∷ []) x → IsSelected d (p ∷ q ∷ []) x
-    last_selects p q x (w, (k, sel)) = (w, (Contains-rest p (q ∷ []) w k, sel))
 
     from_one : (p : Member) → Contains ones p → IsSelected d two (field_of p)
     from_one p c = first_selects a b (field_of p) (open_one.within p c)
@@ -123,10 +131,6 @@ module _ (pass : Pass) (s : Judged) (d : MeantDocument Place) where
       | inl i ↦ subst (IsSelected d two) i (from_one p c)
       | inr r ↦ subst (IsSelected d two) (sym (only (field_of q) f r)) (from_other q e)
     ]
-
-    -- own fields of the two are last fields of chains, if what the two select is
-    pub pair_listed : (os : List (MeantOperation Place)) → AreListed d os (two ∷ []) → (p q : Member) → are_of ones others p q → IsLast d os (content_of p) × IsLast d os (content_of q)
-    pair_listed os listed p q (c, e) = (listed two (Contains-first two [] two refl) (field_of p) (from_one p c), listed two (Contains-first two [] two refl) (field_of q) (from_other q e))
 
     of_two : (p q v : MeantSet Place) → SelectsAsMuch d (p ∷ []) (v ∷ []) → (x : StandingField Place) → IsSelected d (v ∷ q ∷ []) x → IsSelected d (p ∷ q ∷ []) x
     of_two p q v spread x (w, (k, sel)) = elim (Contains-cons v (q ∷ []) w k) [
