@@ -26,6 +26,11 @@ loop-one-init c =
       counted = grows_not (document_of e) _ e.pass (account_of w c.args.examined.now);
     }
 
+pub examine_with_each-requires-clause-one : goal.examine_with_each-requires-clause-one
+examine_with_each-requires-clause-one c =
+    let h : c.loop-one.one-index < length c.args.ones.now = omega arith in
+    c.requires.ones c.one-item.result (c.loop-one.one-index, h, sym c.one-item.is)
+
 pub returns-in_err-examine_with_each-clause-counted : goal.returns-in_err-examine_with_each-clause-counted
 returns-in_err-examine_with_each-clause-counted c =
     let e = c.args.self.now in

@@ -88,7 +88,7 @@ returns-in_err-list-clause-counted c =
 
 pub examine_list-requires-clause-members : goal.examine_list-requires-clause-members
 examine_list-requires-clause-members c =
-    subst (AreMembersOf (sets_of c.args.self.now)) (sym c.deref.ensures.value) (members_of_two (sets_of c.args.self.now) c.args.one c.args.other c.list.result c.requires.one c.requires.other c.in_ok-list.ensures)
+    subst (AreMembersOf (sets_of c.args.self.now)) (sym c.deref.ensures.value) (members_of_two (sets_of c.args.self.now) c.args.one c.args.other c.in_ok-list.list.items c.requires.one c.requires.other c.in_ok-list.ensures)
 
 pub returns-clause-examined : goal.returns-clause-examined
 returns-clause-examined c =

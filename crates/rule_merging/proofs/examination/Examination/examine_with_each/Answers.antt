@@ -19,6 +19,11 @@ loop-other-init c =
       counted = grows_not (document_of e) _ e.pass (account_of w c.args.examined.now);
     }
 
+pub examine_two_fields-requires-clause-other : goal.examine_two_fields-requires-clause-other
+examine_two_fields-requires-clause-other c =
+    let h : c.loop-other.other-index < length c.args.others.now = omega arith in
+    c.requires.others c.other-item.result (c.loop-other.other-index, h, sym c.other-item.is)
+
 pub returns-in_err-examine_two_fields-clause-counted : goal.returns-in_err-examine_two_fields-clause-counted
 returns-in_err-examine_two_fields-clause-counted c =
     let e = c.args.self.now in
