@@ -31,8 +31,8 @@ opened_at : (e : Examination) → HasSets e → (n : ℕ) (v : SetNode) → slic
     → AllZip (λ p k. slice_get (fragment_nodes (sets_of e)) p ≡ Some k) places nodes → others ≡ nodes → IsOpened (document_of e) (set_at (sets_of e) n) list (meant_sets (sets_of e) others)
 opened_at e has n v at list is places nodes others is_too led same =
     let w = sets_of e in
-    let open = opened_node w has.are has.starts (document_of e) has.fragments n v at nodes (subst (λ (l : List ℕ). AllZip (λ p k. slice_get (fragment_nodes w) p ≡ Some k) l nodes) is_too led) in
-    subst (λ (l : List Member). IsOpened (document_of e) (set_at w n) l (meant_sets w others)) (sym is) (subst (λ (l : List ℕ). IsOpened (document_of e) (set_at w n) v.members.items (meant_sets w l)) (sym same) open)
+    let whole = opened_node w has.are has.starts (document_of e) has.fragments n v at nodes (subst (λ (l : List ℕ). AllZip (λ p k. slice_get (fragment_nodes w) p ≡ Some k) l nodes) is_too led) in
+    subst (λ (l : List Member). IsOpened (document_of e) (set_at w n) l (meant_sets w others)) (sym is) (subst (λ (l : List ℕ). IsOpened (document_of e) (set_at w n) v.members.items (meant_sets w l)) (sym same) whole)
 
 -- two nodes, with their members
 module _ (e : Examination) (has : HasSets e) (n m : ℕ) (v u : SetNode) (at : slice_get (set_nodes (sets_of e)) n ≡ Some v) (there : slice_get (set_nodes (sets_of e)) m ≡ Some u) (ones others : List Member)
