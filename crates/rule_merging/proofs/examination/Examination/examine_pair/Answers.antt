@@ -70,22 +70,22 @@ examine_each-requires-clause-others c = members_at (sets_of c.args.self.now) c.a
 
 pub returns-in_err-examine_each-clause-counted : goal.returns-in_err-examine_each-clause-counted
 returns-in_err-examine_each-clause-counted c =
-    by_members c.args.self.now c.requires c.args.pair.one c.args.pair.other c.in_ok-first.first.now c.in_ok-second.second.now c.in_ok-first.ensures c.in_ok-second.ensures c.deref.result.now c.deref-2.result.now c.deref.ensures.value c.deref-2.ensures.value
+    by_members c.args.self.now c.requires.sets c.args.pair.one c.args.pair.other c.in_ok-first.first.now c.in_ok-second.second.now c.in_ok-first.ensures c.in_ok-second.ensures c.deref.result.now c.deref-2.result.now c.deref.ensures.value c.deref-2.ensures.value
     c.args.examined.now c.examine_each.new.examined c.in_err-examine_each.ensures.counted
 
 pub returns-in_err-starts-clause-counted : goal.returns-in_err-starts-clause-counted
 returns-in_err-starts-clause-counted c =
-    by_members c.args.self.now c.requires c.args.pair.one c.args.pair.other c.in_ok-first.first.now c.in_ok-second.second.now c.in_ok-first.ensures c.in_ok-second.ensures c.deref.result.now c.deref-2.result.now c.deref.ensures.value c.deref-2.ensures.value
+    by_members c.args.self.now c.requires.sets c.args.pair.one c.args.pair.other c.in_ok-first.first.now c.in_ok-second.second.now c.in_ok-first.ensures c.in_ok-second.ensures c.deref.result.now c.deref-2.result.now c.deref.ensures.value c.deref-2.ensures.value
     c.args.examined.now c.examine_each.new.examined c.in_ok-examine_each.ensures.counted
 
 pub returns-in_err-look_at_each-clause-counted : goal.returns-in_err-look_at_each-clause-counted
 returns-in_err-look_at_each-clause-counted c =
-    and_no_more c.args.self.now c.requires c.args.pair.one c.args.pair.other c.in_ok-first.first.now c.in_ok-second.second.now c.in_ok-first.ensures c.in_ok-second.ensures c.deref.result.now c.deref-2.result.now c.deref.ensures.value c.deref-2.ensures.value
+    and_no_more c.args.self.now c.requires.sets c.args.pair.one c.args.pair.other c.in_ok-first.first.now c.in_ok-second.second.now c.in_ok-first.ensures c.in_ok-second.ensures c.deref.result.now c.deref-2.result.now c.deref.ensures.value c.deref-2.ensures.value
     c.args.examined.now c.examine_each.new.examined c.look_at_each.new.self c.in_ok-examine_each.ensures.counted (ap (λ b. b.0) c.in_err-look_at_each.ensures.beside)
 
 pub returns-in_err-starts-2-clause-counted : goal.returns-in_err-starts-2-clause-counted
 returns-in_err-starts-2-clause-counted c =
-    and_no_more c.args.self.now c.requires c.args.pair.one c.args.pair.other c.in_ok-first.first.now c.in_ok-second.second.now c.in_ok-first.ensures c.in_ok-second.ensures c.deref.result.now c.deref-2.result.now c.deref.ensures.value c.deref-2.ensures.value
+    and_no_more c.args.self.now c.requires.sets c.args.pair.one c.args.pair.other c.in_ok-first.first.now c.in_ok-second.second.now c.in_ok-first.ensures c.in_ok-second.ensures c.deref.result.now c.deref-2.result.now c.deref.ensures.value c.deref-2.ensures.value
     c.args.examined.now c.examine_each.new.examined c.look_at_each.new.self c.in_ok-examine_each.ensures.counted (ap (λ b. b.0) c.in_ok-look_at_each.ensures.beside)
 
 pub returns-clause-examined : goal.returns-clause-examined
@@ -100,9 +100,9 @@ returns-clause-examined c =
     let others = c.deref-2.result.now in
     let vs = meant_sets w c.deref-4.result.now in
     let ws = meant_sets w c.deref-6.result.now in
-    let open_one : IsOpened d a ones vs = opened_at e c.requires c.args.pair.one c.in_ok-first.first.now c.in_ok-first.ensures ones c.deref.ensures.value c.deref-3.result.now c.in_ok-starts.starts.items c.deref-4.result.now c.deref-3.ensures.value
+    let open_one : IsOpened d a ones vs = opened_at e c.requires.sets c.args.pair.one c.in_ok-first.first.now c.in_ok-first.ensures ones c.deref.ensures.value c.deref-3.result.now c.in_ok-starts.starts.items c.deref-4.result.now c.deref-3.ensures.value
     c.in_ok-starts.ensures c.deref-4.ensures.value in
-    let open_other : IsOpened d b others ws = opened_at e c.requires c.args.pair.other c.in_ok-second.second.now c.in_ok-second.ensures others c.deref-2.ensures.value c.deref-5.result.now c.in_ok-starts-2.starts.items c.deref-6.result.now
+    let open_other : IsOpened d b others ws = opened_at e c.requires.sets c.args.pair.other c.in_ok-second.second.now c.in_ok-second.ensures others c.deref-2.ensures.value c.deref-5.result.now c.in_ok-starts-2.starts.items c.deref-6.result.now
     c.deref-5.ensures.value c.in_ok-starts-2.ensures c.deref-6.ensures.value in
     let old = kept_of w c.args.examined.now in
     let mid = kept_of w c.examine_each.new.examined in
@@ -128,5 +128,5 @@ returns-clause-examined c =
 
 pub returns-clause-counted : goal.returns-clause-counted
 returns-clause-counted c =
-    and_no_more c.args.self.now c.requires c.args.pair.one c.args.pair.other c.in_ok-first.first.now c.in_ok-second.second.now c.in_ok-first.ensures c.in_ok-second.ensures c.deref.result.now c.deref-2.result.now c.deref.ensures.value c.deref-2.ensures.value
+    and_no_more c.args.self.now c.requires.sets c.args.pair.one c.args.pair.other c.in_ok-first.first.now c.in_ok-second.second.now c.in_ok-first.ensures c.in_ok-second.ensures c.deref.result.now c.deref-2.result.now c.deref.ensures.value c.deref-2.ensures.value
     c.args.examined.now c.examine_each.new.examined c.look_before_each.new.self c.in_ok-examine_each.ensures.counted (ap (λ b. b.0) (c.look_before_each.ensures.beside ∙ c.in_ok-look_at_each.ensures.beside))
