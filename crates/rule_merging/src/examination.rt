@@ -9,13 +9,13 @@ ghost use Rattle.rule_merging.specs.Under.{sets_in, IsGroupOf};
 ghost use Rattle.rule_merging.specs.Examined.{HasSets, sets_of, document_of, HaveFields, ExaminesGroups, ExaminesList, GrowsOver};
 ghost use Rattle.rule_merging.specs.OfProgram.{Comes, ExaminesLevel, ExaminesFrom, ExaminesThese};
 
-use crate::remembered::Remembered;
-use document_typed_operations::ExecutableDocument;
 use crate::below::lists_below;
 use crate::conflicts::{Breach, check_key_group};
 use crate::groups::{KeyGroup, groups_of};
 use crate::node_walk::{Toll, merged_list};
 use crate::pass::Pass;
+use crate::remembered::Remembered;
+use document_typed_operations::ExecutableDocument;
 use rule_field_sets::{FieldSets, Member, Schema};
 use rule_number_lists::{NumberLists, NumberSet};
 use std::alloc::{AllocError, Global};
@@ -35,10 +35,7 @@ pub(crate) struct Examination<'a, 'doc> {
 }
 
 /// A level of one list, of this set alone.
-fn first_level(
-    alloc: Global,
-    start: usize,
-) -> Result<Vec<Vec<usize>>, AllocError>
+fn first_level(alloc: Global, start: usize) -> Result<Vec<Vec<usize>>, AllocError>
     ensures { IfOk result (λ level. lists_of level ≡ (start ∷ []) ∷ []) }
 {
     let mut nodes = Vec::new(alloc);
@@ -179,11 +176,7 @@ impl<'doc> Examination<'_, 'doc> {
     }
 
     /// Whether one of the lists of sets selects a field. What is too much to be counted is told as if memory did not suffice.
-    fn have_fields(
-        &self,
-        alloc: Global,
-        level: &[Vec<usize>],
-    ) -> Result<bool, AllocError>
+    fn have_fields(&self, alloc: Global, level: &[Vec<usize>]) -> Result<bool, AllocError>
         requires sets { HasSets self.now }
         ensures { IfOk result (λ some. HaveFields (document_of self.now) some (map (λ v. meant_sets (sets_of self.now) v.items) level.now)) }
     {

@@ -1,4 +1,4 @@
-use Rattle.std.proofs.Common.{◌≡◌, ◌≤◌, ◌∙◌, ℕ, List, Vec, Contains, [], ◌∷◌, map, sym, ap, subst, refl, append-nil, arith}
+use Rattle.std.proofs.Common.{◌≤◌, ◌∙◌, ℕ, List, Vec, Contains, [], ◌∷◌, map, sym, ap, subst, append-nil, arith}
 use Rattle.std.proofs.lemmas.Result.{IfOk-weaker}
 use Rattle.std.specs.declared.alloc.Global.{Global}
 use Rattle.rule_merging.specs.declared.examination.Examination.{Examination}

@@ -2,7 +2,7 @@ use Rattle.std.proofs.Common.{◌≡◌, ◌∙◌, ◌∷◌, ◌++◌, [], tru
 use Rattle.std.specs.Prelude.{Some, is_some}
 use Rattle.std.proofs.lemmas.Result.{on_ok_weaker}
 use Rattle.rule_document_ground.specs.Broken.{brokens_of}
-use Rattle.rule_merging.specs.Members.{contents_of, meant_sets}
+use Rattle.rule_merging.specs.Members.{contents_of, meant_sets, AreMembersOf}
 use Rattle.rule_merging.specs.Below.{IsMergedIn, IsPartOfMergedIn}
 use Rattle.rule_merging.specs.Counted.{Pays, IsPaidIf, AreLast, AreListed}
 use Rattle.rule_merging.specs.Remembered.{Kept, account_of, kept_of, Remembers, RemembersPaid}
@@ -26,8 +26,8 @@ returns-in_err-remember_paid-clause-counted c =
     grows_given d (λ os. AreLast d os (contents_of items)) (λ os. AreListed d os (sets ∷ [])) (λ os. part_listed_fields d os sets items part) e.pass old new
     (grows_paying d e.pass (contents_of items) old new (ap (λ (k : Kept). k.lists) (c.in_err-remember_paid.ensures.refused w)) (c.in_err-remember_paid.ensures.pays w has.are c.in_ok-list.ensures.members))
 
-pub returns-in_ok-remember_paid-None-clause-examined : goal.returns-in_ok-remember_paid-None-clause-examined
-returns-in_ok-remember_paid-None-clause-examined c =
+pub returns-in-None-clause-examined : goal.returns-in-None-clause-examined
+returns-in-None-clause-examined c =
     let e = c.args.self.now in
     let w = sets_of e in
     let has = c.requires.sets in
@@ -44,8 +44,8 @@ returns-in_ok-remember_paid-None-clause-examined c =
     (subst (λ n. SetsTold e.pass (schema_of e) (document_of e) told later mid new n last lists) (c.in_ok-remember_paid.ensures.next w) h))
     c.examine_twos.ensures.examined
 
-pub returns-in_ok-remember_paid-None-clause-counted : goal.returns-in_ok-remember_paid-None-clause-counted
-returns-in_ok-remember_paid-None-clause-counted c =
+pub returns-in-None-clause-counted : goal.returns-in-None-clause-counted
+returns-in-None-clause-counted c =
     let e = c.args.self.now in
     let d = document_of e in
     let w = sets_of e in
@@ -105,6 +105,9 @@ returns-in-Some-false-clause-counted c =
     subst (λ o. RemembersPaid (kept_of w c.args.examined.now) (contents_of items) o (kept_of w c.remember_paid.new.self)) is (c.in_ok-remember_paid.ensures.remembers w has.are c.in_ok-list.ensures.members) in
     grows_given d (λ os. AreLast d os (contents_of items)) (λ os. AreListed d os (sets ∷ [])) (λ os. part_listed_fields d os sets items part) e.pass old new
     (grows_paying d e.pass (contents_of items) old new (ap (λ (k : Kept). k.lists) known.1) (c.in_ok-remember_paid.ensures.pays w has.are c.in_ok-list.ensures.members))
+
+pub examine_list-requires-clause-members : goal.examine_list-requires-clause-members
+examine_list-requires-clause-members c = subst (AreMembersOf (sets_of c.args.self.now)) (sym c.deref.ensures.value) c.in_ok-list.ensures.members
 
 pub returns-clause-examined : goal.returns-clause-examined
 returns-clause-examined c =
