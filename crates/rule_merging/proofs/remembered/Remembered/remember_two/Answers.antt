@@ -2,7 +2,7 @@ use Rattle.std.proofs.lemmas.Result.{IfOk-weaker, on_err_weaker}
 use Rattle.rule_number_lists.specs.NumberLists.{list_of, lists_kept}
 use Rattle.rule_merging.specs.Twos.{contents_of_two}
 use Rattle.rule_merging.specs.Remembered.{kept_of}
-use Rattle.rule_merging.proofs.Remembering.{remembers, two_read, kept_with}
+use Rattle.rule_merging.proofs.Remembering.{remembers, two_read}
 use Rattle.rule_merging.proofs.remembered.Remembered.remember_two.Goals as goal
 
 pub returns-clause-remembers : goal.returns-clause-remembers
