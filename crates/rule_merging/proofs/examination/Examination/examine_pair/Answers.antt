@@ -9,7 +9,6 @@ use Rattle.rule_field_sets.specs.Nodes.{set_nodes, fragment_nodes}
 use Rattle.rule_field_sets.specs.Read.{set_at}
 use Rattle.rule_merging.specs.Members.{meant_sets, AreMembersOf}
 use Rattle.rule_merging.specs.Remembered.{account_of, kept_of, two_of}
-use Rattle.rule_merging.specs.Counted.{Account, Grows}
 use Rattle.rule_merging.specs.Examined.{Sets, HasSets, GrowsOverTwo, with_each, schema_of, document_of, sets_of}
 use Rattle.rule_merging.specs.Twos.{are_of, GrowsByTwo}
 use Rattle.rule_merging.specs.Pairs.{Looks, each_with}
@@ -100,9 +99,9 @@ returns-clause-examined c =
     let others = c.deref-2.result.now in
     let vs = meant_sets w c.deref-4.result.now in
     let ws = meant_sets w c.deref-6.result.now in
-    let open_one : IsOpened d a ones vs = opened_at e c.requires.sets c.args.pair.one c.in_ok-first.first.now c.in_ok-first.ensures ones c.deref.ensures.value c.deref-3.result.now c.in_ok-starts.starts.items c.deref-4.result.now c.deref-3.ensures.value
+    let open_one : IsOpened d a ones vs = opened_at e c.requires.sets c.args.pair.one c.in_ok-first.first.now c.in_ok-first.ensures ones c.deref.ensures.value c.deref-3.result.now _ c.deref-4.result.now c.deref-3.ensures.value
     c.in_ok-starts.ensures c.deref-4.ensures.value in
-    let open_other : IsOpened d b others ws = opened_at e c.requires.sets c.args.pair.other c.in_ok-second.second.now c.in_ok-second.ensures others c.deref-2.ensures.value c.deref-5.result.now c.in_ok-starts-2.starts.items c.deref-6.result.now
+    let open_other : IsOpened d b others ws = opened_at e c.requires.sets c.args.pair.other c.in_ok-second.second.now c.in_ok-second.ensures others c.deref-2.ensures.value c.deref-5.result.now _ c.deref-6.result.now
     c.deref-5.ensures.value c.in_ok-starts-2.ensures c.deref-6.ensures.value in
     let old = kept_of w c.args.examined.now in
     let mid = kept_of w c.examine_each.new.examined in
