@@ -20,6 +20,7 @@ pub mod Looking
 pub mod Known
 pub mod Pairing
 pub mod PairStep
+pub mod OpenedNodes
 pub mod Counting
 pub mod Written
 pub mod Operating

@@ -1,31 +1,33 @@
 -- Fields of two sets that are looked at together: two by two they are compared.
-use Rattle.std.proofs.Common.{◌≡◌, ◌⊎◌, ◌∙◌, ℕ, ◌+◌, ◌<◌, true, List, [], ◌∷◌, ◌++◌, take, length, get_or, Contains, refl, sym, ap, subst, append_assoc, append-nil, bytes_eq, arith, inl, inr}
-use Rattle.std.proofs.lemmas.Slice.Eq.{bytes_eq-Decides}
+use Rattle.std.proofs.Common.{◌≡◌, ◌⊎◌, ◌∙◌, ℕ, ◌+◌, ◌<◌, ◌==◌, Bool, true, false, cond, List, [], ◌∷◌, ◌++◌, take, length, get_or, Contains, true≢false, refl, sym, ap, subst, append_assoc, append-nil, arith, inl, inr}
+use Rattle.std.proofs.lemmas.Bool.Decides.{Decides-eqb}
 use Rattle.std.proofs.lemmas.List.{length-append, length-map, map-append}
 use Rattle.std.proofs.lemmas.List.Elements.{Contains-append_left, Contains-append_right, Contains-append_cases}
 use Rattle.graphql_names.specs.Placed.{Place}
 use Rattle.schema_components.proofs.Places.{Contains-rest}
-use Rattle.rule_definitions.proofs.Lists.{not_in_nil, only, Contains-first}
+use Rattle.rule_definitions.proofs.Lists.{not_in_nil, only, Contains-cons, Contains-first}
 use Rattle.document_meaning.specs.MeantTree.{MeantDocument}
 use Rattle.rule_definitions.specs.Judged.{Judged}
 use Rattle.rule_document_definitions.specs.DocumentFaults.{Broken}
-use Rattle.rule_document_definitions.specs.Selected.{StandingField, response_key}
+use Rattle.rule_document_definitions.specs.Selected.{StandingField}
+use Rattle.rule_document_definitions.specs.Merging.{SameKey}
 use Rattle.rule_document_ground.specs.Broken.{broken_of, brokens_of}
 use Rattle.rule_merging.specs.Members.{field_of, fields_of, content_of}
 use Rattle.rule_field_sets.specs.declared.member.Member.{Member}
+use Rattle.rule_field_sets.specs.declared.field_sets.FieldSets.{FieldSets}
+use Rattle.rule_field_sets.specs.Nodes.{HasMember}
 use Rattle.rule_merging.specs.declared.pass.Pass.{Pass}
 use Rattle.rule_merging.specs.declared.pass.Pass.TheVariants.{Shapes, Selections}
 use Rattle.rule_merging.specs.Passes.{Together}
-use Rattle.rule_merging.specs.Grouped.{key_of}
-use Rattle.rule_merging.specs.Members.{contents_of, read_sets}
+use Rattle.rule_merging.specs.Members.{contents_of, read_sets, AreMembersOf}
 use Rattle.rule_merging.proofs.Lists.{taken_more}
 use Rattle.rule_number_lists.specs.NumberLists.{HaveSame}
 use Rattle.rule_document_definitions.specs.ReadFields.{ReadField, ReadSet}
 use Rattle.rule_document_definitions.specs.Settled.{StandIn}
-use Rattle.rule_merging.specs.Remembered.{Kept}
+use Rattle.rule_merging.specs.Remembered.{Kept, Remembers}
 use Rattle.rule_merging.specs.Examined.{Sets, Breaches, all_read, IsFresh, ListExamined}
-use Rattle.rule_merging.specs.Twos.{TwoFields, are_two, IsListOf, both_of, GoTogether, FieldsPaired}
-use Rattle.rule_merging.proofs.Examining.{left_empty, right_empty, in_last, stand_more, left_wider, list_fresh, HasMore}
+use Rattle.rule_merging.specs.Twos.{TwoFields, are_two, IsListOf, IsListOfTwo, contents_of_two, both_of, GoTogether, FieldsPaired}
+use Rattle.rule_merging.proofs.Examining.{left_empty, right_empty, more_there, one_there, there_before, stand_more, left_wider, list_fresh, HasMore}
 
 -- where more is told, something is added
 pub more_told : {X : Type 0} (told later added : List X) → later ≡ told ++ added → added ≡ [] → length told < length later → ⊥
@@ -36,7 +38,7 @@ pub brokens_long : (old new : Breaches) → length old.items < length new.items 
 brokens_long old new longer = omega (arith, longer, length-map old.items broken_of, length-map new.items broken_of)
 
 -- fields that go together are of one key
-together_key : (pass : Pass) (s : Judged) (f g : StandingField Place) → Together pass s f g → response_key f ≡ response_key g
+together_key : (pass : Pass) (s : Judged) (f g : StandingField Place) → Together pass s f g → SameKey f g
 together_key Shapes s f g t = t
 together_key Selections s f g t = t.0
 
@@ -141,11 +143,10 @@ module _ (pass : Pass) (s : Judged) (d : MeantDocument Place) where
 
   module _ (one other : Member) where
     -- that are not of one key
-    pub paired_apart : (old : Kept) (told : List (Broken Place)) (next : List Sets) → (bytes_eq (key_of one) (key_of other) ≡ true → ⊥) → PairedTold (are_two one other) old old told told next next
+    pub paired_apart : (old : Kept) (told : List (Broken Place)) (next : List Sets) → (SameKey (field_of one) (field_of other) → ⊥) → PairedTold (are_two one other) old old told told next next
     paired_apart old told next apart =
-        told_none (are_two one other) (λ p q w. apart ((bytes_eq-Decides (key_of one) (key_of other)).1
-        (together_key pass s (field_of one) (field_of other)
-        (subst (λ (x : Member). Together pass s (field_of x) (field_of other)) w.0.0 (subst (λ (y : Member). Together pass s (field_of p) (field_of y)) w.0.1 w.1))))) old told next
+        told_none (are_two one other) (λ p q w. apart (together_key pass s (field_of one) (field_of other)
+        (subst (λ (x : Member). Together pass s (field_of x) (field_of other)) w.0.0 (subst (λ (y : Member). Together pass s (field_of p) (field_of y)) w.0.1 w.1)))) old told next
 
     -- the list has both, and no more
     has_one : (list : List Member) → IsListOf one other list → Contains (contents_of list) (content_of one)
@@ -165,9 +166,9 @@ module _ (pass : Pass) (s : Judged) (d : MeantDocument Place) where
     these lists stand p q ((is, is_too), t) = subst (λ (x : Member). StandIn lists (content_of x) (content_of q)) (sym is) (subst (λ (y : Member). StandIn lists (content_of one) (content_of y)) (sym is_too) stand)
 
     -- that were compared before
-    pub paired_known : (list : List Member) → IsListOf one other list → (known : List ReadField) → HaveSame known (contents_of list) → (old new : Kept) (told : List (Broken Place)) (next : List Sets)
-        → Contains old.lists known → new ≡ old → PairedTold (are_two one other) old new told told next next
-    paired_known list two known same old new told next there is = (
+    pub paired_known : (list : List Member) → IsListOf one other list → (old new : Kept) (told : List (Broken Place)) (next : List Sets)
+        → Remembers old (contents_of list) false new → PairedTold (are_two one other) old new told told next next
+    paired_known list two old new told next (had, is) = (
       [],
       (
         [],
@@ -180,18 +181,22 @@ module _ (pass : Pass) (s : Judged) (d : MeantDocument Place) where
               under = λ sets c. not_in_nil sets c;
               same = refl;
               more = λ l c. c;
-              stand = λ e. these old.lists (known, (there, ((same (content_of one)).1 (has_one list two), (same (content_of other)).1 (has_other list two))));
+              stand = λ e. these old.lists (stood had);
               fresh = λ e l c. inl c;
             }),
           ),
         ),
       ),
     )
+      where
+        stood : (contents_of list ≡ []) ⊎ ((known : List ReadField) × (Contains old.lists known × HaveSame known (contents_of list))) → StandIn old.lists (content_of one) (content_of other)
+        stood (inl none) = not_in_nil (content_of one) (subst (λ l. Contains l (content_of one)) none (has_one list two))
+        stood (inr (known, (there, same))) = (known, (there, ((same (content_of one)).1 (has_one list two), (same (content_of other)).1 (has_other list two))))
 
     -- that are compared now
-    pub paired_now : (list : List Member) → IsListOf one other list → (kept : List ReadField) → HaveSame (contents_of list) kept → (old new : Kept) (added : List (Broken Place)) (next : List Sets)
-        → new ≡ record old { lists = old.lists ++ kept ∷ [] } → ListExamined pass s d list added next → FieldsPaired pass s d (are_two one other) old new added next
-    paired_now list two kept same old new added next is h = subst (λ (k : Kept). FieldsPaired pass s d (are_two one other) old k added next) (sym is) (record {
+    pub paired_now : (list : List Member) → IsListOf one other list → (old new : Kept) (added : List (Broken Place)) (next : List Sets)
+        → Remembers old (contents_of list) true new → ListExamined pass s d list added next → FieldsPaired pass s d (are_two one other) old new added next
+    paired_now list two old new added next (none, (kept, (same, (order, (there, is))))) h = record {
       right = λ fault c.
           let t = h.examined.right fault c in
           let w = h.are.within t.0 t.1.1.0 t.1.1.1.0 t.1.0 t.1.1.1.1.0 t.1.1.1.1.1.0 in
@@ -200,14 +205,47 @@ module _ (pass : Pass) (s : Judged) (d : MeantDocument Place) where
       under = λ vs c.
           let u = h.examined.under vs c in
           (one, (other, ((refl, refl), (u.0, ((λ f g a b. let w = h.are.within u.0 f g u.1.0 a b in (no_more list two f w.0, w.1)), u.1.1)))));
-      same = refl;
-      more = λ l c. Contains-append_left old.lists (kept ∷ []) l c;
-      stand = λ e. these (old.lists ++ kept ∷ []) (kept, (in_last old.lists kept, ((same (content_of one)).0 (has_one list two), (same (content_of other)).0 (has_other list two))));
-      fresh = λ e l c. elim (Contains-append_cases old.lists (kept ∷ []) l c) [
-        | inl a ↦ inl a
-        | inr b ↦ inr (subst (IsFresh pass s d (all_read next)) (sym (only kept l b)) (list_fresh pass s d list next (subst (λ a. ListExamined pass s d list a next) e h) kept same))
+      same = is;
+      more = more_there kept old.lists new.lists there;
+      stand = λ e. these new.lists (kept, (one_there kept old.lists new.lists there, ((same (content_of one)).0 (has_one list two), (same (content_of other)).0 (has_other list two))));
+      fresh = λ e l c. elim (there_before kept old.lists new.lists there l c) [
+        | inl b ↦ inr (subst (IsFresh pass s d (all_read next)) b (list_fresh pass s d list next (subst (λ a. ListExamined pass s d list a next) e h) kept same))
+        | inr a ↦ inl a
       ];
-    })
+    }
+
+-- ---- a list of two
+
+-- equal numbers are equal contents, and a list by numbers is one by contents
+pub by_contents : (one other : Member) (list : List Member) → ((one.number ≡ other.number) → content_of one ≡ content_of other) → (content_of one ≡ content_of other → one.number ≡ other.number)
+    → IsListOfTwo one other list → IsListOf one other list
+by_contents one other list to back (inl (e, is)) = inl (to e, is)
+by_contents one other list to back (inr (e, is)) = inr ((λ same. e (back same)), is)
+
+-- its members are members of nodes
+pub members_of_two : (w : FieldSets) (one other : Member) (list : List Member) → HasMember w one → HasMember w other → IsListOfTwo one other list → AreMembersOf w list
+members_of_two w one other list a b (inl (e, is)) m c = subst (HasMember w) (sym (only one m (subst (λ (l : List Member). Contains l m) is c))) a
+members_of_two w one other list a b (inr (e, is)) m c = elim (Contains-cons one (other ∷ []) m (subst (λ (l : List Member). Contains l m) is c)) [
+  | inl i ↦ subst (HasMember w) i a
+  | inr r ↦ subst (HasMember w) (sym (only other m r)) b
+]
+
+-- what is read of it
+pub read_of_two : (one other : Member) (list : List Member) → IsListOfTwo one other list → contents_of list ≡ contents_of_two one other
+read_of_two one other list (inl (e, is)) = ap contents_of is ∙ sym (ap (λ (b : Bool). cond b (content_of one ∷ []) (content_of one ∷ content_of other ∷ [])) ((Decides-eqb one.number other.number).1 e))
+read_of_two one other list (inr (e, is)) = ap contents_of is ∙ sym (ap (λ (b : Bool). cond b (content_of one ∷ []) (content_of one ∷ content_of other ∷ [])) (differ (one.number == other.number) (λ t. e ((Decides-eqb one.number other.number).0 t))))
+  where
+    differ : (b : Bool) → (b ≡ true → ⊥) → b ≡ false
+    differ true never = absurd (never refl)
+    differ false never = refl
+
+-- some list of them
+pub some_list : (one other : Member) → (list : List Member) × IsListOfTwo one other list
+some_list one other = by (one.number == other.number) refl
+  where
+    by : (b : Bool) → (one.number == other.number) ≡ b → (list : List Member) × IsListOfTwo one other list
+    by true e = (one ∷ [], inl ((Decides-eqb one.number other.number).0 e, refl))
+    by false e = (one ∷ other ∷ [], inr ((λ same. true≢false (sym ((Decides-eqb one.number other.number).1 same) ∙ e)), refl))
 
 -- fields of lists, one more
 pub front_of : (xs : List Member) (i : ℕ) (x : Member) → i < length xs → x ≡ get_or xs i x → (p : Member) → Contains (take (i + 1) xs) p → Contains (take i xs) p ⊎ (p ≡ x)
