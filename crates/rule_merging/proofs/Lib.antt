@@ -25,4 +25,4 @@ pub mod Counting
 pub mod Written
 pub mod Operating
 pub mod Behind
-pub mod Conflicts
+pub mod InTurn
