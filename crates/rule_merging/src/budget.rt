@@ -11,7 +11,9 @@ const AT_FIRST: usize = 200;
 
 /// How many steps more so many fields pay, where so many were taken.
 pub(crate) fn left_of(spent: usize, fields: usize) -> usize {
-    let all = fields.saturating_mul(FOR_EACH_FIELD).saturating_add(AT_FIRST);
+    let all = fields
+        .saturating_mul(FOR_EACH_FIELD)
+        .saturating_add(AT_FIRST);
     all.saturating_sub(spent)
 }
 
