@@ -10,7 +10,8 @@ pub mod Sets
 pub mod Under
 pub mod NodeFacts
 pub mod Walking
-pub mod Selected
+pub mod Passing
+pub mod Known
 pub mod PairedFacts
 pub mod Bare
 pub mod Examining

@@ -1,5 +1,5 @@
 -- Private: leads to `FieldsMerge`. The lists of sets below the fields of one key.
-use Rattle.std.specs.Prelude.{◌≡◌, ℕ, ◌⊎◌, ◌++◌, ◌∷◌, [], List, map, flat_map, Contains, Some, slice_get, Vec}
+use Rattle.std.specs.Prelude.{◌≡◌, ℕ, ◌⊎◌, ◌++◌, ◌∷◌, [], List, map, flat_map, Contains, Vec}
 use Rattle.std.specs.List.{AllZip}
 use Rattle.std.specs.declared.alloc.Global.{Global}
 use Rattle.graphql_names.specs.Placed.{Place}
@@ -7,9 +7,8 @@ use Rattle.document_meaning.specs.MeantTree.{MeantSet}
 use Rattle.rule_document_definitions.specs.ReadFields.{list_read}
 use Rattle.rule_document_definitions.specs.Selected.{StandingField}
 use Rattle.rule_merging.specs.Grouped.{lists_of}
-use Rattle.rule_field_sets.specs.Nodes.{set_nodes}
+use Rattle.rule_field_sets.specs.Read.{set_content_at, node_read}
 use Rattle.rule_field_sets.specs.declared.member.Member.{Member}
-use Rattle.rule_field_sets.specs.declared.member.SetNode.{SetNode}
 use Rattle.rule_merging.specs.Members.{meant_sets, read_sets, AreMembersOf}
 use Rattle.rule_merging.specs.KeyGroups.{lists_in_group}
 use Rattle.rule_merging.specs.declared.below.SetsBelow.{SetsBelow}
@@ -94,9 +93,15 @@ pub record AreListsBelow (groups : List (List (StandingField Place))) (lists : L
   pub under : (sets : Sets) → Contains lists sets → (group : List (StandingField Place)) × (Contains groups group × AreOf group sets)
   pub below : (group : List (StandingField Place)) → Contains groups group → (f g : StandingField Place) → Contains group f → Contains group g → HaveBoth lists f g
 
--- each node has the number that stands beside it
+-- the set of each node is read as the number that stands beside it
 abbrev pub AreNumbered : FieldSets → SetsBelow → Type 0
-AreNumbered w found = AllZip (λ n i. (v : SetNode) × ((slice_get (set_nodes w) i ≡ Some v) × (v.number ≡ n))) found.numbers.keys found.nodes.items
+AreNumbered w found = AllZip (λ n i. set_content_at w n ≡ node_read w i) found.numbers.keys found.nodes.items
+
+-- the node is put last with its number, unless that is there
+abbrev pub AddsNode : ℕ → ℕ → SetsBelow → SetsBelow → Type 0
+AddsNode number node old new =
+    (Contains old.numbers.keys number × ((new.numbers.keys ≡ old.numbers.keys) × (new.nodes.items ≡ old.nodes.items)))
+    ⊎ ((Contains old.numbers.keys number → ⊥) × ((new.numbers.keys ≡ old.numbers.keys ++ number ∷ []) × (new.nodes.items ≡ old.nodes.items ++ node ∷ [])))
 
 -- all fields of the group are members of nodes
 abbrev pub IsGroupOf : FieldSets → KeyGroup → Type 0

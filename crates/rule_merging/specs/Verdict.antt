@@ -13,7 +13,7 @@ use Rattle.rule_merging.specs.Counted.{Account, IsCountedBy, IsPaidBy}
 use Rattle.rule_document_ground.specs.Fields.{meant_fragments}
 use Rattle.rule_field_sets.specs.Nodes.{AreSets, SetsGrow, schema_in}
 use Rattle.rule_field_sets.specs.declared.field_sets.FieldSets.{FieldSets}
-use Rattle.rule_merging.specs.Remembered.{remembered, looked_in, account_of, kept_of}
+use Rattle.rule_merging.specs.Remembered.{Kept, remembered, looked_in, account_of, kept_of}
 use Rattle.rule_merging.specs.Examined.{Breaches, StandTogether, AreSettled}
 use Rattle.rule_merging.specs.declared.operation.Examined.{Examined}
 use Rattle.rule_merging.specs.declared.pass.Pass.TheVariants.{Shapes, Selections}
@@ -71,9 +71,14 @@ pub record AreSetsFor (s : Judged) (d : MeantDocument Place) (w : FieldSets) : T
   pub schema : schema_in w ≡ s
   pub fragments : meant_fragments w.fragments.now ≡ d.fragments
 
+-- what was examined, without the pairs of sets that are left: these are nodes, and nothing that is settled speaks of them
+abbrev pub without_pairs : Kept → Kept
+without_pairs k = record k { pairs = [] }
+
 -- the sets grow, and what was examined means what it meant
 pub record Begins (old new : Examined) : Type 0 where
   pub are : AreSets new.sets
   pub grown : SetsGrow old.sets new.sets
-  pub shapes : (kept_of new.sets new.shapes ≡ kept_of old.sets old.shapes) × (account_of new.sets new.shapes ≡ account_of old.sets old.shapes)
-  pub selections : kept_of new.sets new.selections ≡ kept_of old.sets old.selections
+  pub shapes : without_pairs (kept_of new.sets new.shapes) ≡ without_pairs (kept_of old.sets old.shapes)
+  pub account : account_in new ≡ account_in old
+  pub selections : without_pairs (kept_of new.sets new.selections) ≡ without_pairs (kept_of old.sets old.selections)

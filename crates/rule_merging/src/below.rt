@@ -1,11 +1,11 @@
 //! The sets below a group of fields.
-ghost use Rattle.std.specs.Prelude.{◌≡◌, ◌++◌, ◌∷◌, [], map, IfOk, OnOk};
+ghost use Rattle.std.specs.Prelude.{◌≡◌, ◌++◌, ◌∷◌, [], map, Contains, IfOk, OnOk};
 ghost use Rattle.rule_field_sets.specs.Nodes.{AreSets, HasMember};
 ghost use Rattle.rule_merging.specs.Members.{field_of, fields_of, meant_sets, AreMembersOf};
 ghost use Rattle.rule_merging.specs.Below.{AreSetsOf, NotesSet};
 ghost use Rattle.rule_merging.specs.Grouped.{lists_of};
-ghost use Rattle.rule_merging.specs.Under.{sets_in, each_with, AreFurther, AddsFurther, JoinsSets, JoinsTwos, PutsTogether, JoinsEach, AreListsBelow, AreNumbered, IsGroupOf};
-ghost use Rattle.rule_merging.specs.KeyGroups.{parts_of, own_lists};
+ghost use Rattle.rule_merging.specs.Under.{sets_in, each_with, AreFurther, AddsFurther, JoinsSets, JoinsTwos, PutsTogether, JoinsEach, AreListsBelow, AreNumbered, AddsNode, IsGroupOf};
+ghost use Rattle.rule_merging.specs.KeyGroups.{parts_of};
 
 use crate::groups::{KeyGroup, OwnFields};
 use crate::nodes::number_of;
@@ -37,10 +37,13 @@ impl SetsBelow {
     }
 
     /// Adds the set of a node, unless its number is there.
-    fn add(&mut self, number: usize, node: usize) -> Result<(), AllocError> {
-        if self.numbers.insert(number)? {
-            self.nodes.push(node)?;
+    fn add(&mut self, number: usize, node: usize) -> Result<(), AllocError>
+        ensures { OnOk result (AddsNode number node self.old self.new) }
+    {
+        if !self.numbers.insert(number)? {
+            return Ok(());
         }
+        self.nodes.push(node)?;
         Ok(())
     }
 }
@@ -52,7 +55,7 @@ fn note_set(
     found: &mut SetsBelow,
 ) -> Result<(), AllocError>
     requires sets { AreSets sets.now }
-    requires member { HasMember sets.now field.entry }
+    requires member { HasMember sets.now field }
     requires numbered { AreNumbered sets.now found.old }
     ensures notes { OnOk result (NotesSet (field_of field.entry) (meant_sets sets.now found.old.nodes.items) (meant_sets sets.now found.new.nodes.items)) }
     ensures numbered { OnOk result (AreNumbered sets.now found.new) }
@@ -89,7 +92,7 @@ fn note_further(
     found: &mut SetsBelow,
 ) -> Result<(), AllocError>
     requires sets { AreSets sets.now }
-    requires member { HasMember sets.now field.entry }
+    requires member { HasMember sets.now field }
     requires others { AreNumbered sets.now others.now }
     requires numbered { AreNumbered sets.now found.old }
     ensures notes { OnOk result (AddsFurther (field_of field.entry) (meant_sets sets.now others.now.nodes.items) (meant_sets sets.now found.old.nodes.items) (meant_sets sets.now found.new.nodes.items)) }

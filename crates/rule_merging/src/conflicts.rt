@@ -51,11 +51,7 @@ fn coordinates(
 }
 
 /// What is told of fields whose types have different shapes.
-fn told_types(
-    alloc: Global,
-    first: Member<'_>,
-    other: Member<'_>,
-) -> Result<Breach, AllocError>
+fn told_types(alloc: Global, first: Member<'_>, other: Member<'_>) -> Result<Breach, AllocError>
     ensures { IfOk result (λ b. broken_of b ≡ type_conflict (field_of first.entry) (field_of other.entry)) }
 {
     let (alias, original_type, conflicting_type) = copies_of_three(
@@ -109,11 +105,7 @@ fn have_one_name(first: Member<'_>, other: Member<'_>) -> bool
 }
 
 /// What is told of fields of different names.
-fn told_names(
-    alloc: Global,
-    first: Member<'_>,
-    other: Member<'_>,
-) -> Result<Breach, AllocError>
+fn told_names(alloc: Global, first: Member<'_>, other: Member<'_>) -> Result<Breach, AllocError>
     ensures { IfOk result (λ b. broken_of b ≡ name_conflict (field_of first.entry) (field_of other.entry)) }
 {
     let alias = other.selection.response_key().clone()?;
@@ -234,7 +226,11 @@ fn conflicting_field_argument(
 {
     let alloc = *breaches.allocator();
     let given = first.selection.field.content().arguments.as_slice();
-    let differing = differing_argument(alloc, given, other.selection.field.content().arguments.as_slice())?;
+    let differing = differing_argument(
+        alloc,
+        given,
+        other.selection.field.content().arguments.as_slice(),
+    )?;
     match differing {
         None => Ok(()),
         Some(name) => {

@@ -1,11 +1,12 @@
 //! The examination of lists, level by level.
 ghost use Rattle.std.specs.Prelude.{◌≡◌, ◌≤◌, ◌+◌, ◌∷◌, [], map, IfOk, OnOk};
-ghost use Rattle.rule_document_ground.specs.Fields.{fields_of};
+ghost use Rattle.rule_field_sets.specs.Read.{set_at};
+ghost use Rattle.rule_merging.specs.Members.{fields_of, meant_sets, AreMembersOf};
 ghost use Rattle.rule_merging.specs.Compared.{compared};
+ghost use Rattle.rule_merging.specs.Grouped.{lists_of};
 ghost use Rattle.rule_merging.specs.KeyGroups.{parts_of, compared_in};
-ghost use Rattle.rule_merging.specs.Under.{sets_in};
-ghost use Rattle.rule_merging.specs.Below.{meant_at, meant_sets};
-ghost use Rattle.rule_merging.specs.Examined.{document_of, HaveFields, ExaminesGroups, ExaminesList, GrowsOver};
+ghost use Rattle.rule_merging.specs.Under.{sets_in, IsGroupOf};
+ghost use Rattle.rule_merging.specs.Examined.{HasSets, sets_of, document_of, HaveFields, ExaminesGroups, ExaminesList, GrowsOver};
 ghost use Rattle.rule_merging.specs.OfProgram.{Comes, ExaminesLevel, ExaminesFrom, ExaminesThese};
 
 use crate::remembered::Remembered;

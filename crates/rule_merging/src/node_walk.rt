@@ -48,16 +48,17 @@ struct NodeWalk<'doc> {
 }
 
 impl<'doc> NodeWalk<'doc> {
-    /// Whether the steps so far are paid. Then so many more are taken; else the walk is not whole.
+    /// Whether so many steps more are paid. They are taken, or the walk is not whole.
     fn steps_on(&mut self, toll: Toll<'_>, more: usize) -> bool
         ensures { state_of self.new ≡ with_paid result (state_of self.old) }
     {
         let paid = toll.paid.saturating_add(self.fresh.saturating_mul(toll.each));
-        if self.steps > paid {
+        let steps = self.steps.saturating_add(more);
+        if steps > paid {
             self.is_whole = false;
             return false;
         }
-        self.steps = self.steps.saturating_add(more);
+        self.steps = steps;
         true
     }
 
@@ -74,7 +75,8 @@ impl<'doc> NodeWalk<'doc> {
     fn pass_member(&mut self, toll: Toll<'_>, member: Member<'doc>) -> Result<(), AllocError>
         ensures { OnOk result (PassesMember member.entry (state_of self.old) (state_of self.new)) }
     {
-        if !self.numbers.insert(member.number)? {
+        let is_new = self.numbers.insert(member.number)?;
+        if !is_new {
             return Ok(());
         }
         self.count_fresh(toll, member.number);
@@ -102,12 +104,13 @@ impl<'doc> NodeWalk<'doc> {
         Ok(())
     }
 
-    /// Passes the fields and the spreads of a node, if what came before is paid: fields that are new pay for themselves.
+    /// Passes the fields and the spreads of a node, if that is paid.
     fn pass_node(&mut self, toll: Toll<'_>, node: &SetNode<'doc>) -> Result<(), AllocError>
         ensures { OnOk result (PassesNode node.now (state_of self.old) (state_of self.new)) }
     {
         let more = node.members.len().saturating_add(node.spreads.len());
-        if !self.steps_on(toll, more) {
+        let is_paid = self.steps_on(toll, more);
+        if !is_paid {
             return Ok(());
         }
         self.pass_members(toll, &node.members)?;
@@ -124,7 +127,8 @@ impl<'doc> NodeWalk<'doc> {
         ensures { OnOk result (WalksOn sets.now entered (state_of self.old) (state_of self.new)) }
     {
         while self.is_whole && entered < self.spread.len() {
-            let fragment = fragment_of(sets, self.spread[entered])?;
+            let place = self.spread[entered];
+            let fragment = fragment_of(sets, place)?;
             self.pass_node(toll, fragment)?;
             entered += 1;
         }
@@ -136,7 +140,8 @@ impl<'doc> NodeWalk<'doc> {
         ensures { OnOk result (WalksOver sets.now node (state_of self.old) (state_of self.new)) }
     {
         let entered = self.spread.len();
-        self.pass_node(toll, node_of(sets, node)?)?;
+        let start = node_of(sets, node)?;
+        self.pass_node(toll, start)?;
         self.pass_fragments(toll, sets, entered)
     }
 }

@@ -1,6 +1,6 @@
 //! Nodes by their numbers. There is a node of each number that is asked for; what is not there is told as if memory did not suffice.
 // The prover is not told everywhere that there is one: so lists of nodes need no clause that says it.
-ghost use Rattle.std.specs.Prelude.{◌≡◌, ◌×◌, Some, slice_get, IfOk};
+ghost use Rattle.std.specs.Prelude.{◌≡◌, Some, slice_get, IfOk};
 ghost use Rattle.std.specs.List.{AllZip};
 ghost use Rattle.rule_document_definitions.specs.ReadFields.{list_read};
 ghost use Rattle.rule_field_sets.specs.Nodes.{AreSets, set_nodes, fragment_nodes};
@@ -51,7 +51,8 @@ pub(crate) fn starts_of(
 {
     let mut starts = Vec::with_capacity(alloc, fragments.len())?;
     for fragment in fragments {
-        starts.push(start_of(sets, *fragment)?)?;
+        let start = start_of(sets, *fragment)?;
+        starts.push(start)?;
     }
     Ok(starts)
 }

@@ -1,14 +1,15 @@
 //! What was examined.
-ghost use Rattle.std.specs.Prelude.{◌≡◌, ◌∷◌, [], is_some, IfOk, OnErr};
+ghost use Rattle.std.specs.Prelude.{◌≡◌, ◌∷◌, [], map, is_some, IsTrue, IfOk, OnErr};
 ghost use Rattle.rule_document_definitions.specs.ReadFields.{list_read};
 ghost use Rattle.rule_field_sets.specs.Nodes.{AreSets, HasMember};
-ghost use Rattle.rule_field_sets.specs.Read.{set_at};
+ghost use Rattle.rule_number_lists.specs.NumberLists.{lists_kept};
+ghost use Rattle.rule_field_sets.specs.Read.{set_at, set_content_at};
 ghost use Rattle.rule_field_sets.specs.declared.field_sets.FieldSets.{FieldSets};
 ghost use Rattle.rule_merging.specs.Members.{contents_of, meant_sets, read_sets, AreMembersOf};
 ghost use Rattle.rule_merging.specs.Under.{sets_in};
 ghost use Rattle.rule_merging.specs.Twos.{contents_of_two};
-ghost use Rattle.rule_merging.specs.Counted.{Pays, IsPaidIf, no_account};
-ghost use Rattle.rule_merging.specs.Remembered.{kept_of, account_of, beside_of, nothing_kept, Remembers, RemembersPaid, LooksAt, Expands, expanded_in, IsKnown};
+ghost use Rattle.rule_merging.specs.Counted.{OnlyMeets, Pays, IsPaidIf, no_account};
+ghost use Rattle.rule_merging.specs.Remembered.{remembered, kept_of, account_of, beside_of, nothing_kept, Remembers, RemembersPaid, LooksAt, Expands, IsKnown};
 
 use crate::budget::{FOR_EACH_FIELD, left_of, spent_with};
 use crate::node_walk::{MergedList, Toll};
@@ -54,6 +55,22 @@ fn numbers_of(alloc: Global, list: &[Member<'_>]) -> Result<Vec<usize>, AllocErr
     let mut numbers = Vec::with_capacity(alloc, list.len())?;
     for field in list {
         numbers.push(field.number)?;
+    }
+    Ok(numbers)
+}
+
+/// The numbers of the sets of these nodes.
+fn numbers_of_nodes(
+    alloc: Global,
+    sets: &FieldSets<'_>,
+    nodes: &[usize],
+) -> Result<Vec<usize>, AllocError>
+    requires { AreSets sets.now }
+    ensures { IfOk result (λ numbers. map (set_content_at sets.now) numbers.items ≡ read_sets (meant_sets sets.now nodes.now)) }
+{
+    let mut numbers = Vec::with_capacity(alloc, nodes.len())?;
+    for node in nodes {
+        numbers.push(number_of(sets, *node)?)?;
     }
     Ok(numbers)
 }
@@ -142,8 +159,7 @@ impl Remembered {
     /// Meets these fields.
     fn meet(&mut self, list: &[Member<'_>]) -> Result<(), AllocError>
         ensures meets { (w : FieldSets) → AreSets w → AreMembersOf w list.now → OnlyMeets (contents_of list.now) (account_of w self.old) (account_of w self.new) }
-        ensures kept { (w : FieldSets) → kept_of w self.new ≡ kept_of w self.old }
-        ensures next { (w : FieldSets) → sets_in w self.new.next ≡ sets_in w self.old.next }
+        ensures same { self.new ≡ record self.old { met = self.new.met } }
     {
         for field in list {
             self.met.insert(field.number)?;
@@ -189,11 +205,12 @@ impl Remembered {
         alloc: Global,
         sets: &FieldSets<'_>,
         nodes: &[usize],
-    ) -> Result<bool, AllocError> {
-        let mut numbers = Vec::with_capacity(alloc, nodes.len())?;
-        for node in nodes {
-            numbers.push(number_of(sets, *node)?)?;
-        }
+    ) -> Result<bool, AllocError>
+        requires { AreSets sets.now }
+        ensures expands { IfOk result (λ is_new. Expands (map (map (set_content_at sets.now)) (lists_kept expanded.old)) (read_sets (meant_sets sets.now nodes.now)) is_new (map (map (set_content_at sets.now)) (lists_kept expanded.new))) }
+        ensures refused { OnErr result (lists_kept expanded.new ≡ lists_kept expanded.old) }
+    {
+        let numbers = numbers_of_nodes(alloc, sets, nodes)?;
         expanded.remember(numbers)
     }
 }

@@ -1,11 +1,10 @@
-//! The examination of two sets or fragments that are looked at together.
-ghost use Rattle.std.specs.Prelude.{◌≡◌, ◌<◌, ◌∷◌, [], length, IsTrue, OnOk, IfOk};
-ghost use Rattle.std.specs.Str.{bytes_eq};
-ghost use Rattle.rule_merging.specs.Grouped.{key_of};
-ghost use Rattle.rule_merging.specs.Below.{meant_sets};
+//! The examination of two sets that are looked at together.
+ghost use Rattle.std.specs.Prelude.{◌≡◌, ◌↔◌, ◌<◌, ◌∷◌, [], length, IsTrue, OnOk, IfOk};
+ghost use Rattle.rule_field_sets.specs.Nodes.{HasMember};
+ghost use Rattle.rule_merging.specs.Members.{meant_sets, AreMembersOf};
 ghost use Rattle.rule_merging.specs.Remembered.{two_of};
-ghost use Rattle.rule_merging.specs.Twos.{are_two, are_of, IsListOf, GrowsByTwo};
-ghost use Rattle.rule_merging.specs.Examined.{ExaminesPair, ExaminesPairs, GrowsOver, GrowsOverTwo, GrowsHere};
+ghost use Rattle.rule_merging.specs.Twos.{are_two, are_of, IsListOfTwo, GrowsByTwo};
+ghost use Rattle.rule_merging.specs.Examined.{sets_of, HasSets, ExaminesPair, ExaminesPairs, GrowsOver, GrowsOverTwo, GrowsHere};
 ghost use Rattle.rule_merging.specs.OfProgram.{Comes, ExaminesThese, PairsOf};
 
 use crate::examination::Examination;
@@ -55,8 +54,8 @@ impl<'doc> Examination<'_, 'doc> {
         breaches: &mut Vec<Breach>,
     ) -> Result<(), AllocError>
         requires sets { HasSets self.now }
-        requires one { HasMember (sets_of self.now) one.entry }
-        requires other { HasMember (sets_of self.now) other.entry }
+        requires one { HasMember (sets_of self.now) one }
+        requires other { HasMember (sets_of self.now) other }
         ensures examined { OnOk result (PairsOf self.now (are_two one.entry other.entry) examined.old examined.new breaches.old breaches.new) }
         ensures counted { GrowsByTwo self.now (are_two one.entry other.entry) examined.old examined.new }
     {
@@ -80,7 +79,7 @@ impl<'doc> Examination<'_, 'doc> {
         breaches: &mut Vec<Breach>,
     ) -> Result<(), AllocError>
         requires sets { HasSets self.now }
-        requires one { HasMember (sets_of self.now) one.entry }
+        requires one { HasMember (sets_of self.now) one }
         requires others { AreMembersOf (sets_of self.now) others.now }
         ensures examined { OnOk result (PairsOf self.now (are_of (one.entry ∷ []) others.now) examined.old examined.new breaches.old breaches.new) }
         ensures counted { GrowsByTwo self.now (are_of (one.entry ∷ []) others.now) examined.old examined.new }
@@ -124,8 +123,8 @@ impl<'doc> Examination<'_, 'doc> {
         breaches: &mut Vec<Breach>,
     ) -> Result<(), AllocError>
         requires sets { HasSets self.now }
-        ensures examined { OnOk result (Comes (sets_of self.now) (ExaminesPair self.now (two_of (sets_of self.now) pair.entry)) examined.old examined.new breaches.old breaches.new) }
-        ensures counted { GrowsOverTwo self.now (two_of (sets_of self.now) pair.entry) examined.old examined.new }
+        ensures examined { OnOk result (Comes (sets_of self.now) (ExaminesPair self.now (two_of (sets_of self.now) pair)) examined.old examined.new breaches.old breaches.new) }
+        ensures counted { GrowsOverTwo self.now (two_of (sets_of self.now) pair) examined.old examined.new }
     {
         let Pair { one, other } = pair;
         let sets = self.sets;
