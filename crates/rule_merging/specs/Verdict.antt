@@ -1,5 +1,5 @@
 -- What the examination of an operation comes to.
-use Rattle.std.specs.Prelude.{◌≡◌, ◌≤◌, ◌++◌, ℕ, Bool, true, false, List, [], Contains}
+use Rattle.std.specs.Prelude.{◌≡◌, ◌≤◌, ◌++◌, ℕ, Bool, true, false, List, [], length, Contains}
 use Rattle.graphql_names.specs.Placed.{Place}
 use Rattle.document_meaning.specs.MeantTree.{MeantOperation, MeantDocument}
 use Rattle.rule_definitions.specs.Judged.{Judged}
@@ -11,11 +11,13 @@ use Rattle.rule_document_definitions.specs.ReadFields.{ReadField, ReadSet, ReadS
 use Rattle.rule_document_definitions.specs.Settled.{StartsStand}
 use Rattle.rule_merging.specs.Counted.{Account, IsCountedBy, IsPaidBy}
 use Rattle.rule_document_ground.specs.Fields.{meant_fragments}
+use Rattle.rule_field_sets.specs.Numbered.{tables_of}
 use Rattle.rule_field_sets.specs.Nodes.{AreSets, SetsGrow, schema_in}
 use Rattle.rule_field_sets.specs.declared.field_sets.FieldSets.{FieldSets}
-use Rattle.rule_merging.specs.Remembered.{Kept, remembered, looked_in, account_of, kept_of}
+use Rattle.rule_merging.specs.Remembered.{Kept, remembered, looked_in, account_of, kept_of, IsKnown}
 use Rattle.rule_merging.specs.Examined.{Breaches, StandTogether, AreSettled}
 use Rattle.rule_merging.specs.declared.operation.Examined.{Examined}
+use Rattle.rule_merging.specs.declared.remembered.Remembered.{Remembered}
 use Rattle.rule_merging.specs.declared.pass.Pass.TheVariants.{Shapes, Selections}
 
 module _ (s : Judged) (d : MeantDocument Place) where
@@ -74,6 +76,13 @@ pub record AreSetsFor (s : Judged) (d : MeantDocument Place) (w : FieldSets) : T
 -- what was examined, without the pairs of sets that are left: these are nodes, and nothing that is settled speaks of them
 abbrev pub without_pairs : Kept → Kept
 without_pairs k = record k { pairs = [] }
+
+-- what was examined has numbers of these sets
+abbrev pub IsKnownIn : FieldSets → Remembered → Type 0
+IsKnownIn w r = IsKnown (length (tables_of w.numbers).fields) (length (tables_of w.numbers).sets) r
+
+abbrev pub AreKnown : Examined → Type 0
+AreKnown e = IsKnownIn e.sets e.shapes × IsKnownIn e.sets e.selections
 
 -- the sets grow, and what was examined means what it meant
 pub record Begins (old new : Examined) : Type 0 where
