@@ -23,4 +23,4 @@ pub mod Counting
 pub mod Written
 pub mod Operating
 pub mod Behind
-pub mod Conflicts
+pub mod Verdicts
