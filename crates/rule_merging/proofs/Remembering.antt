@@ -1,28 +1,32 @@
 -- What is remembered: what is read of the numbers that are kept.
-use Rattle.std.proofs.Common.{◌≡◌, ◌⊎◌, ℕ, ◌+◌, ◌≤◌, min, max, Bool, true, false, ◌==◌, cond, List, [], ◌∷◌, map, length, Contains, refl, sym, ap, ap₂, subst, arith, inl, inr}
+use Rattle.std.proofs.Common.{◌≡◌, ◌⊎◌, ◌∙◌, ℕ, ◌+◌, ◌≤◌, min, max, Bool, true, false, ◌==◌, cond, List, [], ◌∷◌, map, length, Contains, refl, sym, ap, ap₂, subst, arith, inl, inr}
+use Rattle.std.specs.Prelude.{Result, Ok, Err, OnErr}
 use Rattle.std.proofs.lemmas.List.{length-map}
 use Rattle.graphql_names.specs.Placed.{Place}
 use Rattle.document_meaning.specs.MeantTree.{MeantSet}
 use Rattle.rule_cycle_search.specs.Paths.{HasNoRepeat}
 use Rattle.rule_cycle_search.proofs.Lists.{Contains-first}
-use Rattle.rule_number_lists.specs.NumberLists.{Keeps, list_of}
+use Rattle.rule_number_lists.specs.NumberLists.{Keeps, list_of, lists_kept}
+use Rattle.rule_number_lists.specs.declared.lists.NumberLists.{NumberLists}
 use Rattle.rule_number_lists.specs.NumberPairs.{KeepsPair}
-use Rattle.rule_number_lists.specs.NumberSet.{numbers_in}
+use Rattle.rule_number_lists.specs.NumberSet.{numbers_in, PutsIn}
 use Rattle.rule_number_lists.specs.declared.set.NumberSet.{NumberSet}
 use Rattle.rule_number_lists.proofs.Standing.{in_map, of_map}
 use Rattle.rule_number_lists.proofs.Few.{in_rest}
-use Rattle.rule_number_lists.proofs.Sets.{numbers_once}
+use Rattle.rule_number_lists.proofs.Sets.{numbers_once, was_there}
 use Rattle.rule_number_lists.proofs.Said.{list_said, unlike_said, apart_said, say_both, pair_said}
-use Rattle.rule_document_definitions.specs.ReadFields.{ReadField, ReadSet, list_read}
+use Rattle.rule_document_definitions.specs.ReadFields.{ReadField, ReadSet, field_read, list_read}
 use Rattle.rule_field_sets.specs.Nodes.{AreSets, HasMember}
 use Rattle.rule_field_sets.specs.Read.{content_at, set_content_at}
 use Rattle.rule_field_sets.specs.declared.member.Member.{Member}
 use Rattle.rule_field_sets.specs.declared.field_sets.FieldSets.{FieldSets}
 use Rattle.rule_field_sets.proofs.Meaning.{content_of_member, content_injective}
-use Rattle.rule_merging.specs.Members.{content_of, contents_of, read_sets, AreMembersOf}
+use Rattle.rule_merging.specs.Members.{field_of, fields_of, content_of, contents_of, read_sets, AreMembersOf}
 use Rattle.rule_merging.specs.Twos.{contents_of_two}
-use Rattle.rule_merging.specs.Counted.{Account, IsWithin, most_members, Meets, Pays}
-use Rattle.rule_merging.specs.Remembered.{Kept, Remembers, LooksAt, Expands}
+use Rattle.rule_merging.specs.Counted.{Account, IsWithin, most_members, Meets, OnlyMeets, Pays}
+use Rattle.rule_merging.specs.Under.{sets_in}
+use Rattle.rule_merging.specs.Remembered.{Kept, kept_of, account_of, Remembers, LooksAt, Expands}
+use Rattle.rule_merging.specs.declared.remembered.Remembered.{Remembered}
 
 abbrev pub number_of : Member → ℕ
 number_of m = m.number
@@ -124,3 +128,67 @@ asks_nothing list old new m e = record { meets = m; spends = omega (arith, e); w
 -- so many steps are
 pub asks_steps : (list : List ReadField) (old new : Account) (steps : ℕ) → Meets list old new → new.spent ≡ old.spent + steps → new.spent ≤ most_members (length new.met) → Pays list old new
 asks_steps list old new steps m e within = record { meets = m; spends = omega (arith, e); within = λ h. within }
+
+-- what is so is so where a call fails
+pub where_err : {T E X : Type 0} (r : Result T E) → X → OnErr r X
+where_err (Ok y) h = tt
+where_err (Err y) h = h
+
+-- fields of a list are met, and nothing else changes
+pub meets_only : (old mid : Remembered) (met : NumberSet) (list : List Member) → mid ≡ record old { met = mid.met }
+    → ((n : ℕ) → Contains (numbers_in met) n → Contains (numbers_in old.met) n ⊎ Contains (numbers_of list) n) → length (numbers_in old.met) ≤ length (numbers_in met)
+    → (w : FieldSets) → AreSets w → AreMembersOf w list → OnlyMeets (contents_of list) (account_of w old) (account_of w (record mid { met = met }))
+meets_only old mid met list same only more w are all = (
+  are_met w are old.met met list (account_of w old) (account_of w (record mid { met = met })) all refl refl only more (ap (λ (r : Remembered). r.comparisons) same),
+  ap (λ (r : Remembered). r.spent) same,
+)
+
+-- one more of them is met
+pub one_more_met : (old mid new : List ℕ) (list : List Member) (m : Member) (is_new : Bool) → Contains list m → PutsIn mid m.number is_new new
+    → ((n : ℕ) → Contains mid n → Contains old n ⊎ Contains (numbers_of list) n) → (n : ℕ) → Contains new n → Contains old n ⊎ Contains (numbers_of list) n
+one_more_met old mid new list m is_new among puts only n c = elim (was_there mid new m.number is_new puts n c) [
+  | inl a ↦ only n a
+  | inr e ↦ inr (subst (Contains (numbers_of list)) e (in_map number_of list m among))
+]
+
+-- where fields of a list were met, and nothing else changed
+module _ (old mid : Remembered) (list slice : List Member) (same : mid ≡ record old { met = mid.met }) (is : slice ≡ list)
+    (meets : (w : FieldSets) → AreSets w → AreMembersOf w slice → OnlyMeets (contents_of slice) (account_of w old) (account_of w mid)) where
+  pub kept_same : (w : FieldSets) → kept_of w mid ≡ kept_of w old
+  kept_same w = ap (kept_of w) same
+
+  pub next_same : (w : FieldSets) → sets_in w mid.next ≡ sets_in w old.next
+  next_same w = ap (λ (r : Remembered). sets_in w r.next) same
+
+  spent_same : mid.spent ≡ old.spent
+  spent_same = ap (λ (r : Remembered). r.spent) same
+
+  met_so : (w : FieldSets) → AreSets w → AreMembersOf w list → OnlyMeets (contents_of list) (account_of w old) (account_of w mid)
+  met_so w are all = subst (λ l. OnlyMeets (contents_of l) (account_of w old) (account_of w mid)) is (meets w are (subst (AreMembersOf w) (sym is) all))
+
+  -- nothing is paid
+  pub pays_none : (w : FieldSets) → AreSets w → AreMembersOf w list → Pays (contents_of list) (account_of w old) (account_of w mid)
+  pays_none w are all = let m = met_so w are all in asks_nothing (contents_of list) (account_of w old) (account_of w mid) (m.0) (m.1)
+
+  -- so many steps are, whatever is remembered then
+  module _ (spent steps fields : ℕ) (is_sum : spent ≡ mid.spent + steps) (count : fields ≡ length (numbers_in mid.met)) (within : spent ≤ most_members fields) where
+    abbrev paid_account : FieldSets → NumberLists → Account
+    paid_account w lists = record { lists = map (map (content_at w)) (lists_kept lists); met = map (content_at w) (numbers_in mid.met); spent = spent; comparisons = mid.comparisons }
+
+    pub pays_so : (lists : NumberLists) (w : FieldSets) → AreSets w → AreMembersOf w list → Pays (contents_of list) (account_of w old) (paid_account w lists)
+    pays_so lists w are all =
+        let m = met_so w are all in
+        let enough : spent ≤ most_members (length (map (content_at w) (numbers_in mid.met))) = subst (λ n. spent ≤ most_members n) (count ∙ sym (count_met w mid.met)) within in
+        asks_steps (contents_of list) (account_of w old) (paid_account w lists) steps
+        (meets_as (contents_of list) (account_of w old) (account_of w mid) (paid_account w lists) refl refl (m.0)) (omega (arith, is_sum, spent_same)) enough
+
+    pub paid_so : length list ≤ steps → old.spent + length (contents_of list) ≤ spent
+    paid_so long = omega (arith, is_sum, spent_same, long, length-map (fields_of list) (field_read {P = Place}), length-map list field_of)
+
+  -- a list is remembered
+  pub remembers_so : (lists : NumberLists) (numbers : List ℕ) (is_new : Bool) → numbers ≡ numbers_of slice → Keeps (lists_kept mid.lists) numbers is_new (lists_kept lists)
+      → (w : FieldSets) → AreSets w → AreMembersOf w list → Remembers (kept_of w old) (contents_of list) is_new (record (kept_of w mid) { lists = map (map (content_at w)) (lists_kept lists) })
+  remembers_so lists numbers is_new they keeps w are all =
+      subst (λ k. Remembers k (contents_of list) is_new (record (kept_of w mid) { lists = map (map (content_at w)) (lists_kept lists) })) (kept_same w)
+      (remembers w are (kept_of w mid) (lists_kept mid.lists) (lists_kept lists) numbers (contents_of list) is_new
+      (ap (map (content_at w)) (they ∙ ap numbers_of is) ∙ numbers_read w are list all) keeps)

@@ -11,7 +11,7 @@ use Rattle.rule_merging.proofs.operation.examine_operation.Goals as goal
 
 pub returns-in_err-start-clause-sets : goal.returns-in_err-start-clause-sets
 returns-in_err-start-clause-sets c =
-    sets_for (judged (schema_tree c.args.schema.now)) (document_meant c.args.document.now) c.args.examined.now.sets c.begin.new.examined.sets c.requires c.begin.ensures.begun.are c.begin.ensures.begun.grown
+    sets_for (judged (schema_tree c.args.schema.now)) (document_meant c.args.document.now) c.args.examined.now.sets c.begin.new.examined.sets c.requires.sets c.begin.ensures.begun.are c.begin.ensures.begun.grown
 
 pub returns-in_err-start-clause-counted : goal.returns-in_err-start-clause-counted
 returns-in_err-start-clause-counted c os there counted = begun_counted (document_meant c.args.document.now) os c.args.examined.now c.begin.new.examined c.begin.ensures.begun counted
@@ -22,12 +22,12 @@ returns-in_err-start-clause-grown c = begun_grows c.args.examined.now c.begin.ne
 pub examine_all-requires : goal.examine_all-requires
 examine_all-requires c =
     has_sets _
-    (sets_for (judged (schema_tree c.args.schema.now)) (document_meant c.args.document.now) c.args.examined.now.sets c.begin.new.examined.sets c.requires c.begin.ensures.begun.are c.begin.ensures.begun.grown)
+    (sets_for (judged (schema_tree c.args.schema.now)) (document_meant c.args.document.now) c.args.examined.now.sets c.begin.new.examined.sets c.requires.sets c.begin.ensures.begun.are c.begin.ensures.begun.grown)
     c.in_ok-start.ensures.node.1
 
 pub returns-in_err-left-clause-sets : goal.returns-in_err-left-clause-sets
 returns-in_err-left-clause-sets c =
-    sets_for (judged (schema_tree c.args.schema.now)) (document_meant c.args.document.now) c.args.examined.now.sets c.begin.new.examined.sets c.requires c.begin.ensures.begun.are c.begin.ensures.begun.grown
+    sets_for (judged (schema_tree c.args.schema.now)) (document_meant c.args.document.now) c.args.examined.now.sets c.begin.new.examined.sets c.requires.sets c.begin.ensures.begun.are c.begin.ensures.begun.grown
 
 pub returns-in_err-left-clause-counted : goal.returns-in_err-left-clause-counted
 returns-in_err-left-clause-counted c =
@@ -49,12 +49,12 @@ returns-in_err-left-clause-grown c =
 pub examine_all-requires-2 : goal.examine_all-requires-2
 examine_all-requires-2 c =
     has_sets _
-    (sets_for (judged (schema_tree c.args.schema.now)) (document_meant c.args.document.now) c.args.examined.now.sets c.begin.new.examined.sets c.requires c.begin.ensures.begun.are c.begin.ensures.begun.grown)
+    (sets_for (judged (schema_tree c.args.schema.now)) (document_meant c.args.document.now) c.args.examined.now.sets c.begin.new.examined.sets c.requires.sets c.begin.ensures.begun.are c.begin.ensures.begun.grown)
     c.in_ok-start.ensures.node.1
 
 pub returns-in_err-too-clause-sets : goal.returns-in_err-too-clause-sets
 returns-in_err-too-clause-sets c =
-    sets_for (judged (schema_tree c.args.schema.now)) (document_meant c.args.document.now) c.args.examined.now.sets c.begin.new.examined.sets c.requires c.begin.ensures.begun.are c.begin.ensures.begun.grown
+    sets_for (judged (schema_tree c.args.schema.now)) (document_meant c.args.document.now) c.args.examined.now.sets c.begin.new.examined.sets c.requires.sets c.begin.ensures.begun.are c.begin.ensures.begun.grown
 
 pub returns-in_err-too-clause-counted : goal.returns-in_err-too-clause-counted
 returns-in_err-too-clause-counted c =
@@ -75,7 +75,7 @@ returns-in_err-too-clause-grown c =
 
 pub returns-then-left-clause-sets : goal.returns-then-left-clause-sets
 returns-then-left-clause-sets c =
-    sets_for (judged (schema_tree c.args.schema.now)) (document_meant c.args.document.now) c.args.examined.now.sets c.begin.new.examined.sets c.requires c.begin.ensures.begun.are c.begin.ensures.begun.grown
+    sets_for (judged (schema_tree c.args.schema.now)) (document_meant c.args.document.now) c.args.examined.now.sets c.begin.new.examined.sets c.requires.sets c.begin.ensures.begun.are c.begin.ensures.begun.grown
 
 pub returns-then-left-clause-counted : goal.returns-then-left-clause-counted
 returns-then-left-clause-counted c =
@@ -109,7 +109,7 @@ returns-then-left-clause-examined c =
 
 pub returns-else-left-clause-sets : goal.returns-else-left-clause-sets
 returns-else-left-clause-sets c =
-    sets_for (judged (schema_tree c.args.schema.now)) (document_meant c.args.document.now) c.args.examined.now.sets c.begin.new.examined.sets c.requires c.begin.ensures.begun.are c.begin.ensures.begun.grown
+    sets_for (judged (schema_tree c.args.schema.now)) (document_meant c.args.document.now) c.args.examined.now.sets c.begin.new.examined.sets c.requires.sets c.begin.ensures.begun.are c.begin.ensures.begun.grown
 
 pub returns-else-left-clause-counted : goal.returns-else-left-clause-counted
 returns-else-left-clause-counted c =
