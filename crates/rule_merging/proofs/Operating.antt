@@ -1,5 +1,6 @@
 -- What both passes over the lists of an operation come to, after its set came to those of the document.
-use Rattle.std.proofs.Common.{◌≡◌, ◌⊎◌, ◌∙◌, ℕ, Bool, true, false, ◌||◌, Result, Ok, Err, List, [], ◌∷◌, ◌++◌, Contains, refl, sym, ap, subst, append_assoc, inl, inr, arith}
+use Rattle.std.proofs.Common.{◌≡◌, ◌⊎◌, ◌∙◌, ℕ, Bool, true, false, ◌||◌, Result, Ok, Err, List, [], ◌∷◌, ◌++◌, ◌+◌, ◌*◌, ◌≤◌, map, length, Contains, refl, sym, ap, subst, append_assoc, inl, inr, arith}
+use Rattle.std.proofs.lemmas.List.{length-append, length-map}
 use Rattle.std.proofs.lemmas.List.Elements.{Contains-append_cases}
 use Rattle.std.specs.Result.{OnOk, IfOk}
 use Rattle.graphql_names.specs.Placed.{Place}
@@ -16,7 +17,8 @@ use Rattle.rule_document_definitions.specs.DocumentFaults.{Broken}
 use Rattle.rule_document_definitions.specs.ReadFields.{ReadField}
 use Rattle.rule_document_definitions.proofs.ReadFacts.{read_fields_merge}
 use Rattle.rule_field_sets.specs.Nodes.{AreSets, SetsGrow, HasAllStarts, IsNodeOf, set_nodes, schema_in}
-use Rattle.rule_field_sets.specs.Read.{set_at}
+use Rattle.rule_number_lists.specs.NumberPairs.{pairs_kept}
+use Rattle.rule_field_sets.specs.Read.{set_at, set_content_at}
 use Rattle.rule_field_sets.specs.declared.field_sets.FieldSets.{FieldSets}
 use Rattle.rule_field_sets.proofs.Kept.{sets_grow_same}
 use Rattle.rule_field_sets.proofs.Meaning.{set_of_node}
@@ -26,10 +28,10 @@ use Rattle.rule_merging.specs.declared.examination.Examination.{Examination}
 use Rattle.rule_merging.specs.declared.operation.Examined.{Examined}
 use Rattle.rule_merging.specs.declared.remembered.Remembered.{Remembered}
 use Rattle.rule_merging.specs.Counted.{Account, AreListed, Grows}
-use Rattle.rule_merging.specs.Remembered.{Kept, remembered, account_of, kept_of}
+use Rattle.rule_merging.specs.Remembered.{Kept, both_in, remembered, looked_in, account_of, kept_of}
 use Rattle.rule_merging.specs.Examined.{AreSettled, AllExamined, HasSets, schema_of, document_of, sets_of}
-use Rattle.rule_merging.specs.Verdict.{AreSetsFor, Begins, OnlyGrow, OperationExamined, IsCounted, IsCountedIn, AreKnown, account_in, without_pairs}
-use Rattle.rule_merging.proofs.Counting.{only_grow, shapes_counted}
+use Rattle.rule_merging.specs.Verdict.{AreSetsFor, Begins, OnlyGrow, OperationExamined, IsCounted, IsCountedIn, AreKnown, LooksAtFew, sets_numbered, account_in, without_pairs}
+use Rattle.rule_merging.proofs.Counting.{only_grow, shapes_counted, few_pairs}
 use Rattle.rule_merging.proofs.Examining.{left_empty, right_empty}
 use Rattle.rule_merging.proofs.Known.{kept_stays, account_stays}
 
@@ -117,7 +119,25 @@ module _ (d : MeantDocument Place) (o : MeantOperation Place) (old mid : Examine
   pub then_grown : OnlyGrow (account_in old).lists (account_in old).comparisons (account_of mid.sets new).lists (account_of mid.sets new).comparisons
   then_grown = begun_grows old mid (account_of mid.sets new) begun (only_grow d (λ ps. AreListed d ps ((start ∷ []) ∷ [])) Shapes (account_in mid) (account_of mid.sets new) grows)
 
+-- ---- pairs of sets
+
+-- where what was examined has numbers of these sets, at most so many pairs of them were looked at
+pub looks_few : (e : Examined) → AreKnown e → LooksAtFew e
+looks_few e known =
+    let n = sets_numbered e in
+    let shapes : 2 * length (pairs_kept e.shapes.looked) ≤ n * (n + 1) = few_pairs e.shapes.looked n known.0.looked in
+    let selections : 2 * length (pairs_kept e.selections.looked) ≤ n * (n + 1) = few_pairs e.selections.looked n known.1.looked in
+    let long : length (looked_in e.sets e.shapes) ≡ length (pairs_kept e.shapes.looked) = length-map (pairs_kept e.shapes.looked) (λ p. map (set_content_at e.sets) (both_in p)) in
+    let long_too : length (looked_in e.sets e.selections) ≡ length (pairs_kept e.selections.looked) = length-map (pairs_kept e.selections.looked) (λ p. map (set_content_at e.sets) (both_in p)) in
+    let whole = length-append (looked_in e.sets e.shapes) (looked_in e.sets e.selections) in
+    omega (arith, shapes, selections, long, long_too, whole)
+
 -- ---- both passes
+
+-- what is left of either
+pub either_left : {E : Type 0} (r : Result Bool E) (left too : Bool) (P : Bool → Type 0) → IfOk r (λ some. some ≡ (left || too)) → P (left || too) → IfOk r P
+either_left (Ok b) left too P is p = subst P (sym is) p
+either_left (Err e) left too P is p = tt
 
 module _ (s : Judged) (d : MeantDocument Place) (o : MeantOperation Place) (old mid : Examined) (begun : Begins old mid) (shapes selections : Remembered) where
   -- what was examined after both
@@ -136,15 +156,9 @@ module _ (s : Judged) (d : MeantDocument Place) (o : MeantOperation Place) (old 
   }
 
   -- the same of breaches as they stand before and after
-  pub operation_step : (told half last : List (Broken Place)) (left too whole : Bool)
+  pub operation_step : (told half last : List (Broken Place)) (left too : Bool)
       → ((added : List (Broken Place)) × ((half ≡ told ++ added) × AllExamined Shapes s d o (kept_of mid.sets mid.shapes) (kept_of mid.sets shapes) added left))
       → ((added : List (Broken Place)) × ((last ≡ half ++ added) × AllExamined Selections s d o (kept_of mid.sets mid.selections) (kept_of mid.sets selections) added too))
-      → whole ≡ (left || too)
-      → (added : List (Broken Place)) × ((last ≡ told ++ added) × OperationExamined s d o old after added whole)
-  operation_step told half last left too whole (a, (is, first)) (b, (is_too, later)) e = (
-    a ++ b,
-    (
-      is_too ∙ ap (λ l. l ++ b) is ∙ append_assoc told a b,
-      subst (OperationExamined s d o old after (a ++ b)) (sym e) (both_examined a b left too first later),
-    ),
-  )
+      → (added : List (Broken Place)) × ((last ≡ told ++ added) × OperationExamined s d o old after added (left || too))
+  operation_step told half last left too (a, (is, first)) (b, (is_too, later)) =
+      (a ++ b, (is_too ∙ ap (λ l. l ++ b) is ∙ append_assoc told a b, both_examined a b left too first later))

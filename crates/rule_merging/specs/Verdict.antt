@@ -1,5 +1,5 @@
 -- What the examination of an operation comes to.
-use Rattle.std.specs.Prelude.{◌≡◌, ◌≤◌, ◌++◌, ℕ, Bool, true, false, List, [], length, Contains}
+use Rattle.std.specs.Prelude.{◌≡◌, ◌≤◌, ◌+◌, ◌*◌, ◌++◌, ℕ, Bool, true, false, List, [], length, Contains}
 use Rattle.graphql_names.specs.Placed.{Place}
 use Rattle.document_meaning.specs.MeantTree.{MeantOperation, MeantDocument}
 use Rattle.rule_definitions.specs.Judged.{Judged}
@@ -66,6 +66,17 @@ OnlyGrow old before new after = ((list : List ReadField) → Contains old list �
 -- the pairs of sets that were looked at, in both passes
 abbrev pub pairs_looked : Examined → List (List ReadSet)
 pairs_looked e = looked_in e.sets e.shapes ++ looked_in e.sets e.selections
+
+-- how many numbers sets have: one for each content of a set of these operations and of fragments, at any depth
+abbrev pub sets_numbered : Examined → ℕ
+sets_numbered e = length (tables_of e.sets.numbers).sets
+
+-- at most so many pairs of so many sets are looked at: in each pass each two once, and each with itself
+abbrev pub AreFewPairs : List (List ReadSet) → ℕ → Type 0
+AreFewPairs pairs sets = length pairs ≤ sets * (sets + 1)
+
+abbrev pub LooksAtFew : Examined → Type 0
+LooksAtFew e = AreFewPairs (pairs_looked e) (sets_numbered e)
 
 -- the sets are those of a document under a schema, as nodes with right numbers
 pub record AreSetsFor (s : Judged) (d : MeantDocument Place) (w : FieldSets) : Type 0 where

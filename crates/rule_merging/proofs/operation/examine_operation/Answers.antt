@@ -1,12 +1,11 @@
-use Rattle.std.proofs.Common.{◌∷◌, [], ◌||◌, sym, ap, ◌∙◌}
 use Rattle.rule_document_ground.specs.in_schema.SchemaOf.{schema_tree}
 use Rattle.rule_document_ground.specs.in_typing.DocumentView.{document_meant, operation_meant}
 use Rattle.rule_definitions.specs.Judged.{judged}
 use Rattle.rule_document_ground.specs.Broken.{brokens_of}
 use Rattle.rule_field_sets.specs.Read.{set_at}
-use Rattle.rule_merging.specs.Verdict.{account_in}
+use Rattle.rule_merging.specs.Verdict.{account_in, ExaminesOperation}
 use Rattle.rule_merging.proofs.Counting.{starting_listed}
-use Rattle.rule_merging.proofs.Operating.{sets_for, has_sets, starts, begun_counted, begun_grows, nothing_grows, then_counted, then_grown, operation_step}
+use Rattle.rule_merging.proofs.Operating.{sets_for, has_sets, starts, begun_counted, begun_grows, nothing_grows, then_counted, then_grown, either_left, after, operation_step}
 use Rattle.rule_merging.proofs.operation.examine_operation.Goals as goal
 
 pub returns-in_err-start-clause-sets : goal.returns-in_err-start-clause-sets
@@ -21,9 +20,11 @@ returns-in_err-start-clause-grown c = begun_grows c.args.examined.now c.begin.ne
 
 pub examine_all-requires : goal.examine_all-requires
 examine_all-requires c =
-    has_sets _
-    (sets_for (judged (schema_tree c.args.schema.now)) (document_meant c.args.document.now) c.args.examined.now.sets c.begin.new.examined.sets c.requires.sets c.begin.ensures.begun.are c.begin.ensures.begun.grown)
-    c.in_ok-start.ensures.node.1
+    record {
+      sets = has_sets _
+          (sets_for (judged (schema_tree c.args.schema.now)) (document_meant c.args.document.now) c.args.examined.now.sets c.begin.new.examined.sets c.requires.sets c.begin.ensures.begun.are c.begin.ensures.begun.grown)
+          c.in_ok-start.ensures.node.1;
+    }
 
 pub returns-in_err-left-clause-sets : goal.returns-in_err-left-clause-sets
 returns-in_err-left-clause-sets c =
@@ -48,9 +49,11 @@ returns-in_err-left-clause-grown c =
 
 pub examine_all-requires-2 : goal.examine_all-requires-2
 examine_all-requires-2 c =
-    has_sets _
-    (sets_for (judged (schema_tree c.args.schema.now)) (document_meant c.args.document.now) c.args.examined.now.sets c.begin.new.examined.sets c.requires.sets c.begin.ensures.begun.are c.begin.ensures.begun.grown)
-    c.in_ok-start.ensures.node.1
+    record {
+      sets = has_sets _
+          (sets_for (judged (schema_tree c.args.schema.now)) (document_meant c.args.document.now) c.args.examined.now.sets c.begin.new.examined.sets c.requires.sets c.begin.ensures.begun.are c.begin.ensures.begun.grown)
+          c.in_ok-start.ensures.node.1;
+    }
 
 pub returns-in_err-too-clause-sets : goal.returns-in_err-too-clause-sets
 returns-in_err-too-clause-sets c =
@@ -73,12 +76,12 @@ returns-in_err-too-clause-grown c =
     let is = starts c.args.operation.now c.content.result.now start c.content.ensures c.in_ok-start.ensures.node.0 in
     then_grown d o c.args.examined.now c.begin.new.examined c.begin.ensures.begun start is c.examine_all.new.examined c.examine_all.ensures.counted
 
-pub returns-then-left-clause-sets : goal.returns-then-left-clause-sets
-returns-then-left-clause-sets c =
+pub returns-clause-sets : goal.returns-clause-sets
+returns-clause-sets c =
     sets_for (judged (schema_tree c.args.schema.now)) (document_meant c.args.document.now) c.args.examined.now.sets c.begin.new.examined.sets c.requires.sets c.begin.ensures.begun.are c.begin.ensures.begun.grown
 
-pub returns-then-left-clause-counted : goal.returns-then-left-clause-counted
-returns-then-left-clause-counted c =
+pub returns-clause-counted : goal.returns-clause-counted
+returns-clause-counted c =
     let d = document_meant c.args.document.now in
     let o = operation_meant c.args.operation.now in
     let start = set_at c.begin.new.examined.sets c.in_ok-start.start in
@@ -86,57 +89,27 @@ returns-then-left-clause-counted c =
     then_counted d o c.args.examined.now c.begin.new.examined c.begin.ensures.begun start is c.examine_all.new.examined c.examine_all.ensures.counted
     (λ os there. starting_listed d os o start there is)
 
-pub returns-then-left-clause-grown : goal.returns-then-left-clause-grown
-returns-then-left-clause-grown c =
+pub returns-clause-grown : goal.returns-clause-grown
+returns-clause-grown c =
     let d = document_meant c.args.document.now in
     let o = operation_meant c.args.operation.now in
     let start = set_at c.begin.new.examined.sets c.in_ok-start.start in
     let is = starts c.args.operation.now c.content.result.now start c.content.ensures c.in_ok-start.ensures.node.0 in
     then_grown d o c.args.examined.now c.begin.new.examined c.begin.ensures.begun start is c.examine_all.new.examined c.examine_all.ensures.counted
 
-pub returns-then-left-clause-examined : goal.returns-then-left-clause-examined
-returns-then-left-clause-examined c =
+pub returns-clause-examined : goal.returns-clause-examined
+returns-clause-examined c =
     let s = judged (schema_tree c.args.schema.now) in
     let d = document_meant c.args.document.now in
     let o = operation_meant c.args.operation.now in
-    let start = set_at c.begin.new.examined.sets c.in_ok-start.start in
+    let old = c.args.examined.now in
+    let mid = c.begin.new.examined in
+    let shapes = c.examine_all.new.examined in
+    let selections = c.examine_all-2.new.examined in
+    let start = set_at mid.sets c.in_ok-start.start in
     let is = starts c.args.operation.now c.content.result.now start c.content.ensures c.in_ok-start.ensures.node.0 in
-    operation_step s d o c.args.examined.now c.begin.new.examined c.begin.ensures.begun c.examine_all.new.examined c.examine_all-2.new.examined
-    (brokens_of c.args.breaches.now) (brokens_of c.examine_all.new.breaches) (brokens_of c.examine_all-2.new.breaches) c.in_ok-left.left c.in_ok-too.too c.in_ok-left.left
-    (c.in_ok-left.ensures.examined o is)
-    (c.in_ok-too.ensures.examined o is)
-    (c.if-left.true ∙ sym (ap (λ b. b || c.in_ok-too.too) c.if-left.true))
-
-pub returns-else-left-clause-sets : goal.returns-else-left-clause-sets
-returns-else-left-clause-sets c =
-    sets_for (judged (schema_tree c.args.schema.now)) (document_meant c.args.document.now) c.args.examined.now.sets c.begin.new.examined.sets c.requires.sets c.begin.ensures.begun.are c.begin.ensures.begun.grown
-
-pub returns-else-left-clause-counted : goal.returns-else-left-clause-counted
-returns-else-left-clause-counted c =
-    let d = document_meant c.args.document.now in
-    let o = operation_meant c.args.operation.now in
-    let start = set_at c.begin.new.examined.sets c.in_ok-start.start in
-    let is = starts c.args.operation.now c.content.result.now start c.content.ensures c.in_ok-start.ensures.node.0 in
-    then_counted d o c.args.examined.now c.begin.new.examined c.begin.ensures.begun start is c.examine_all.new.examined c.examine_all.ensures.counted
-    (λ os there. starting_listed d os o start there is)
-
-pub returns-else-left-clause-grown : goal.returns-else-left-clause-grown
-returns-else-left-clause-grown c =
-    let d = document_meant c.args.document.now in
-    let o = operation_meant c.args.operation.now in
-    let start = set_at c.begin.new.examined.sets c.in_ok-start.start in
-    let is = starts c.args.operation.now c.content.result.now start c.content.ensures c.in_ok-start.ensures.node.0 in
-    then_grown d o c.args.examined.now c.begin.new.examined c.begin.ensures.begun start is c.examine_all.new.examined c.examine_all.ensures.counted
-
-pub returns-else-left-clause-examined : goal.returns-else-left-clause-examined
-returns-else-left-clause-examined c =
-    let s = judged (schema_tree c.args.schema.now) in
-    let d = document_meant c.args.document.now in
-    let o = operation_meant c.args.operation.now in
-    let start = set_at c.begin.new.examined.sets c.in_ok-start.start in
-    let is = starts c.args.operation.now c.content.result.now start c.content.ensures c.in_ok-start.ensures.node.0 in
-    operation_step s d o c.args.examined.now c.begin.new.examined c.begin.ensures.begun c.examine_all.new.examined c.examine_all-2.new.examined
-    (brokens_of c.args.breaches.now) (brokens_of c.examine_all.new.breaches) (brokens_of c.examine_all-2.new.breaches) c.in_ok-left.left c.in_ok-too.too c.in_ok-too.too
-    (c.in_ok-left.ensures.examined o is)
-    (c.in_ok-too.ensures.examined o is)
-    (sym (ap (λ b. b || c.in_ok-too.too) c.if-left.false))
+    let left = c.in_ok-left.left in
+    let too = c.in_ok-too.too in
+    either_left c.left_in_either.result left too (ExaminesOperation s d o old (after old mid shapes selections) c.args.breaches.now c.examine_all-2.new.breaches) c.left_in_either.ensures.left
+    (operation_step s d o old mid c.begin.ensures.begun shapes selections (brokens_of c.args.breaches.now) (brokens_of c.examine_all.new.breaches) (brokens_of c.examine_all-2.new.breaches) left too
+    (c.in_ok-left.ensures.examined o is) (c.in_ok-too.ensures.examined o is))
