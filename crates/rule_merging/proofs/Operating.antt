@@ -139,13 +139,13 @@ pub either_left : {E : Type 0} (r : Result Bool E) (left too : Bool) (P : Bool �
 either_left (Ok b) left too P is p = subst P (sym is) p
 either_left (Err e) left too P is p = tt
 
-module _ (s : Judged) (d : MeantDocument Place) (o : MeantOperation Place) (old mid : Examined) (begun : Begins old mid) (shapes selections : Remembered) where
-  -- what was examined after both
-  abbrev pub after : Examined
-  after = record { sets = mid.sets; shapes = shapes; selections = selections }
+-- what was examined after them
+abbrev pub after : Examined → Remembered → Remembered → Examined
+after mid shapes selections = record { sets = mid.sets; shapes = shapes; selections = selections }
 
+module _ (s : Judged) (d : MeantDocument Place) (o : MeantOperation Place) (old mid : Examined) (begun : Begins old mid) (shapes selections : Remembered) where
   both_examined : (one two : List (Broken Place)) (left too : Bool) → AllExamined Shapes s d o (kept_of mid.sets mid.shapes) (kept_of mid.sets shapes) one left
-      → AllExamined Selections s d o (kept_of mid.sets mid.selections) (kept_of mid.sets selections) two too → OperationExamined s d o old after (one ++ two) (left || too)
+      → AllExamined Selections s d o (kept_of mid.sets mid.selections) (kept_of mid.sets selections) two too → OperationExamined s d o old (after mid shapes selections) (one ++ two) (left || too)
   both_examined one two left too first later = record {
     right = λ fault c. elim (Contains-append_cases one two fault c) [ inl a ↦ first.right fault a | inr b ↦ later.right fault b ];
     settled = λ e none both.

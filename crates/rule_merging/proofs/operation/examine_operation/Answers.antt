@@ -110,6 +110,6 @@ returns-clause-examined c =
     let is = starts c.args.operation.now c.content.result.now start c.content.ensures c.in_ok-start.ensures.node.0 in
     let left = c.in_ok-left.left in
     let too = c.in_ok-too.too in
-    either_left c.left_in_either.result left too (ExaminesOperation s d o old (after old mid shapes selections) c.args.breaches.now c.examine_all-2.new.breaches) c.left_in_either.ensures.left
+    either_left c.left_in_either.result left too (ExaminesOperation s d o old (after mid shapes selections) c.args.breaches.now c.examine_all-2.new.breaches) c.left_in_either.ensures.left
     (operation_step s d o old mid c.begin.ensures.begun shapes selections (brokens_of c.args.breaches.now) (brokens_of c.examine_all.new.breaches) (brokens_of c.examine_all-2.new.breaches) left too
     (c.in_ok-left.ensures.examined o is) (c.in_ok-too.ensures.examined o is))
