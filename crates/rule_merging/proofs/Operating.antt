@@ -159,6 +159,6 @@ module _ (s : Judged) (d : MeantDocument Place) (o : MeantOperation Place) (old 
   pub operation_step : (told half last : List (Broken Place)) (left too : Bool)
       → ((added : List (Broken Place)) × ((half ≡ told ++ added) × AllExamined Shapes s d o (kept_of mid.sets mid.shapes) (kept_of mid.sets shapes) added left))
       → ((added : List (Broken Place)) × ((last ≡ half ++ added) × AllExamined Selections s d o (kept_of mid.sets mid.selections) (kept_of mid.sets selections) added too))
-      → (added : List (Broken Place)) × ((last ≡ told ++ added) × OperationExamined s d o old after added (left || too))
+      → (added : List (Broken Place)) × ((last ≡ told ++ added) × OperationExamined s d o old (after mid shapes selections) added (left || too))
   operation_step told half last left too (a, (is, first)) (b, (is_too, later)) =
       (a ++ b, (is_too ∙ ap (λ l. l ++ b) is ∙ append_assoc told a b, both_examined a b left too first later))
