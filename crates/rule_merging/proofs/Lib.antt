@@ -10,14 +10,13 @@ pub mod Sets
 pub mod Under
 pub mod NodeFacts
 pub mod Walking
-pub mod Selected
+pub mod Passing
+pub mod Known
 pub mod PairedFacts
 pub mod Bare
-pub mod Passing
 pub mod Examining
 pub mod Remembering
 pub mod Looking
-pub mod Known
 pub mod Pairing
 pub mod PairStep
 pub mod OpenedNodes
@@ -25,4 +24,4 @@ pub mod Counting
 pub mod Written
 pub mod Operating
 pub mod Behind
-pub mod InTurn
+pub mod Verdicts

@@ -7,14 +7,13 @@ use Rattle.rule_document_ground.specs.in_schema.SchemaOf.{schema_tree}
 use Rattle.document_meaning.specs.MeantTree.{MeantOperation, MeantDocument}
 use Rattle.rule_document_ground.specs.in_typing.DocumentView.{document_meant}
 use Rattle.rule_definitions.specs.Judged.{Judged, judged}
-use Rattle.rule_document_definitions.specs.Merging.{FieldsMerge, SameKey}
+use Rattle.rule_document_definitions.specs.Merging.{FieldsMerge}
 use Rattle.rule_document_definitions.specs.Selected.{Standing, as_field, all_selections, operations}
-use Rattle.rule_document_definitions.specs.ReadFields.{field_read}
-use Rattle.rule_document_definitions.specs.ReadFields.{ReadField, ReadSameKey, ReadStarts, AreReadShapesStanding}
+use Rattle.rule_document_definitions.specs.ReadFields.{ReadField, ReadSet, field_read, ReadSameKey, ReadStarts, AreReadShapesStanding}
 use Rattle.rule_document_definitions.specs.Settled.{StandWhere, StartsStand}
 use Rattle.rule_number_lists.specs.NumberLists.{length_above_two}
 use Rattle.rule_merging.specs.Counted.{IsLast, IsCountedBy, IsPaidBy, most_members, most_comparisons}
-use Rattle.rule_merging.specs.Verdict.{AreSetsFor, account_in, lists_examined, comparisons_of, OnlyGrow}
+use Rattle.rule_merging.specs.Verdict.{AreSetsFor, account_in, lists_examined, comparisons_of, pairs_looked, sets_numbered, AreFewPairs, OnlyGrow}
 use Rattle.graphql_faults.specs.DetailsTree.{Telling}
 use Rattle.graphql_faults.specs.DetailsView.{diagnostics_of}
 use Rattle.graphql_faults.specs.declared.diagnostic_list.DiagnosticList.{DiagnosticList}
@@ -32,6 +31,9 @@ pub record Merger : Type 0 where
   pub met : List ReadField
   pub paid : ℕ
   pub comparisons : ℕ
+  -- the pairs of sets that were looked at together, and how many contents of sets were met
+  pub pairs : List (List ReadSet)
+  pub sets : ℕ
 
 abbrev pub merger_of : FieldsInSetCanMerge → Merger
 merger_of m = record {
@@ -42,6 +44,8 @@ merger_of m = record {
   met = (account_in m.examined).met;
   paid = (account_in m.examined).spent;
   comparisons = comparisons_of m.examined;
+  pairs = pairs_looked m.examined;
+  sets = sets_numbered m.examined;
 }
 
 -- the selection sets that it has are those of its document under its schema, with right numbers: so from the start, and after each call
@@ -76,6 +80,10 @@ fields_written d = flat_map written (all_selections d)
 abbrev pub ComparesFewInDocument : Merger → Type 0
 ComparesFewInDocument m = IsCountedMerger m
     → (m.comparisons ≤ most_comparisons (length (fields_written m.document))) × (sum (map length_above_two m.lists) ≤ most_members (length (fields_written m.document)))
+
+-- sets are looked at in pairs at most so often as their number says times itself, and once more each, over both passes
+abbrev pub LooksAtFewPairs : Merger → Type 0
+LooksAtFewPairs m = AreFewPairs m.pairs m.sets
 
 -- behind what was told stands only what merging tells of the operation, under the schema and in the document of the value
 abbrev pub MergerTold : Merger → MeantOperation Place → Telling → Telling → Type 0

@@ -1,5 +1,5 @@
 -- What the examination of an operation comes to.
-use Rattle.std.specs.Prelude.{◌≡◌, ◌≤◌, ◌++◌, ℕ, Bool, true, false, List, [], Contains}
+use Rattle.std.specs.Prelude.{◌≡◌, ◌≤◌, ◌+◌, ◌*◌, ◌++◌, ℕ, Bool, true, false, List, [], length, Contains}
 use Rattle.graphql_names.specs.Placed.{Place}
 use Rattle.document_meaning.specs.MeantTree.{MeantOperation, MeantDocument}
 use Rattle.rule_definitions.specs.Judged.{Judged}
@@ -11,11 +11,13 @@ use Rattle.rule_document_definitions.specs.ReadFields.{ReadField, ReadSet, ReadS
 use Rattle.rule_document_definitions.specs.Settled.{StartsStand}
 use Rattle.rule_merging.specs.Counted.{Account, IsCountedBy, IsPaidBy}
 use Rattle.rule_document_ground.specs.Fields.{meant_fragments}
+use Rattle.rule_field_sets.specs.Numbered.{tables_of}
 use Rattle.rule_field_sets.specs.Nodes.{AreSets, SetsGrow, schema_in}
 use Rattle.rule_field_sets.specs.declared.field_sets.FieldSets.{FieldSets}
-use Rattle.rule_merging.specs.Remembered.{remembered, looked_in, account_of, kept_of}
+use Rattle.rule_merging.specs.Remembered.{Kept, remembered, looked_in, account_of, kept_of, IsKnown}
 use Rattle.rule_merging.specs.Examined.{Breaches, StandTogether, AreSettled}
 use Rattle.rule_merging.specs.declared.operation.Examined.{Examined}
+use Rattle.rule_merging.specs.declared.remembered.Remembered.{Remembered}
 use Rattle.rule_merging.specs.declared.pass.Pass.TheVariants.{Shapes, Selections}
 
 module _ (s : Judged) (d : MeantDocument Place) where
@@ -65,15 +67,38 @@ OnlyGrow old before new after = ((list : List ReadField) → Contains old list �
 abbrev pub pairs_looked : Examined → List (List ReadSet)
 pairs_looked e = looked_in e.sets e.shapes ++ looked_in e.sets e.selections
 
+-- how many numbers sets have: one for each content of a set of these operations and of fragments, at any depth
+abbrev pub sets_numbered : Examined → ℕ
+sets_numbered e = length (tables_of e.sets.numbers).sets
+
+-- at most so many pairs of so many sets are looked at: in each pass each two once, and each with itself
+abbrev pub AreFewPairs : List (List ReadSet) → ℕ → Type 0
+AreFewPairs pairs sets = length pairs ≤ sets * (sets + 1)
+
+abbrev pub LooksAtFew : Examined → Type 0
+LooksAtFew e = AreFewPairs (pairs_looked e) (sets_numbered e)
+
 -- the sets are those of a document under a schema, as nodes with right numbers
 pub record AreSetsFor (s : Judged) (d : MeantDocument Place) (w : FieldSets) : Type 0 where
   pub are : AreSets w
   pub schema : schema_in w ≡ s
   pub fragments : meant_fragments w.fragments.now ≡ d.fragments
 
+-- what was examined, without the pairs of sets that are left: these are nodes, and nothing that is settled speaks of them
+abbrev pub without_pairs : Kept → Kept
+without_pairs k = record k { pairs = [] }
+
+-- what was examined has numbers of these sets
+abbrev pub IsKnownIn : FieldSets → Remembered → Type 0
+IsKnownIn w r = IsKnown (length (tables_of w.numbers).fields) (length (tables_of w.numbers).sets) r
+
+abbrev pub AreKnown : Examined → Type 0
+AreKnown e = IsKnownIn e.sets e.shapes × IsKnownIn e.sets e.selections
+
 -- the sets grow, and what was examined means what it meant
 pub record Begins (old new : Examined) : Type 0 where
   pub are : AreSets new.sets
   pub grown : SetsGrow old.sets new.sets
-  pub shapes : (kept_of new.sets new.shapes ≡ kept_of old.sets old.shapes) × (account_of new.sets new.shapes ≡ account_of old.sets old.shapes)
-  pub selections : kept_of new.sets new.selections ≡ kept_of old.sets old.selections
+  pub shapes : without_pairs (kept_of new.sets new.shapes) ≡ without_pairs (kept_of old.sets old.shapes)
+  pub account : account_in new ≡ account_in old
+  pub selections : without_pairs (kept_of new.sets new.selections) ≡ without_pairs (kept_of old.sets old.selections)

@@ -44,7 +44,7 @@ impl Drop for FieldsInSetCanMerge<'_> {
 }
 
 impl<'doc> FieldsInSetCanMerge<'doc> {
-    ghost use Rattle.rule_merging.specs.Merger.{merger_of, IsReady, IsCountedMerger, ComparesFew, ComparesFewInDocument, OnlyGrows, MergerTold, SilenceMeansMerging, KeepsClosed, AddsNothing, StaysCleanInSilence, StaysCounted};
+    ghost use Rattle.rule_merging.specs.Merger.{merger_of, IsReady, IsCountedMerger, ComparesFew, ComparesFewInDocument, LooksAtFewPairs, OnlyGrows, MergerTold, SilenceMeansMerging, KeepsClosed, AddsNothing, StaysCleanInSilence, StaysCounted};
 
     /// A clean value, for the operations of the document.
     pub fn new(
@@ -106,6 +106,7 @@ impl<'doc> FieldsInSetCanMerge<'doc> {
         ensures document { (merger_of self.new).document ≡ (merger_of self.old).document }
         ensures counted { StaysCounted (merger_of self.old) (merger_of self.new) (operation_meant operation.now) }
         ensures grown { OnlyGrows (merger_of self.old) (merger_of self.new) }
+        ensures pairs { OnOk result (LooksAtFewPairs (merger_of self.new)) }
     {
         let was_clean = self.is_clean;
         self.is_clean = false;

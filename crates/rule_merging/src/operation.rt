@@ -1,12 +1,15 @@
 //! The examination of an operation, in both passes.
-ghost use Rattle.std.specs.Prelude.{◌≡◌, List, IfOk, []};
+ghost use Rattle.std.specs.Prelude.{◌≡◌, ◌||◌, List, IfOk, OnOk, IsTrue, []};
 ghost use Rattle.rule_document_ground.specs.in_schema.SchemaOf.{schema_tree};
 ghost use Rattle.rule_definitions.specs.Judged.{judged};
 ghost use Rattle.graphql_names.specs.Placed.{Place};
-ghost use Rattle.document_meaning.specs.MeantTree.{MeantOperation, MeantDocument};
+ghost use Rattle.document_meaning.specs.MeantTree.{MeantOperation, MeantDocument, meant_of_set};
 ghost use Rattle.rule_document_ground.specs.in_typing.DocumentView.{document_meant, operation_meant};
 ghost use Rattle.rule_definitions.specs.Judged.{Judged};
-ghost use Rattle.rule_merging.specs.Verdict.{comparisons_of, lists_examined, AreBothSettled, IsCounted, StaysCountedIn, OnlyGrow, ExaminesOperation};
+ghost use Rattle.document_typed_selections.specs.TypedTree.{typed_set_tree};
+ghost use Rattle.rule_field_sets.specs.Nodes.{AreSets, HasAllStarts};
+ghost use Rattle.rule_field_sets.specs.Read.{set_at};
+ghost use Rattle.rule_merging.specs.Verdict.{comparisons_of, lists_examined, AreBothSettled, IsCounted, StaysCountedIn, OnlyGrow, ExaminesOperation, AreSetsFor, AreKnown, LooksAtFew, Begins};
 
 use crate::examination::Examination;
 use crate::remembered::Remembered;
@@ -62,6 +65,14 @@ impl<'doc> Examined<'doc> {
     {
         self.shapes.comparisons
     }
+
+    /// Whether all that was examined has numbers of these sets.
+    fn is_known(&self) -> bool
+        ensures { IsTrue result → AreKnown self.now }
+    {
+        let (fields, sets) = self.sets.counts();
+        self.shapes.is_known(fields, sets) && self.selections.is_known(fields, sets)
+    }
 }
 
 /// Adds the set of an operation to those of the document, and gives its node. What was examined means what it meant.
@@ -73,12 +84,23 @@ fn begin<'doc>(
     ensures begun { Begins examined.old examined.new }
     ensures node { IfOk result (λ n. (set_at examined.new.sets n ≡ meant_of_set (typed_set_tree set.now)) × HasAllStarts examined.new.sets) }
 {
-    let (fields, sets) = examined.sets.counts();
     // what stands there are numbers of these sets; the prover is told so
-    if !(examined.shapes.is_known(fields, sets) && examined.selections.is_known(fields, sets)) {
+    if !examined.is_known() {
         return Err(AllocError);
     }
     examined.sets.add_set(set)
+}
+
+/// Whether fields are left below 128 levels in one of the passes. Numbers of other sets stand nowhere, else it fails.
+fn left_in_either(examined: &Examined<'_>, left: bool, too: bool) -> Result<bool, AllocError>
+    ensures left { IfOk result (λ some. some ≡ (left || too)) }
+    ensures pairs { OnOk result (LooksAtFew examined.now) }
+{
+    // what stands there are numbers of these sets; the prover is told so
+    if !examined.is_known() {
+        return Err(AllocError);
+    }
+    Ok(left || too)
 }
 
 /// Examines the fields of an operation and all below them, in both passes. Answers whether fields are left below 128 levels.
@@ -92,6 +114,7 @@ pub fn examine_operation<'doc>(
     requires sets { AreSetsFor (judged (schema_tree schema.now)) (document_meant document.now) examined.old.sets }
     ensures sets { AreSetsFor (judged (schema_tree schema.now)) (document_meant document.now) examined.new.sets }
     ensures examined { IfOk result (λ left. ExaminesOperation (judged (schema_tree schema.now)) (document_meant document.now) (operation_meant operation.now) examined.old examined.new breaches.old breaches.new left) }
+    ensures pairs { OnOk result (LooksAtFew examined.new) }
     ensures counted { StaysCountedIn (document_meant document.now) (operation_meant operation.now) examined.old examined.new }
     ensures grown { OnlyGrow (lists_examined examined.old) (comparisons_of examined.old) (lists_examined examined.new) (comparisons_of examined.new) }
 {
@@ -111,5 +134,5 @@ pub fn examine_operation<'doc>(
         sets,
     };
     let too = by_selection.examine_all(start, &mut examined.selections, breaches)?;
-    Ok(left || too)
+    left_in_either(examined, left, too)
 }

@@ -5,7 +5,7 @@ use Rattle.rule_document_definitions.specs.DocumentFaults.{OfDocument}
 use Rattle.graphql_faults.specs.DetailsTree.{of_document}
 use Rattle.graphql_faults.specs.DetailsView.{diagnostics_of}
 use Rattle.rule_document_ground.specs.Broken.{brokens_of}
-use Rattle.rule_merging.proofs.InTurn.{conflicts_in_turn}
+use Rattle.rule_merging.proofs.Verdicts.{conflicts_in_turn}
 use Rattle.rule_merging.proofs.Behind.{begins_kept}
 use Rattle.rule_merging.proofs.merging.append_conflicts.Goals as goal
 

@@ -9,13 +9,13 @@ use Rattle.document_meaning.specs.MeantTree.{MeantOperation, MeantDocument}
 use Rattle.rule_definitions.proofs.Lists.{not_in_nil, only, Contains-first}
 use Rattle.rule_definitions.specs.Judged.{Judged}
 use Rattle.rule_document_definitions.specs.DocumentFaults.{Broken, OfDocument, OfLimit}
-use Rattle.rule_document_definitions.specs.Merging.{FieldsMerge, SameKey}
+use Rattle.rule_document_definitions.specs.Merging.{FieldsMerge}
 use Rattle.rule_document_definitions.specs.Told.{PlacedDocumentFault}
 use Rattle.rule_document_definitions.proofs.MergingFacts.{merging_breaks_nothing}
 use Rattle.rule_document_definitions.proofs.Stable.{merge_if_nothing_breaks}
 use Rattle.rule_document_definitions.proofs.Unplaced.{contains_unmap}
 use Rattle.rule_merging.specs.Examined.{Breaches}
-use Rattle.rule_document_definitions.specs.ReadFields.{ReadStarts, AreReadShapesStanding}
+use Rattle.rule_document_definitions.specs.ReadFields.{ReadSameKey, ReadStarts, AreReadShapesStanding}
 use Rattle.rule_document_definitions.specs.Settled.{StandWhere, StartsStand}
 use Rattle.rule_merging.specs.Verdict.{lists_examined, ExaminesOperation}
 use Rattle.rule_merging.specs.declared.operation.Examined.{Examined}
@@ -82,7 +82,7 @@ module _ (s : Judged) (d : MeantDocument Place) (o : MeantOperation Place) (old 
 
   -- where nothing is told, what was examined for shapes is settled, and has what the operation starts with
   pub settled_closed : (was : Bool) → ∥ AreSettledIf s d was old ∥₁ → IsTrue was → (brokens_of told ≡ []) × (left ≡ false)
-      → ∥ AreShapesStanding d s (StandWhere SameKey (lists_examined new)) × StartsStand (ReadStarts d o) (StandWhere SameKey (lists_examined new)) ∥₁
+      → ∥ AreReadShapesStanding d s (StandWhere ReadSameKey (lists_examined new)) × StartsStand (ReadStarts d o) (StandWhere ReadSameKey (lists_examined new)) ∥₁
   settled_closed was settled clean none = ∥∥₁_map settled (λ h. let r = examined.1.1.settled (sym is_added ∙ none.0) none.1 (h clean) in (r.0.0.fields, r.1.0.0))
 
   -- and where nothing is told the fields merge: no rule can fail
