@@ -107,7 +107,7 @@ twos_more front v twos are = record {
   within = λ two c w k. elim (Contains-append_cases twos (each_with (front ++ v ∷ []) v) two c) [
     | inl a ↦ Contains-append_left front (v ∷ []) w (are.within two a w k)
     | inr b ↦
-        let u = of_map with_v (front ++ v ∷ []) two b in
+        let u = of_map (λ (x : MeantSet Place). x ∷ v ∷ []) (front ++ v ∷ []) two b in
         elim (Contains-cons u.0 (v ∷ []) w (subst (λ (l : Sets). Contains l w) (sym u.1.1) k)) [
           | inl e ↦ subst (Contains (front ++ v ∷ [])) e u.1.0
           | inr r ↦ subst (Contains (front ++ v ∷ [])) (sym (only v w r)) last
@@ -122,11 +122,8 @@ twos_more front v twos are = record {
   ];
 }
   where
-    abbrev with_v : MeantSet Place → Sets
-    with_v x = x ∷ v ∷ []
-
     last : Contains (front ++ v ∷ []) v
     last = Contains-append_right front (v ∷ []) v (Contains-first v [] v refl)
 
     with_last : (x : MeantSet Place) → Contains (front ++ v ∷ []) x → Contains (twos ++ each_with (front ++ v ∷ []) v) (x ∷ v ∷ [])
-    with_last x a = Contains-append_right twos (each_with (front ++ v ∷ []) v) (x ∷ v ∷ []) (in_map with_v (front ++ v ∷ []) x a)
+    with_last x a = Contains-append_right twos (each_with (front ++ v ∷ []) v) (x ∷ v ∷ []) (in_map (λ (x : MeantSet Place). x ∷ v ∷ []) (front ++ v ∷ []) x a)

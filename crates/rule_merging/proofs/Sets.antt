@@ -65,17 +65,17 @@ number_among ns n e = Contains-from_any same_number n ns e
 
 -- one that is put in stands there, or goes last
 pub number_there : (old new : List ℕ) (n : ℕ) (is_new : Bool) → is_new ≡ not (list_any (nat_eq n) old) → new ≡ insert_key nat_eq old n → is_new ≡ false → Contains old n × (new ≡ old)
-number_there old new n is_new tells is no = by (list_any (nat_eq n) old) refl
+number_there old new n is_new tells is told = by (list_any (nat_eq n) old) refl
   where
     by : (b : Bool) → list_any (nat_eq n) old ≡ b → Contains old n × (new ≡ old)
     by true e = (number_among old n e, is ∙ ap (λ b. if b then old else old ++ n ∷ []) e)
-    by false e = absurd (true≢false (sym (sym no ∙ tells ∙ ap not e)))
+    by false e = absurd (true≢false (sym (sym told ∙ tells ∙ ap not e)))
 
 pub number_new : (old new : List ℕ) (n : ℕ) (is_new : Bool) → is_new ≡ not (list_any (nat_eq n) old) → new ≡ insert_key nat_eq old n → is_new ≡ true → (Contains old n → ⊥) × (new ≡ old ++ n ∷ [])
-number_new old new n is_new tells is yes = by (list_any (nat_eq n) old) refl
+number_new old new n is_new tells is told = by (list_any (nat_eq n) old) refl
   where
     by : (b : Bool) → list_any (nat_eq n) old ≡ b → (Contains old n → ⊥) × (new ≡ old ++ n ∷ [])
-    by true e = absurd (true≢false (sym yes ∙ tells ∙ ap not e))
+    by true e = absurd (true≢false (sym told ∙ tells ∙ ap not e))
     by false e = (
       λ c. true≢false (sym (list_any-from_Contains nat_eq_equiv n old c) ∙ e),
       is ∙ ap (λ b. if b then old else old ++ n ∷ []) e,

@@ -7,8 +7,8 @@ use Rattle.rule_merging.proofs.below.further_sets.Goals as goal
 
 pub loop-field-init : goal.loop-field-init
 loop-field-init c = record {
-  further = further_begun c.args.sets.now (meant_sets c.args.sets.now c.args.others.now.nodes.items) c.new.result.nodes.items c.new.ensures.nodes;
-  numbered = none_numbered c.args.sets.now c.new.result c.new.ensures.numbers c.new.ensures.nodes;
+  further = further_begun c.args.sets.now (meant_sets c.args.sets.now c.args.others.now.nodes.items) c.new-found.result.nodes.items c.new-found.ensures.nodes;
+  numbered = none_numbered c.args.sets.now c.new-found.result c.new-found.ensures.numbers c.new-found.ensures.nodes;
 }
 
 pub loop-field-preserved : goal.loop-field-preserved

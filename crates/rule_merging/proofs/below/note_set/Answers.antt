@@ -11,9 +11,9 @@ pub returns-in_ok-number_of-in-Some-clause-notes : goal.returns-in_ok-number_of-
 returns-in_ok-number_of-in-Some-clause-notes c =
     let w = c.args.sets.now in
     on_ok_weaker c.add.result
-    (λ adds. set_noted w c.args.found.now c.add.new.self _ c.in-Some.node adds c.requires.numbered c.in_ok-number_of.ensures (field_of c.args.field) (member_below w c.requires.sets c.args.field c.requires.member c.in-Some.node c.in-Some.is))
+    (λ adds. set_noted w c.args.found.now c.add.new.self _ c.in-Some.node adds c.requires.numbered c.in_ok-number_of-in-Some.ensures (field_of c.args.field) (member_below w c.requires.sets c.args.field c.requires.member c.in-Some.node c.in-Some.is))
     c.add.ensures
 
 pub returns-in_ok-number_of-in-Some-clause-numbered : goal.returns-in_ok-number_of-in-Some-clause-numbered
 returns-in_ok-number_of-in-Some-clause-numbered c =
-    on_ok_weaker c.add.result (λ adds. numbered_more c.args.sets.now c.args.found.now c.add.new.self _ c.in-Some.node adds c.requires.numbered c.in_ok-number_of.ensures) c.add.ensures
+    on_ok_weaker c.add.result (λ adds. numbered_more c.args.sets.now c.args.found.now c.add.new.self _ c.in-Some.node adds c.requires.numbered c.in_ok-number_of-in-Some.ensures) c.add.ensures

@@ -1,5 +1,5 @@
-use Rattle.std.proofs.Common.{◌≡◌, ◌∙◌, ◌<◌, ◌++◌, ℕ, [], List, length, sym, subst, append-nil, arith}
-use Rattle.std.proofs.lemmas.List.{take_all}
+use Rattle.std.proofs.Common.{◌≡◌, ◌∙◌, ◌<◌, ◌++◌, ℕ, [], List, length, get_or, sym, subst, append-nil, arith}
+use Rattle.std.proofs.lemmas.List.{take_all, get_or_default}
 use Rattle.rule_merging.specs.Grouped.{lists_of}
 use Rattle.rule_merging.specs.Under.{joined, twos_of}
 use Rattle.rule_merging.proofs.Under.{twos_more}
@@ -12,8 +12,10 @@ pub loop-node-preserved : goal.loop-node-preserved
 loop-node-preserved c =
     let i = c.loop-node.node-index in
     let h : i < length c.args.further.now = omega arith in
+    let x = get_or c.args.further.now i 0 in
+    let is : x ≡ get_or c.args.further.now i x = get_or_default c.args.further.now i h 0 x in
     let begun = lists_of c.args.lists.now ++ joined [] c.args.further.now in
-    twos_more c.args.first.now c.args.further.now i c.node-item.result h c.node-item.is begun (lists_of c.loop-node.lists) (lists_of c.push_each_with.new.lists) c.loop-node.invariant c.in_ok-push_each_with.ensures
+    twos_more c.args.first.now c.args.further.now i x h is begun (lists_of c.loop-node.lists) (lists_of c.push_each_with.new.lists) c.loop-node.invariant c.in_ok-push_each_with.ensures
 
 pub returns : goal.returns
 returns c =

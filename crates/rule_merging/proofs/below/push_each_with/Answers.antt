@@ -1,5 +1,5 @@
-use Rattle.std.proofs.Common.{◌≡◌, ◌<◌, ◌++◌, ℕ, List, length, sym, subst, append-nil, arith}
-use Rattle.std.proofs.lemmas.List.{take_all}
+use Rattle.std.proofs.Common.{◌≡◌, ◌<◌, ◌++◌, ℕ, List, length, get_or, sym, subst, append-nil, arith}
+use Rattle.std.proofs.lemmas.List.{take_all, get_or_default}
 use Rattle.rule_merging.specs.Grouped.{lists_of}
 use Rattle.rule_merging.specs.Under.{each_with}
 use Rattle.rule_merging.proofs.Under.{with_more}
@@ -12,7 +12,9 @@ pub loop-node-preserved : goal.loop-node-preserved
 loop-node-preserved c =
     let i = c.loop-node.node-index in
     let h : i < length c.args.nodes.now = omega arith in
-    with_more c.args.last c.args.nodes.now i c.node-item.result h c.node-item.is (lists_of c.args.lists.now) (lists_of c.loop-node.lists) (lists_of c.push_two.new.lists) c.loop-node.invariant c.in_ok-push_two.ensures
+    let x = get_or c.args.nodes.now i 0 in
+    let is : x ≡ get_or c.args.nodes.now i x = get_or_default c.args.nodes.now i h 0 x in
+    with_more c.args.last c.args.nodes.now i x h is (lists_of c.args.lists.now) (lists_of c.loop-node.lists) (lists_of c.push_two.new.lists) c.loop-node.invariant c.in_ok-push_two.ensures
 
 pub returns : goal.returns
 returns c =

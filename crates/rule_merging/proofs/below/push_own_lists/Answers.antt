@@ -25,8 +25,8 @@ loop-own-preserved c =
     joined_more (meant_sets w first) c.args.owns.now i x h c.own-item.is (meant_sets w further) (sets_in w c.args.lists.now) (sets_in w c.loop-own.lists) (sets_in w c.push_together.new.lists)
     (subst (λ (l : List Member). AreFurther (fields_of l) (meant_sets w first) (meant_sets w further)) c.deref.ensures.value c.in_ok-nodes.ensures)
     (map_together (set_at w) first further mid new
-    (subst (λ (l : List ℕ). PutsTogether first l mid new) c.deref-3.ensures.value
-    (subst (λ (l : List ℕ). PutsTogether l c.deref-3.result.now mid new) c.deref-2.ensures.value c.in_ok-push_together.ensures)))
+    (subst (λ (l : List ℕ). PutsTogether first l mid new) c.deref-in-loop-own-2.ensures.value
+    (subst (λ (l : List ℕ). PutsTogether l c.deref-in-loop-own-2.result.now mid new) c.deref-in-loop-own.ensures.value c.in_ok-push_together.ensures)))
     c.loop-own.invariant
 
 pub returns : goal.returns

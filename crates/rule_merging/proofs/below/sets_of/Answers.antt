@@ -5,15 +5,9 @@ use Rattle.rule_merging.proofs.below.sets_of.Goals as goal
 
 pub loop-field-init : goal.loop-field-init
 loop-field-init c = record {
-  sets = sets_begun c.args.sets.now c.new.result.nodes.items c.new.ensures.nodes;
-  numbered = none_numbered c.args.sets.now c.new.result c.new.ensures.numbers c.new.ensures.nodes;
+  sets = sets_begun c.args.sets.now c.new-found.result.nodes.items c.new-found.ensures.nodes;
+  numbered = none_numbered c.args.sets.now c.new-found.result c.new-found.ensures.numbers c.new-found.ensures.nodes;
 }
-
-pub loop-field-note_set-requires-member : goal.loop-field-note_set-requires-member
-loop-field-note_set-requires-member c =
-    let i = c.loop-field.field-index in
-    let h : i < length c.args.fields.now = omega arith in
-    c.requires.members c.field-item.result (taken_there c.args.fields.now i c.field-item.result h c.field-item.is)
 
 pub loop-field-preserved : goal.loop-field-preserved
 loop-field-preserved c =
