@@ -1,5 +1,5 @@
 -- What is remembered: what is read of the numbers that are kept.
-use Rattle.std.proofs.Common.{◌≡◌, ◌⊎◌, ◌∙◌, ℕ, ◌+◌, ◌≤◌, min, max, Bool, true, false, ◌==◌, cond, List, [], ◌∷◌, map, length, Contains, refl, sym, ap, ap₂, subst, arith, inl, inr}
+use Rattle.std.proofs.Common.{◌≡◌, ◌⊎◌, ◌∙◌, ℕ, ◌+◌, ◌<◌, ◌≤◌, min, max, Bool, true, false, ◌==◌, cond, List, [], ◌∷◌, map, length, Contains, refl, sym, ap, ap₂, subst, arith, inl, inr}
 use Rattle.std.specs.Prelude.{Result, Ok, Err, OnErr}
 use Rattle.std.proofs.lemmas.List.{length-map}
 use Rattle.graphql_names.specs.Placed.{Place}
@@ -8,7 +8,7 @@ use Rattle.rule_cycle_search.specs.Paths.{HasNoRepeat}
 use Rattle.rule_cycle_search.proofs.Lists.{Contains-first}
 use Rattle.rule_number_lists.specs.NumberLists.{Keeps, list_of, lists_kept}
 use Rattle.rule_number_lists.specs.declared.lists.NumberLists.{NumberLists}
-use Rattle.rule_number_lists.specs.NumberPairs.{KeepsPair}
+use Rattle.rule_number_lists.specs.NumberPairs.{KeepsPair, pairs_kept}
 use Rattle.rule_number_lists.specs.NumberSet.{numbers_in, PutsIn}
 use Rattle.rule_number_lists.specs.declared.set.NumberSet.{NumberSet}
 use Rattle.rule_number_lists.proofs.Standing.{in_map, of_map}
@@ -25,7 +25,7 @@ use Rattle.rule_merging.specs.Members.{field_of, fields_of, content_of, contents
 use Rattle.rule_merging.specs.Twos.{contents_of_two}
 use Rattle.rule_merging.specs.Counted.{Account, IsWithin, most_members, Meets, OnlyMeets, Pays}
 use Rattle.rule_merging.specs.Under.{sets_in}
-use Rattle.rule_merging.specs.Remembered.{Kept, kept_of, account_of, Remembers, LooksAt, Expands}
+use Rattle.rule_merging.specs.Remembered.{Kept, kept_of, account_of, Remembers, LooksAt, Expands, IsKnown}
 use Rattle.rule_merging.specs.declared.remembered.Remembered.{Remembered}
 
 abbrev pub number_of : Member → ℕ
@@ -192,3 +192,16 @@ module _ (old mid : Remembered) (list slice : List Member) (same : mid ≡ recor
       subst (λ k. Remembers k (contents_of list) is_new (record (kept_of w mid) { lists = map (map (content_at w)) (lists_kept lists) })) (kept_same w)
       (remembers w are (kept_of w mid) (lists_kept mid.lists) (lists_kept lists) numbers (contents_of list) is_new
       (ap (map (content_at w)) (they ∙ ap numbers_of is) ∙ numbers_read w are list all) keeps)
+
+-- ---- numbers above all that stand there
+
+pub known_so : (fields sets : ℕ) (r : Remembered) (a b c d : ℕ)
+    → ((l : List ℕ) → Contains (lists_kept r.lists) l → (n : ℕ) → Contains l n → n < a) → ((n : ℕ) → Contains (numbers_in r.met) n → n < b)
+    → ((l : List ℕ) → Contains (lists_kept r.expanded) l → (n : ℕ) → Contains l n → n < c) → ((p : ℕ × ℕ) → Contains (pairs_kept r.looked) p → (p.0 < d) × (p.1 < d))
+    → a ≤ fields → b ≤ fields → c ≤ sets → d ≤ sets → IsKnown fields sets r
+known_so fields sets r a b c d lists met expanded looked ha hb hc hd = record {
+  lists = λ l k n m. omega (arith, lists l k n m, ha);
+  met = λ n k. omega (arith, met n k, hb);
+  expanded = λ l k n m. omega (arith, expanded l k n m, hc);
+  looked = λ p k. let q = looked p k in (omega (arith, q.0, hd), omega (arith, q.1, hd));
+}

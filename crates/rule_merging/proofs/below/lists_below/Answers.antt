@@ -1,12 +1,21 @@
-use Rattle.std.proofs.Common.{◌≡◌, ℕ, [], List, map, ap, subst}
-use Rattle.rule_merging.specs.Members.{fields_of, meant_sets}
+use Rattle.std.proofs.Common.{◌≡◌, ℕ, [], List, map, Contains, sym, ap, subst}
+use Rattle.rule_merging.specs.Members.{fields_of, meant_sets, AreMembersOf}
 use Rattle.rule_field_sets.specs.declared.member.Member.{Member}
 use Rattle.rule_merging.specs.declared.groups.OwnFields.{OwnFields}
 use Rattle.rule_merging.specs.Grouped.{lists_of}
 use Rattle.rule_merging.specs.Below.{AreSetsOf}
 use Rattle.rule_merging.specs.Under.{sets_in, JoinsSets, JoinsEach}
-use Rattle.rule_merging.proofs.Under.{parts_below, shared_joined}
+use Rattle.rule_merging.proofs.Under.{parts_below, shared_joined, shared_members, own_members}
 use Rattle.rule_merging.proofs.below.lists_below.Goals as goal
+
+pub sets_of-requires-clause-members : goal.sets_of-requires-clause-members
+sets_of-requires-clause-members c =
+    subst (λ (l : List Member). AreMembersOf c.args.sets.now l) (sym c.deref.ensures.value) (shared_members c.args.sets.now c.args.group.now c.requires.members)
+
+pub push_own_lists-requires-clause-members : goal.push_own_lists-requires-clause-members
+push_own_lists-requires-clause-members c = λ own there.
+    own_members c.args.sets.now c.args.group.now c.requires.members own
+    (subst (λ (l : List OwnFields). Contains (map (λ o. o.fields.items) l) own) c.deref-3.ensures.value there)
 
 pub returns : goal.returns
 returns c =

@@ -1,6 +1,8 @@
-use Rattle.std.proofs.Common.{◌<◌, ℕ, List, map, length, subst, arith}
+use Rattle.std.proofs.Common.{◌<◌, ℕ, List, map, length, Contains, sym, subst, arith}
 use Rattle.std.proofs.lemmas.List.{take_all}
-use Rattle.rule_merging.specs.Members.{fields_of, meant_sets}
+use Rattle.std.proofs.lemmas.List.Elements.{Contains-get_or}
+use Rattle.rule_document_definitions.proofs.Unplaced.{contains_map}
+use Rattle.rule_merging.specs.Members.{fields_of, meant_sets, AreMembersOf}
 use Rattle.rule_field_sets.specs.Read.{set_at}
 use Rattle.rule_field_sets.specs.declared.member.Member.{Member}
 use Rattle.rule_merging.specs.declared.groups.OwnFields.{OwnFields}
@@ -11,6 +13,16 @@ use Rattle.rule_merging.proofs.below.push_own_lists.Goals as goal
 
 pub loop-own-init : goal.loop-own-init
 loop-own-init c = none_joined (meant_sets c.args.sets.now c.args.shared.now.nodes.items) (sets_in c.args.sets.now c.args.lists.now)
+
+pub further_sets-requires-clause-members : goal.further_sets-requires-clause-members
+further_sets-requires-clause-members c =
+    let owns = c.args.owns.now in
+    let i = c.loop-own.own-index in
+    let x = c.own-item.result in
+    let h : i < length owns = omega arith in
+    let there : Contains owns x = subst (Contains owns) (sym c.own-item.is) (Contains-get_or owns i x h) in
+    subst (λ (l : List Member). AreMembersOf c.args.sets.now l) (sym c.deref.ensures.value)
+    (c.requires.members x.fields.items (contains_map (λ (o : OwnFields). o.fields.items) owns x there))
 
 pub loop-own-preserved : goal.loop-own-preserved
 loop-own-preserved c =
