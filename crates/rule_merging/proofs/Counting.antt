@@ -243,7 +243,7 @@ module _ (d : MeantDocument Place) where
   two_apart : (one other : Member) (list : List Member) → IsListOf one other list → HasNoRepeat (contents_of list)
   two_apart one other list (inl (e, l)) = subst (λ (m : List Member). HasNoRepeat (contents_of m)) (sym l) (from_apart (content_of one ∷ []) (λ c. not_in_nil (content_of one) c, tt))
   two_apart one other list (inr (e, l)) = subst (λ (m : List Member). HasNoRepeat (contents_of m)) (sym l)
-      (from_apart (content_of one ∷ content_of other ∷ []) (λ c. e (sym (only (content_of other) (content_of one) c)), (λ c. not_in_nil (content_of other) c, tt)))
+      (from_apart (content_of one ∷ content_of other ∷ []) (λ c. e (only (content_of other) (content_of one) c), (λ c. not_in_nil (content_of other) c, tt)))
 
   -- two are not many
   two_short : (one other : Member) (list : List Member) → IsListOf one other list → length_above_two (contents_of list) ≡ 0

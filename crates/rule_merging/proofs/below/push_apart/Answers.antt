@@ -13,7 +13,7 @@ loop-node-preserved c =
     let i = c.loop-node.node-index in
     let h : i < length c.args.further.now = omega arith in
     let x = get_or c.args.further.now i 0 in
-    let is : x ≡ get_or c.args.further.now i x = get_or_default c.args.further.now i h 0 x in
+    let is : x ≡ get_or c.args.further.now i x = get_or_default c.args.further.now i 0 x h in
     let begun = lists_of c.args.lists.now ++ joined [] c.args.further.now in
     twos_more c.args.first.now c.args.further.now i x h is begun (lists_of c.loop-node.lists) (lists_of c.push_each_with.new.lists) c.loop-node.invariant c.in_ok-push_each_with.ensures
 

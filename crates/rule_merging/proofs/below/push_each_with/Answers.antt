@@ -13,7 +13,7 @@ loop-node-preserved c =
     let i = c.loop-node.node-index in
     let h : i < length c.args.nodes.now = omega arith in
     let x = get_or c.args.nodes.now i 0 in
-    let is : x ≡ get_or c.args.nodes.now i x = get_or_default c.args.nodes.now i h 0 x in
+    let is : x ≡ get_or c.args.nodes.now i x = get_or_default c.args.nodes.now i 0 x h in
     with_more c.args.last c.args.nodes.now i x h is (lists_of c.args.lists.now) (lists_of c.loop-node.lists) (lists_of c.push_two.new.lists) c.loop-node.invariant c.in_ok-push_two.ensures
 
 pub returns : goal.returns

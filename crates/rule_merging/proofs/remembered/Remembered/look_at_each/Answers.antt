@@ -1,5 +1,5 @@
-use Rattle.std.proofs.Common.{◌≡◌, ◌∙◌, ◌<◌, ◌+◌, ◌∷◌, ◌++◌, [], take, length, refl, sym, ap, subst, arith}
-use Rattle.std.proofs.lemmas.List.{take_all, map-append}
+use Rattle.std.proofs.Common.{◌≡◌, ◌∙◌, ◌<◌, ◌+◌, ◌∷◌, ◌++◌, [], take, length, get_or, refl, sym, ap, subst, arith}
+use Rattle.std.proofs.lemmas.List.{take_all, get_or_default, map-append}
 use Rattle.graphql_names.specs.Placed.{Place}
 use Rattle.document_meaning.specs.MeantTree.{MeantSet}
 use Rattle.rule_field_sets.specs.Read.{set_at}
@@ -20,12 +20,13 @@ loop-node-preserved c =
     let w = c.args.sets.now in
     let v = set_at w c.args.other in
     let xs = c.args.nodes.now in
-    let x = c.node-item.result in
     let i = c.loop-node.node-index in
     let h : i < length xs = omega arith in
+    let x = get_or xs i 0 in
+    let is : x ≡ get_or xs i x = get_or_default xs i 0 x h in
     let before = meant_sets w (take i xs) in
     let front : each_with (meant_sets w (take (i + 1) xs)) v ≡ each_with (before) v ++ (set_at w x ∷ v ∷ []) ∷ [] =
-    ap (λ l. each_with (l) v) (one_more_of (set_at w) xs i x h c.node-item.is) ∙ map-append (λ (u : MeantSet Place). u ∷ v ∷ []) before (set_at w x ∷ []) in
+    ap (λ l. each_with (l) v) (one_more_of (set_at w) xs i x h is) ∙ map-append (λ (u : MeantSet Place). u ∷ v ∷ []) before (set_at w x ∷ []) in
     record {
       looks = subst (λ l. Looks l (kept_of w c.args.self.now) (kept_of w c.look_at_pair.new.self)) (sym front)
           (looks_both (each_with (before) v) ((set_at w x ∷ v ∷ []) ∷ []) (kept_of w c.args.self.now) (kept_of w c.loop-node.self) (kept_of w c.look_at_pair.new.self)

@@ -1,5 +1,5 @@
-use Rattle.std.proofs.Common.{◌≡◌, ◌∙◌, ◌<◌, ◌+◌, ◌∷◌, ◌++◌, [], take, length, sym, ap, subst, arith}
-use Rattle.std.proofs.lemmas.List.{take_all, take_more}
+use Rattle.std.proofs.Common.{◌≡◌, ◌∙◌, ◌<◌, ◌+◌, ◌∷◌, ◌++◌, [], take, length, get_or, sym, ap, subst, arith}
+use Rattle.std.proofs.lemmas.List.{take_all, get_or_default, take_more}
 use Rattle.rule_field_sets.specs.Read.{set_at}
 use Rattle.rule_merging.specs.Members.{meant_sets}
 use Rattle.rule_merging.specs.Remembered.{kept_of}
@@ -22,17 +22,18 @@ pub loop-node-preserved : goal.loop-node-preserved
 loop-node-preserved c =
     let w = c.args.sets.now in
     let xs = c.args.nodes.now in
-    let x = c.node-item.result in
     let i = c.loop-node.node-index in
     let h : i < length xs = omega arith in
+    let x = get_or xs i 0 in
+    let is : x ≡ get_or xs i x = get_or_default xs i 0 x h in
     let v = set_at w x in
     let old = kept_of w c.args.self.now in
     let mid = kept_of w c.loop-node.self in
     let new = kept_of w c.look_at_each.new.self in
     let before = meant_sets w (take i xs) in
-    let front : meant_sets w (take (i + 1) xs) ≡ before ++ v ∷ [] = one_more_of (set_at w) xs i x h c.node-item.is in
+    let front : meant_sets w (take (i + 1) xs) ≡ before ++ v ∷ [] = one_more_of (set_at w) xs i x h is in
     let pushed : c.push.new.self.items ≡ take (i + 1) xs =
-    c.in_ok-push.ensures.items ∙ ap (λ l. l ++ x ∷ []) c.loop-node.invariant.seen ∙ sym (take_more xs i x h ∙ ap (λ y. take i xs ++ y ∷ []) (sym c.node-item.is)) in
+    c.in_ok-push.ensures.items ∙ ap (λ l. l ++ x ∷ []) c.loop-node.invariant.seen ∙ sym (take_more xs i x h ∙ ap (λ y. take i xs ++ y ∷ []) (sym is)) in
     let seen : meant_sets w c.deref.result.now ≡ before ++ v ∷ [] = ap (meant_sets w) (c.deref.ensures.value ∙ pushed) ∙ front in
     let twos = c.loop-node.invariant.looks in
     let here : Looks (each_with (before ++ v ∷ []) v) mid new = subst (λ l. Looks (each_with l v) mid new) seen c.in_ok-look_at_each.ensures.looks in
