@@ -11,7 +11,7 @@ returns-then-bound-sets c = λ last. elim c.if-bound-fields-2.branch [
         c.bound.ensures w.bound-then-bound-fields.ensures v.bound-then-bound-fields-2.ensures c.bound-then-bound-sets.ensures
         w.if-bound-fields.true (leb-true w.bound-then-bound-fields.result c.args.fields (sym w.value-is ∙ v.if-bound-fields-2.true))
         (leb-true v.bound-then-bound-fields-2.result c.args.sets (sym v.value-is ∙ c.if-bound-sets.true)) (leb-true c.bound-then-bound-sets.result c.args.sets last)
-    | else-bound-fields w ↦ absurd (omega (arith, leb-true c.bound.result c.args.fields (sym v.if-bound-fields-2.true ∙ w.value-is), w.if-bound-fields.false))
+    | else-bound-fields w ↦ absurd (omega (arith, leb-true c.bound.result c.args.fields (sym w.value-is ∙ v.if-bound-fields-2.true), w.if-bound-fields.false))
   ]
   | else-bound-fields-2 v ↦ absurd (true≢false (sym c.if-bound-sets.true ∙ v.value-is ∙ v.if-bound-fields-2.false))
 ]
