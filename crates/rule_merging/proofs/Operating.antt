@@ -14,9 +14,8 @@ use Rattle.rule_document_ground.specs.in_typing.DocumentView.{operation_meant}
 use Rattle.rule_document_ground.specs.Fields.{meant_fragments}
 use Rattle.rule_definitions.specs.Judged.{Judged, judged}
 use Rattle.rule_document_definitions.specs.DocumentFaults.{Broken}
-use Rattle.rule_document_definitions.specs.ReadFields.{ReadField}
 use Rattle.rule_document_definitions.proofs.ReadFacts.{read_fields_merge}
-use Rattle.rule_field_sets.specs.Nodes.{AreSets, SetsGrow, HasAllStarts, IsNodeOf, set_nodes, schema_in}
+use Rattle.rule_field_sets.specs.Nodes.{AreSets, SetsGrow, HasAllStarts, IsNodeOf, set_nodes}
 use Rattle.rule_number_lists.specs.NumberPairs.{pairs_kept}
 use Rattle.rule_field_sets.specs.Read.{set_at, set_content_at}
 use Rattle.rule_field_sets.specs.declared.field_sets.FieldSets.{FieldSets}

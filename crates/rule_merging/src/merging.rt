@@ -9,12 +9,12 @@ ghost use Rattle.rule_document_ground.specs.in_typing.DocumentView.{document_mea
 ghost use Rattle.rule_merging.specs.Merged.{AreSettledIf, limit_told, conflicts_told};
 ghost use Rattle.rule_merging.specs.OfProgram.{AddsDetails};
 
+use crate::conflicts::Breach;
 use crate::operation::{Examined, examine_operation};
 use crate::told::append_breaches;
 use document_typed_operations::{ExecutableDocument, Operation};
 use graphql_faults::{Details, DiagnosticList};
 use graphql_names::Node;
-use crate::conflicts::Breach;
 use rule_field_sets::Schema;
 use std::alloc::{AllocError, Global};
 

@@ -11,13 +11,13 @@ ghost use Rattle.rule_field_sets.specs.Nodes.{AreSets, HasAllStarts};
 ghost use Rattle.rule_field_sets.specs.Read.{set_at};
 ghost use Rattle.rule_merging.specs.Verdict.{comparisons_of, lists_examined, AreBothSettled, IsCounted, StaysCountedIn, OnlyGrow, ExaminesOperation, AreSetsFor, AreKnown, LooksAtFew, Begins};
 
+use crate::conflicts::Breach;
 use crate::examination::Examination;
+use crate::pass::Pass;
 use crate::remembered::Remembered;
 use document_typed_operations::{ExecutableDocument, Operation};
 use document_typed_selections::SelectionSet;
 use graphql_names::Node;
-use crate::conflicts::Breach;
-use crate::pass::Pass;
 use rule_field_sets::{FieldSets, Schema};
 use std::alloc::{AllocError, Global};
 
@@ -76,10 +76,7 @@ impl<'doc> Examined<'doc> {
 }
 
 /// Adds the set of an operation to those of the document, and gives its node. What was examined means what it meant.
-fn begin<'doc>(
-    examined: &mut Examined<'doc>,
-    set: &'doc SelectionSet,
-) -> Result<usize, AllocError>
+fn begin<'doc>(examined: &mut Examined<'doc>, set: &'doc SelectionSet) -> Result<usize, AllocError>
     requires sets { AreSets examined.old.sets }
     ensures begun { Begins examined.old examined.new }
     ensures node { IfOk result (λ n. (set_at examined.new.sets n ≡ meant_of_set (typed_set_tree set.now)) × HasAllStarts examined.new.sets) }

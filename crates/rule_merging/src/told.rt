@@ -5,8 +5,8 @@ ghost use Rattle.graphql_faults.specs.DetailsTree.{of_document};
 ghost use Rattle.graphql_faults.specs.DetailsView.{diagnostics_of, BeginsAs};
 ghost use Rattle.rule_document_ground.specs.Broken.{brokens_of};
 
-use graphql_faults::{Details, DiagnosticList};
 use crate::conflicts::Breach;
+use graphql_faults::{Details, DiagnosticList};
 use std::alloc::AllocError;
 
 /// Adds the breaches at the end, in order. After a refusal the list begins as before.

@@ -38,8 +38,8 @@ loop-operation-init c =
       ),
     )
 
-pub validate_operation-requires-clause-ready : goal.validate_operation-requires-clause-ready
-validate_operation-requires-clause-ready c = c.loop-operation.invariant.1.1.1.1.0
+pub validate_operation-requires : goal.validate_operation-requires
+validate_operation-requires c = record { ready = c.loop-operation.invariant.1.1.1.1.0 }
 
 pub loop-operation-preserved : goal.loop-operation-preserved
 loop-operation-preserved c =

@@ -1,4 +1,4 @@
-use Rattle.std.proofs.Common.{ap, sym, subst, refl}
+use Rattle.std.proofs.Common.{ap, sym, subst}
 use Rattle.rule_definitions.specs.Judged.{judged}
 use Rattle.rule_document_ground.specs.in_schema.SchemaOf.{schema_tree}
 use Rattle.rule_document_ground.specs.Fields.{meant_fragments}
