@@ -1,5 +1,5 @@
 -- Numbers that are known are read as they were, also when nodes are added: so is all that is remembered by them.
-use Rattle.std.proofs.Common.{◌≡◌, ◌<◌, ℕ, List, [], ◌∷◌, map, length, Contains, refl, ap₂}
+use Rattle.std.proofs.Common.{◌≡◌, List, [], ◌∷◌, map, length, Contains, refl, ap₂}
 use Rattle.rule_cycle_search.proofs.Lists.{Contains-first}
 use Rattle.rule_number_lists.specs.NumberLists.{lists_kept}
 use Rattle.rule_number_lists.specs.NumberPairs.{pairs_kept}
@@ -10,8 +10,7 @@ use Rattle.rule_field_sets.specs.Nodes.{SetsGrow}
 use Rattle.rule_field_sets.specs.Read.{content_at, set_content_at}
 use Rattle.rule_field_sets.specs.declared.field_sets.FieldSets.{FieldSets}
 use Rattle.rule_field_sets.proofs.Meaning.{content_stays, set_content_stays}
-use Rattle.rule_merging.specs.Counted.{Account}
-use Rattle.rule_merging.specs.Remembered.{Kept, both_in, remembered, expanded_in, looked_in, kept_of, account_of, IsKnown}
+use Rattle.rule_merging.specs.Remembered.{both_in, remembered, expanded_in, looked_in, kept_of, account_of, IsKnown}
 use Rattle.rule_merging.specs.declared.remembered.Remembered.{Remembered}
 
 each_same : {A B : Type 0} (f g : A → B) (xs : List A) → ((x : A) → Contains xs x → f x ≡ g x) → map f xs ≡ map g xs

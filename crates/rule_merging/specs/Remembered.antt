@@ -2,8 +2,6 @@
 -- (GraphQL, October 2021, section 5.3.2). The program has their numbers.
 use Rattle.std.specs.Prelude.{◌≡◌, ◌<◌, ◌⊎◌, ◌∷◌, [], ℕ, Bool, true, false, List, Option, None, Some, map, Contains}
 use Rattle.std.specs.List.Sorted.{IsPermutation}
-use Rattle.graphql_names.specs.Placed.{Place}
-use Rattle.document_meaning.specs.MeantTree.{MeantSet}
 use Rattle.rule_cycle_search.specs.Paths.{HasNoRepeat}
 use Rattle.rule_number_lists.specs.NumberLists.{HaveSame, lists_kept}
 use Rattle.rule_number_lists.specs.NumberPairs.{pairs_kept}

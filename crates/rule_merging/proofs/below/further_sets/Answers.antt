@@ -1,6 +1,5 @@
 use Rattle.std.proofs.Common.{◌<◌, length, arith}
 use Rattle.rule_merging.specs.Members.{meant_sets}
-use Rattle.rule_merging.proofs.Lists.{taken_there}
 use Rattle.rule_merging.proofs.Sets.{none_numbered}
 use Rattle.rule_merging.proofs.Under.{further_begun, further_step}
 use Rattle.rule_merging.proofs.below.further_sets.Goals as goal

@@ -1,4 +1,4 @@
-use Rattle.std.proofs.Common.{◌≡◌, ℕ, [], List, map, Contains, sym, ap, subst}
+use Rattle.std.proofs.Common.{ℕ, [], List, map, Contains, sym, ap, subst}
 use Rattle.rule_merging.specs.Members.{fields_of, meant_sets, AreMembersOf}
 use Rattle.rule_field_sets.specs.declared.member.Member.{Member}
 use Rattle.rule_merging.specs.declared.groups.OwnFields.{OwnFields}

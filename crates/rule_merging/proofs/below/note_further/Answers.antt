@@ -1,4 +1,4 @@
-use Rattle.std.proofs.Common.{sym, inl, ◌∙◌}
+use Rattle.std.proofs.Common.{sym, ◌∙◌}
 use Rattle.std.proofs.lemmas.Result.{on_ok_weaker}
 use Rattle.rule_merging.specs.Members.{field_of, meant_sets}
 use Rattle.rule_merging.proofs.Sets.{member_bare, member_below, bare_noted, set_noted, numbered_more, number_among, read_there}

@@ -1,5 +1,4 @@
 use Rattle.std.proofs.Common.{◌<◌, length, arith}
-use Rattle.rule_merging.proofs.Lists.{taken_there}
 use Rattle.rule_merging.proofs.Sets.{sets_begun, sets_step, none_numbered}
 use Rattle.rule_merging.proofs.below.sets_of.Goals as goal
 

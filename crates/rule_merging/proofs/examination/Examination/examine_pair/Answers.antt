@@ -1,4 +1,4 @@
-use Rattle.std.proofs.Common.{◌≡◌, ◌∙◌, ◌++◌, ◌∷◌, [], ℕ, List, Contains, ap, sym, subst}
+use Rattle.std.proofs.Common.{◌≡◌, ◌∙◌, ◌∷◌, [], ℕ, List, Contains, ap, sym, subst}
 use Rattle.std.specs.Prelude.{Some, slice_get}
 use Rattle.std.specs.List.{AllZip}
 use Rattle.std.proofs.lemmas.Result.{on_ok_weaker}
@@ -8,10 +8,10 @@ use Rattle.rule_field_sets.specs.declared.field_sets.FieldSets.{FieldSets}
 use Rattle.rule_field_sets.specs.Nodes.{set_nodes, fragment_nodes}
 use Rattle.rule_field_sets.specs.Read.{set_at}
 use Rattle.rule_merging.specs.Members.{meant_sets, AreMembersOf}
-use Rattle.rule_merging.specs.Remembered.{account_of, kept_of, two_of}
+use Rattle.rule_merging.specs.Remembered.{account_of, kept_of}
 use Rattle.rule_merging.specs.Examined.{Sets, HasSets, GrowsOverTwo, with_each, schema_of, document_of, sets_of}
 use Rattle.rule_merging.specs.Twos.{are_of, GrowsByTwo}
-use Rattle.rule_merging.specs.Pairs.{Looks, each_with}
+use Rattle.rule_merging.specs.Pairs.{each_with}
 use Rattle.rule_merging.specs.declared.examination.Examination.{Examination}
 use Rattle.rule_merging.specs.declared.remembered.Remembered.{Remembered}
 use Rattle.rule_merging.proofs.Looking.{looks_both}

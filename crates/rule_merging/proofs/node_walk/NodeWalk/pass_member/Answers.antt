@@ -1,4 +1,4 @@
-use Rattle.std.proofs.Common.{true, false, refl, subst}
+use Rattle.std.proofs.Common.{refl, subst}
 use Rattle.rule_number_lists.specs.NumberSet.{numbers_in, PutsIn}
 use Rattle.rule_merging.specs.NodeWalk.{state_of}
 use Rattle.rule_merging.proofs.Walking.{member_there, member_added}

@@ -1,4 +1,4 @@
-use Rattle.std.proofs.Common.{true, false, subst}
+use Rattle.std.proofs.Common.{true, subst}
 use Rattle.rule_merging.specs.declared.remembered.Pair.{Pair}
 use Rattle.rule_merging.specs.Members.{read_sets}
 use Rattle.rule_merging.specs.Remembered.{kept_of, two_of, LooksAt}

@@ -1,4 +1,4 @@
-use Rattle.std.proofs.Common.{◌≡◌, ◌<◌, ◌≤◌, ◌∙◌, Contains, length, get_or, refl, sym, ap, subst, arith, inl, le_refl}
+use Rattle.std.proofs.Common.{◌<◌, ◌≤◌, Contains, length, refl, sym, ap, subst, arith, inl, le_refl}
 use Rattle.std.proofs.lemmas.List.Elements.{Contains-get_or}
 use Rattle.rule_number_lists.specs.NumberSet.{numbers_in}
 use Rattle.rule_number_lists.proofs.Sets.{as_many}

@@ -1,4 +1,4 @@
-use Rattle.std.proofs.lemmas.Result.{IfOk-weaker, on_err_weaker}
+use Rattle.std.proofs.lemmas.Result.{IfOk-weaker}
 use Rattle.rule_number_lists.specs.NumberLists.{list_of, lists_kept}
 use Rattle.rule_merging.specs.Twos.{contents_of_two}
 use Rattle.rule_merging.specs.Remembered.{kept_of}
