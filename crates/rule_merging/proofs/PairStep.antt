@@ -75,8 +75,7 @@ module _ (d : MeantDocument Place) where
   leads_read a t (starts_here e) = (a, (starts_here refl, (ap fields_in e, ap spreads_in e)))
   leads_read a t (leads_on {x} r (n, (c, is))) =
       let v = leads_read a x r in
-      let f = mapped_some (λ (g : MeantFragment Place). set_read g.set) (under n d.fragments) t (sym (under_same (λ (g : MeantFragment Place). set_read g.set) n d.fragments) ∙ is) in
-      (
+      let f = mapped_some (λ (g : MeantFragment Place). set_read g.set) (under n d.fragments) t (sym (under_same (λ (g : MeantFragment Place). set_read g.set) n d.fragments) ∙ is) in (
         list_read f.0.set,
         (
           leads_on v.1.0 (n, (subst (λ l. Contains l n) v.1.1.1 c, ap (option_map (λ (g : MeantFragment Place). list_read g.set)) f.1.0)),

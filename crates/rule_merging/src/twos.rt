@@ -7,10 +7,10 @@ ghost use Rattle.rule_merging.specs.Twos.{are_two, are_of, IsListOfTwo, GrowsByT
 ghost use Rattle.rule_merging.specs.Examined.{sets_of, HasSets, ExaminesPair, ExaminesPairs, GrowsOver, GrowsOverTwo, GrowsHere};
 ghost use Rattle.rule_merging.specs.OfProgram.{Comes, ExaminesThese, PairsOf};
 
-use crate::examination::Examination;
-use crate::remembered::{Pair, Remembered};
 use crate::conflicts::Breach;
+use crate::examination::Examination;
 use crate::nodes::{node_of, starts_of};
+use crate::remembered::{Pair, Remembered};
 use rule_field_sets::Member;
 use std::alloc::{AllocError, Global};
 
