@@ -1,6 +1,6 @@
 -- The sets within a set, and what is left of them, from the last to the first.
 use Rattle.std.proofs.Common.{◌≡◌, ◌∙◌, ◌++◌, ◌<◌, ◌≤◌, ◌+◌, ℕ, true, false, List, [], ◌∷◌, map, take, drop, suc, length, get_or, refl, ap, sym, subst, append-nil, append_assoc, length-append, arith, true≢false, inl}
-use Rattle.std.specs.Prelude.{Option, Some, None, MatchOption, flat_map, is_some, option_to_list}
+use Rattle.std.specs.Prelude.{Option, Some, None, MatchOption, Result, Ok, Err, MatchResult, IfOk, flat_map, is_some, option_to_list}
 use Rattle.std.specs.Option.{option_map, option_copied}
 use Rattle.std.specs.Borrow.{Bor}
 use Rattle.std.proofs.Math.Seq.{drop-cons}
@@ -36,19 +36,11 @@ pushed tree old new x is = ap (last_first tree) is ∙ fold-append (λ vs y. tre
 
 -- ---- the set of a selection
 
-pub field_pushed : (n : Node Field) (s : Selection) (old new : List (Bor SelectionSet)) (x : Bor SelectionSet) → s ≡ Field' n → x.now ≡ (content {A = Field} n).selection_set → new ≡ old ++ x ∷ []
-    → waiting_sets new ≡ own_sets (typed_selection_tree s) ++ waiting_sets old
-field_pushed n s old new x is own push =
-    pushed (λ (v : Bor SelectionSet). typed_set_tree v.now) old new x push
-    ∙ ap (λ v. typed_set_tree v ∷ waiting_sets old) own
-    ∙ ap (λ l. l ++ waiting_sets old) (sym (ap own_sets (ap typed_selection_tree is ∙ typed_tree_field n)))
+pub field_pushed : (n : Node Field) (s : Selection) (v : SelectionSet) (new old : List (TypedSet Place)) → s ≡ Field' n → v ≡ (content {A = Field} n).selection_set → new ≡ typed_set_tree v ∷ old → new ≡ own_sets (typed_selection_tree s) ++ old
+field_pushed n s v new old is own push = push ∙ ap (λ u. typed_set_tree u ∷ old) own ∙ ap (λ l. l ++ old) (sym (ap own_sets (ap typed_selection_tree is ∙ typed_tree_field n)))
 
-pub inline_pushed : (n : Node InlineFragment) (s : Selection) (old new : List (Bor SelectionSet)) (x : Bor SelectionSet) → s ≡ InlineFragment' n → x.now ≡ (content {A = InlineFragment} n).selection_set → new ≡ old ++ x ∷ []
-    → waiting_sets new ≡ own_sets (typed_selection_tree s) ++ waiting_sets old
-inline_pushed n s old new x is own push =
-    pushed (λ (v : Bor SelectionSet). typed_set_tree v.now) old new x push
-    ∙ ap (λ v. typed_set_tree v ∷ waiting_sets old) own
-    ∙ ap (λ l. l ++ waiting_sets old) (sym (ap own_sets (ap typed_selection_tree is ∙ typed_tree_inline n)))
+pub inline_pushed : (n : Node InlineFragment) (s : Selection) (v : SelectionSet) (new old : List (TypedSet Place)) → s ≡ InlineFragment' n → v ≡ (content {A = InlineFragment} n).selection_set → new ≡ typed_set_tree v ∷ old → new ≡ own_sets (typed_selection_tree s) ++ old
+inline_pushed n s v new old is own push = push ∙ ap (λ u. typed_set_tree u ∷ old) own ∙ ap (λ l. l ++ old) (sym (ap own_sets (ap typed_selection_tree is ∙ typed_tree_inline n)))
 
 -- ---- the sets of a set's selections
 
@@ -108,16 +100,11 @@ step_on waiting rest next sets more x was went push =
       omega (arith, ap length after),
     )
 
--- the first set waits
-pub begun : (sets none waiting : List (Bor SelectionSet)) (x : Bor SelectionSet) → sets ≡ [] → none ≡ [] → waiting ≡ none ++ x ∷ [] → typed_sets sets ++ flat_map within (waiting_sets waiting) ≡ within (typed_set_tree x.now)
-begun sets none waiting x empty nothing push =
-    ap (λ l. typed_sets l ++ flat_map within (waiting_sets waiting)) empty
-    ∙ ap (λ l. flat_map within (waiting_sets l)) (push ∙ ap (λ l. l ++ x ∷ []) nothing)
-    ∙ append-nil (within (typed_set_tree x.now))
-
--- none waits
-pub ended : (sets waiting : List (Bor SelectionSet)) (l : List (TypedSet Place)) → length waiting ≡ 0 → typed_sets sets ++ flat_map within (waiting_sets waiting) ≡ l → typed_sets sets ≡ l
-ended sets waiting l none is = sym (append-nil (typed_sets sets)) ∙ ap (λ w. typed_sets sets ++ flat_map within (waiting_sets w)) (sym (nil_from_length waiting none)) ∙ is
+-- where one set waits, it and those within it are found
+pub found_within : (v : TypedSet Place) (found none : List (Bor SelectionSet)) (waiting : List (TypedSet Place)) (sets : List (TypedSet Place)) → found ≡ [] → none ≡ [] → waiting ≡ v ∷ waiting_sets none → sets ≡ typed_sets found ++ flat_map within waiting
+    → sets ≡ within v
+found_within v found none waiting sets empty nothing wait is =
+    is ∙ ap (λ l. typed_sets l ++ flat_map within waiting) empty ∙ ap (flat_map within) (wait ∙ ap (λ l. v ∷ waiting_sets l) nothing) ∙ append-nil (within v)
 
 -- ---- what is left of the set of a selection
 
@@ -159,11 +146,6 @@ module _ (s : SchemaTree Place) where
     inl (typed_selection_tree copy, (put, subst (λ (y : TypedSelection Place). Thins s (meant (typed_selection_tree x)) (meant y)) (sym same) (thins_same s (meant (typed_selection_tree x))))),
     (takes s more left).1,
   )
-
-  -- what this comes to, where this is left of its set
-  pub stays_by : (ty : NameValue) (x : Selection) (below : Option SelectionSet) (w : SelectionSet) (old new : List SelectionSet) (kept after : SelectionSet) → TakesBelow x below old new → below ≡ Some w
-      → (LeavesBelow s (meant (typed_selection_tree x)) (meant_of_set (typed_set_tree w)) → KeepsSelection s ty x kept after) → TakesKept s ty x old new kept after
-  stays_by ty x below w old new kept after takes is keeps more left = let both = subst (λ b. TakesBelow x b old new) is takes s more left in (keeps both.0, both.1)
 
   -- ---- what is left of a set
 
@@ -240,5 +222,10 @@ module _ (s : SchemaTree Place) where
       (subst (AreLeft s (v ∷ [])) (pushed typed_set_tree rest thin w is) (thinned (v ∷ []) (append-nil (within v) ∙ sym all))).0
 
   -- all of it
-  pub same_left : (v w : TypedSet Place) → w ≡ v → LeavesOfTyped s v w
+  same_left : (v w : TypedSet Place) → w ≡ v → LeavesOfTyped s v w
   same_left v w is = subst (λ (x : TypedSet Place). LeavesOfTyped s v x) (sym is) (refl, leaves_same s (meant_of_set v))
+
+  -- of a copy
+  pub copy_left : {E : Type 0} (v : TypedSet Place) (r : Result SelectionSet E) (Q : E → Type 0) → MatchResult r (λ copy. typed_set_tree copy ≡ v) Q → IfOk r (λ copy. LeavesOfTyped s v (typed_set_tree copy))
+  copy_left v (Ok copy) Q same = same_left v (typed_set_tree copy) same
+  copy_left v (Err e) Q same = tt

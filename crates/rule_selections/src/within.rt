@@ -1,20 +1,20 @@
 //! The sets within a set, at any depth, each before those within it. There is no recursion, so it takes the same stack at any
 //! depth.
-ghost use Rattle.std.specs.Prelude.{◌≡◌, ◌++◌, ◌∷◌, [], IfOk, OnOk};
+ghost use Rattle.std.specs.Prelude.{◌≡◌, ◌++◌, ◌∷◌, [], flat_map, IfOk, OnOk};
 ghost use Rattle.document_typed_selections.specs.TypedTree.{typed_selection_tree, typed_set_tree};
 ghost use Rattle.rule_selections.specs.Within.{own_sets, sets_below, within, typed_sets, waiting_sets};
 
 use document_typed_selections::{Selection, SelectionSet};
 use std::alloc::{AllocError, Global};
 
-/// Puts a set last.
+/// The set comes next.
 fn push_set<'doc>(
     set: &'doc SelectionSet,
-    sets: &mut Vec<&'doc SelectionSet>,
+    waiting: &mut Vec<&'doc SelectionSet>,
 ) -> Result<(), AllocError>
-    ensures { OnOk result (sets.new.items ≡ sets.old.items ++ set ∷ []) }
+    ensures { OnOk result (waiting_sets waiting.new.items ≡ typed_set_tree set.now ∷ waiting_sets waiting.old.items) }
 {
-    sets.push(set)?;
+    waiting.push(set)?;
     Ok(())
 }
 
@@ -46,6 +46,27 @@ fn push_sets_below<'doc>(
     Ok(())
 }
 
+/// The sets that are found within a set.
+#[derive(Drop)]
+struct Finding<'doc> {
+    sets: Vec<&'doc SelectionSet>,
+    /// Those of which the sets within are not found yet, the next one last.
+    waiting: Vec<&'doc SelectionSet>,
+}
+
+impl<'doc> Finding<'doc> {
+    /// Finds those that wait, and all sets within them.
+    fn find_all(&mut self) -> Result<(), AllocError>
+        ensures { OnOk result (typed_sets self.new.sets.items ≡ typed_sets self.old.sets.items ++ flat_map within (waiting_sets self.old.waiting.items)) }
+    {
+        while let Some(next) = self.waiting.pop() {
+            self.sets.push(next)?;
+            push_sets_below(next, &mut self.waiting)?;
+        }
+        Ok(())
+    }
+}
+
 /// The set and all sets within it, of fields and of inline fragments, each before those within it, and these in order.
 pub(crate) fn sets_within<'doc>(
     alloc: Global,
@@ -53,12 +74,12 @@ pub(crate) fn sets_within<'doc>(
 ) -> Result<Vec<&'doc SelectionSet>, AllocError>
     ensures { IfOk result (λ sets. typed_sets sets.items ≡ within (typed_set_tree set.now)) }
 {
-    let mut sets = Vec::new(alloc);
-    let mut waiting = Vec::new(alloc);
-    push_set(set, &mut waiting)?;
-    while let Some(next) = waiting.pop() {
-        push_set(next, &mut sets)?;
-        push_sets_below(next, &mut waiting)?;
-    }
+    let mut finding = Finding {
+        sets: Vec::new(alloc),
+        waiting: Vec::new(alloc),
+    };
+    finding.waiting.push(set)?;
+    finding.find_all()?;
+    let Finding { sets, waiting: _ } = finding;
     Ok(sets)
 }

@@ -5,16 +5,13 @@ use Rattle.rule_document_ground.specs.in_schema.SchemaOf.{schema_tree}
 use Rattle.document_typed_selections.specs.TypedTree.{typed_set_tree}
 use Rattle.document_typed_selections.specs.declared.selection.SelectionSet.{SelectionSet}
 use Rattle.rule_selections.specs.Settled.{LeavesOfTyped}
-use Rattle.rule_selections.proofs.SetsWithin.{whole_thinned, same_left}
+use Rattle.rule_selections.proofs.SetsWithin.{whole_thinned, copy_left}
 use Rattle.rule_selections.proofs.thinned.thinned.Goals as goal
 
 pub returns-in-Some : goal.returns-in-Some
 returns-in-Some c =
     whole_thinned (schema_tree c.args.schema.now) (typed_set_tree c.args.set.now) c.in_ok-sets.sets.items c.in_ok-thin.thin.items c.pop.new.self.items c.in-Some.whole c.in_ok-sets.ensures c.in_ok-thin.ensures
-    (c.pop.ensures.items ∙ ap (λ o. c.pop.new.self.items ++ option_to_list o) c.in-Some.is)
+    c.in-Some.ensures.items
 
-pub returns-in-None : goal.returns-in-None
-returns-in-None c =
-    let s = schema_tree c.args.schema.now in
-    let v = typed_set_tree c.args.set.now in
-    IfOk-weaker c.clone.result (λ (r : SelectionSet). typed_set_tree r ≡ v) (λ (r : SelectionSet). LeavesOfTyped s v (typed_set_tree r)) (λ r same. same_left s v (typed_set_tree r) same) c.clone.ensures.same
+pub returns : goal.returns
+returns c = copy_left (schema_tree c.args.schema.now) (typed_set_tree c.args.set.now) c.clone.result _ c.clone.ensures.cases

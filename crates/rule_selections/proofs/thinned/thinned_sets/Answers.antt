@@ -10,7 +10,7 @@ loop-next-init c = none_thinned (schema_tree c.args.schema.now) c.args.sets.item
 pub loop-next-preserved : goal.loop-next-preserved
 loop-next-preserved c =
     next_thinned (schema_tree c.args.schema.now) c.args.sets.items c.loop-next.sets.items c.pop.new.self.items c.in-Some.next c.loop-next.thin.items c.thinned_set.new.thin.items c.push.new.self.items c.in_ok-set.set
-    (c.pop.ensures.items ∙ ap (λ o. c.pop.new.self.items ++ option_to_list o) c.in-Some.is) c.in_ok-set.ensures c.in_ok-push.ensures.items c.loop-next.invariant
+    c.in-Some.ensures.items c.in_ok-set.ensures c.in_ok-push.ensures.items c.loop-next.invariant
 
 pub returns : goal.returns
 returns c = all_thinned (schema_tree c.args.schema.now) c.args.sets.items c.loop-next.sets.items c.loop-next.thin.items (omega (arith, c.in_default.ensures.cases.0)) c.loop-next.invariant
