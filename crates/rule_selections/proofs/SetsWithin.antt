@@ -1,5 +1,5 @@
 -- The sets within a set, and what is left of them, from the last to the first.
-use Rattle.std.proofs.Common.{◌≡◌, ◌∙◌, ◌++◌, ◌<◌, ◌≤◌, ◌+◌, ℕ, true, false, List, [], ◌∷◌, map, take, drop, suc, length, get_or, refl, ap, sym, subst, append-nil, append_assoc, length-append, arith, true≢false, inl}
+use Rattle.std.proofs.Common.{◌≡◌, ◌∙◌, ◌++◌, ◌<◌, ◌≤◌, ◌+◌, ℕ, true, false, List, [], ◌∷◌, map, take, drop, suc, length, get_or, refl, ap, sym, subst, append-nil, append_assoc, arith, true≢false, inl}
 use Rattle.std.specs.Prelude.{Option, Some, None, MatchOption, Result, Ok, Err, MatchResult, IfOk, flat_map, is_some, option_to_list}
 use Rattle.std.specs.Option.{option_map, option_copied}
 use Rattle.std.specs.Borrow.{Bor}
@@ -146,6 +146,11 @@ module _ (s : SchemaTree Place) where
     inl (typed_selection_tree copy, (put, subst (λ (y : TypedSelection Place). Thins s (meant (typed_selection_tree x)) (meant y)) (sym same) (thins_same s (meant (typed_selection_tree x))))),
     (takes s more left).1,
   )
+
+  -- what this comes to, where this is left of its set
+  pub stays_by : (ty : NameValue) (x : Selection) (below : Option SelectionSet) (w : SelectionSet) (old new : List SelectionSet) (kept after : SelectionSet) → TakesBelow x below old new → below ≡ Some w
+      → (LeavesBelow s (meant (typed_selection_tree x)) (meant_of_set (typed_set_tree w)) → KeepsSelection s ty x kept after) → TakesKept s ty x old new kept after
+  stays_by ty x below w old new kept after takes is keeps more left = let both = subst (λ b. TakesBelow x b old new) is takes s more left in (keeps both.0, both.1)
 
   -- ---- what is left of a set
 

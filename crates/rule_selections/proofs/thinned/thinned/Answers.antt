@@ -1,10 +1,5 @@
-use Rattle.std.proofs.Common.{◌≡◌, ◌∙◌, ◌++◌, ap}
-use Rattle.std.specs.Prelude.{option_to_list}
-use Rattle.std.proofs.lemmas.Result.{IfOk-weaker}
 use Rattle.rule_document_ground.specs.in_schema.SchemaOf.{schema_tree}
 use Rattle.document_typed_selections.specs.TypedTree.{typed_set_tree}
-use Rattle.document_typed_selections.specs.declared.selection.SelectionSet.{SelectionSet}
-use Rattle.rule_selections.specs.Settled.{LeavesOfTyped}
 use Rattle.rule_selections.proofs.SetsWithin.{whole_thinned, copy_left}
 use Rattle.rule_selections.proofs.thinned.thinned.Goals as goal
 
