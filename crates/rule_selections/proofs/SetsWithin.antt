@@ -91,12 +91,11 @@ step_on waiting rest next sets more x was went push =
     let after : flat_map within (waiting_sets waiting) ≡ v ∷ flat_map within (waiting_sets next) =
     ap (flat_map within) (pushed (λ (v : Bor SelectionSet). typed_set_tree v.now) rest waiting x was)
     ∙ rest_is v (waiting_sets rest)
-    ∙ ap (λ l. v ∷ flat_map within l) (sym went) in
-    (
+    ∙ ap (λ l. v ∷ flat_map within l) (sym went) in (
       ap (λ l. typed_sets l ++ flat_map within (waiting_sets next)) push
-      ∙ ap (λ l. l ++ flat_map within (waiting_sets next)) (map-append (λ (v : Bor SelectionSet). typed_set_tree v.now) sets (x ∷ []))
-      ∙ append_assoc (typed_sets sets) (v ∷ []) (flat_map within (waiting_sets next))
-      ∙ ap (λ l. typed_sets sets ++ l) (sym after),
+          ∙ ap (λ l. l ++ flat_map within (waiting_sets next)) (map-append (λ (v : Bor SelectionSet). typed_set_tree v.now) sets (x ∷ []))
+          ∙ append_assoc (typed_sets sets) (v ∷ []) (flat_map within (waiting_sets next))
+          ∙ ap (λ l. typed_sets sets ++ l) (sym after),
       omega (arith, ap length after),
     )
 
