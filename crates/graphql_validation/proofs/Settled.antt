@@ -16,19 +16,18 @@ use Rattle.document_typed_operations.specs.declared.operation.Operation.{Operati
 use Rattle.document_meaning.specs.MeantTree.{MeantOperation, MeantFragment, MeantDocument}
 use Rattle.rule_fragments.specs.in_typing.DocumentView.{operation_meant}
 use Rattle.rule_fragments.specs.in_typing.Meanings.{meanings}
-use Rattle.rule_fragments.specs.in_typing.TypedByPlace.{IsTyped}
 use Rattle.rule_definitions.specs.Judged.{judged}
 use Rattle.rule_definitions.specs.Told.{PlacedFault}
 use Rattle.rule_document_definitions.specs.Fragments.{UndefinedFragmentAt, InvalidFragmentTargetAt, InvalidFragmentSpreadAt}
-use Rattle.rule_document_definitions.specs.Selected.{InOperation, operation_name, own}
+use Rattle.rule_document_definitions.specs.Selected.{InOperation, operation_name}
 use Rattle.rule_document_definitions.specs.Selections.{SelectionsBreak}
 use Rattle.rule_document_definitions.specs.Told.{place_or_built_in, places_in}
-use Rattle.rule_fragments.specs.in_ground.Reach.{Member, IsReachOf, meant_fragments}
+use Rattle.rule_fragments.specs.in_ground.Reach.{IsReachOf, meant_fragments}
 use Rattle.rule_fragments.specs.in_ground.declared.lists.Reach.{Reach}
 use Rattle.rule_fragments.proofs.in_ground.OfDocuments.{ReachesFrom}
 use Rattle.rule_selections.specs.Typed.{ReachesTyped}
 use Rattle.rule_selections.specs.Settled.{StandIn}
-use Rattle.rule_selections.proofs.Instead.{reached_more}
+use Rattle.rule_selections.proofs.Instead.{reaches_typed}
 use Rattle.rule_selections.proofs.SameFaults.{same_names, same_variables, same_selections, same_undefined, same_targets, same_spreads}
 use Rattle.rule_variables.specs.Parts.{VariablesBreakAlone, VariablesBreakUnder}
 use Rattle.indexmap.specs.IndexMap.{IndexMap}
@@ -61,7 +60,7 @@ module _ (s : SchemaTree Place) (d : MeantDocument Place) (instead : Entries (Me
   named_instead n = same_names s d instead in' o n
 
   pub typed_instead : ReachesTyped (meanings (plain s)) d o → ReachesTyped (meanings (plain s)) Other o
-  typed_instead typed x r = let m = reached_more s d instead in' (own o) x r in subst (λ (e : Member Place). IsTyped (meanings (plain s)) e.0 e.1) m.1.1 (typed m.0 m.1.0)
+  typed_instead typed = reaches_typed s d instead in' o typed
 
   module _ (typed : ReachesTyped (meanings (plain s)) d o) (f : PlacedFault) where
     same : OperationFails Other o s f ↔ OperationFails d o s f

@@ -1,14 +1,15 @@
--- Selections by their members: what is reached leads to the same selections, wherever it stands.
-use Rattle.std.proofs.Common.{◌≡◌, ◌∙◌, ℕ, suc, List, true, refl, sym, ap, subst, inl, inr, None, Some, Contains, true≢false, is_some}
+-- Selections by their members: what stands in a set, wherever that stands; and what the rules read of a member.
+use Rattle.std.proofs.Common.{◌≡◌, ℕ, suc, List, [], ◌∷◌, refl, sym, ap, subst, inl, inr, Option, None, Some, Contains, true≢false, is_some}
+use Rattle.graphql_names.specs.Placed.{Place}
+use Rattle.tree_directives.specs.DirectiveTree.{Directives}
+use Rattle.tree_directives.specs.declared.directive_location.DirectiveLocation.{DirectiveLocation}
 use Rattle.schema_components.proofs.Places.{not_in_nil, Contains-cons, Contains-first, Contains-rest}
 use Rattle.rule_selections.proofs.FieldPlaces.{some_is}
-use Rattle.document_meaning.specs.MeantTree.{MeantSelection, MeantField, MeantSpread, MeantInline, MeantSet, meant_set, MeantSelections, no_meant, meant_then, MeantDocument}
+use Rattle.document_meaning.specs.MeantTree.{MeantSelection, MeantField, MeantSpread, MeantInline, MeantSet, meant_set, MeantSelections, no_meant, meant_then}
 use Rattle.rule_definitions.specs.Words.{Present}
-use Rattle.rule_document_definitions.specs.Contents.{content}
-use Rattle.rule_document_definitions.specs.Reached.{Closed, LeadsInto}
-use Rattle.rule_document_definitions.specs.Selected.{Position, SelectionAt, Standing, StandingField, stand, standing_in, field_there, spread_name, inline_condition}
-use Rattle.rule_document_ground.specs.Reach.{Member, field_of}
-use Rattle.rule_selections.specs.Settled.{nothing, enters_none, along, own_members}
+use Rattle.rule_document_definitions.specs.Selected.{Position, InOperation, SelectionAt, Standing, StandingField, HasNone, stand, standing_in, field_there, spread_name, inline_condition, selection_place, selection_location, selection_directives}
+use Rattle.rule_document_ground.specs.Reach.{Member}
+use Rattle.rule_selections.specs.Settled.{filler}
 
 module _ {P : Type 0} where
   abbrev pub member : Standing P → Member P
@@ -18,9 +19,13 @@ module _ {P : Type 0} where
   abbrev pub at : Position → Member P → Standing P
   at q e = record { position = q; parent = e.0; it = e.1 }
 
-  -- the same selection under the same type
-  abbrev pub Alike : Standing P → Standing P → Type 0
-  Alike x y = member x ≡ member y
+  -- the selections of a set itself, each after the name of its type
+  abbrev pub along : List ℕ → MeantSelections P → List (Member P)
+  along t no_meant = []
+  along t (meant_then s ss) = (t, s) ∷ along t ss
+
+  abbrev pub own_members : MeantSet P → List (Member P)
+  own_members (meant_set t ss) = along t ss
 
   -- ---- what stands in a set is what are its members
 
@@ -44,72 +49,59 @@ module _ {P : Type 0} where
   pub of_members : (q : Position) (v : MeantSet P) (e : Member P) → Contains (own_members v) e → (x : Standing P) × (Contains (standing_in q v) x × (member x ≡ e))
   of_members q (meant_set t ss) e c = stands_own q t 0 ss e c
 
-  -- in the same set elsewhere
-  elsewhere : (p q : Position) (v : MeantSet P) (y : Standing P) → Contains (standing_in p v) y → (z : Standing P) × (Contains (standing_in q v) z × Alike z y)
-  elsewhere p q v y c = of_members q v (member y) (to_members p v y c)
+-- ---- what the rules read of a member: of its set whether it has selections, and no more
 
-  -- ---- what it leads to
+-- a set that says whether this one has selections
+abbrev pub hollow : MeantSet Place → MeantSet Place
+hollow (meant_set t no_meant) = meant_set [] no_meant
+hollow (meant_set t (meant_then x xs)) = meant_set [] (meant_then (filler []) no_meant)
 
-  module _ (d : MeantDocument P) where
-    moved_to : (p q : Position) (n : List ℕ) (s : MeantSelection P) (y : Standing P) → LeadsInto d (at p (n, s)) y → (z : Standing P) × (LeadsInto d (at q (n, s)) z × Alike z y)
-    moved_to p q n (MeantField place df h v) y (inl (f, (is, c))) =
-        let g : StandingField P = record { position = p; parent = n; place = place; definition = df; head = h; set = v } in
-        let r = elsewhere p q v y (subst (λ (f : StandingField P). Contains (standing_in f.position f.set) y) (sym (some_is g f is)) c) in
-        (r.0, (inl (record { position = q; parent = n; place = place; definition = df; head = h; set = v }, (refl, r.1.0)), r.1.1))
-    moved_to p q n (MeantField place df h v) y (inr (inl c)) = absurd (not_in_nil y c)
-    moved_to p q n (MeantField place df h v) y (inr (inr (m, (is, rest)))) = absurd (true≢false (sym (ap is_some is)))
-    moved_to p q n (MeantSpread place m ds) y (inl (f, (is, c))) = absurd (true≢false (sym (ap is_some is)))
-    moved_to p q n (MeantSpread place m ds) y (inr (inl c)) = absurd (not_in_nil y c)
-    moved_to p q n (MeantSpread place m ds) y (inr (inr h)) = (y, (inr (inr h), refl))
-    moved_to p q n (MeantInline place k ds v) y (inl (f, (is, c))) = absurd (true≢false (sym (ap is_some is)))
-    moved_to p q n (MeantInline place k ds v) y (inr (inl c)) = let r = elsewhere p q v y c in (r.0, (inr (inl r.1.0), r.1.1))
-    moved_to p q n (MeantInline place k ds v) y (inr (inr (m, (is, rest)))) = absurd (true≢false (sym (ap is_some is)))
+pub has_none : (v : MeantSet Place) → HasNone v ≡ HasNone (hollow v)
+has_none (meant_set t no_meant) = refl
+has_none (meant_set t (meant_then x xs)) = refl
 
-    -- what is like it leads to what is like that
-    pub moved : (x z y : Standing P) → Alike z x → LeadsInto d x y → (w : Standing P) × (LeadsInto d z w × Alike w y)
-    moved x z y same leads = subst (λ (e : Member P). (w : Standing P) × (LeadsInto d (at z.position e) w × Alike w y)) (sym same) (moved_to x.position z.position x.parent x.it y leads)
+-- a field with such a set, and nothing told of where it stands
+abbrev pub outline : StandingField Place → StandingField Place
+outline f = record { position = InOperation None; parent = f.parent; place = f.place; definition = f.definition; head = f.head; set = hollow f.set }
 
-    -- one like it is reached
-    abbrev pub Meets : List (Standing P) → Standing P → Type 0
-    Meets start x = (y : Standing P) × (Closed (Contains start) (LeadsInto d) y × Alike y x)
+-- the field that a selection is, so
+abbrev pub outline_of : Member Place → Option (StandingField Place)
+outline_of (t, MeantField p d h v) = Some (record { position = InOperation None; parent = t; place = p; definition = d; head = h; set = hollow v })
+outline_of (t, MeantSpread p n ds) = None
+outline_of (t, MeantInline p c ds v) = None
 
-    -- ---- what enters no fragment on a type
+pub record Look : Type 0 where
+  pub parent : List ℕ
+  pub place : Place
+  pub location : DirectiveLocation
+  pub directives : Directives Place
+  pub spread : Option (List ℕ)
+  pub condition : Option (List ℕ)
+  pub field : Option (StandingField Place)
 
-    -- leads to the same where there are no fragments
-    pub into_nothing : (x y : Standing P) → spread_name x.it ≡ None → LeadsInto d x y → LeadsInto nothing x y
-    into_nothing x y e (inl f) = inl f
-    into_nothing x y e (inr (inl i)) = inr (inl i)
-    into_nothing x y e (inr (inr (n, (is, rest)))) = absurd (true≢false (sym (ap is_some (sym e ∙ is))))
+abbrev pub look : Member Place → Look
+look e = record {
+  parent = e.0;
+  place = selection_place e.1;
+  location = selection_location e.1;
+  directives = selection_directives e.1;
+  spread = spread_name e.1;
+  condition = inline_condition e.1;
+  field = outline_of e;
+}
 
-    pub of_nothing : (x y : Standing P) → LeadsInto nothing x y → LeadsInto d x y
-    of_nothing x y (inl f) = inl f
-    of_nothing x y (inr (inl i)) = inr (inl i)
-    of_nothing x y (inr (inr (n, (is, (g, (named, c)))))) = absurd (true≢false (sym (ap is_some named)))
+-- what is said of a field, without looking at where it stands, and at which selections it has
+module _ (Q : StandingField Place → Type 0) (blind : (f : StandingField Place) → Q f ≡ Q (outline f)) (q : Position) (n : List ℕ) where
+  pub bare : (s : MeantSelection Place) → Present (field_there q n s) Q → Present (outline_of (n, s)) Q
+  bare (MeantField p df h v) (f, (is, holds)) =
+      let g : StandingField Place = record { position = q; parent = n; place = p; definition = df; head = h; set = v } in
+      (outline g, (refl, subst (λ X. X) (blind g) (subst Q (sym (some_is g f is)) holds)))
+  bare (MeantSpread p m ds) (f, (is, holds)) = absurd (true≢false (sym (ap is_some is)))
+  bare (MeantInline p c ds v) (f, (is, holds)) = absurd (true≢false (sym (ap is_some is)))
 
-  pub no_name : (s : MeantSelection P) → enters_none s ≡ true → spread_name s ≡ None
-  no_name (MeantField p d h v) e = refl
-  no_name (MeantSpread p n ds) e = absurd (true≢false (sym e))
-  no_name (MeantInline p c ds v) e = refl
-
-  pub no_condition : (s : MeantSelection P) → enters_none s ≡ true → inline_condition s ≡ None
-  no_condition (MeantField p d h v) e = refl
-  no_condition (MeantSpread p n ds) e = refl
-  no_condition (MeantInline p None ds v) e = refl
-  no_condition (MeantInline p (Some c) ds v) e = absurd (true≢false (sym e))
-
-  -- ---- what is said of a field, without looking at where it stands
-
-  module _ (Q : StandingField P → Type 0) (blind : (f : StandingField P) → Q f ≡ Q (content f)) (q : Position) (n : List ℕ) where
-    pub bare : (s : MeantSelection P) → Present (field_there q n s) Q → Present (field_of (n, s)) Q
-    bare (MeantField p df h v) (f, (is, holds)) =
-        let g : StandingField P = record { position = q; parent = n; place = p; definition = df; head = h; set = v } in
-        (content g, (refl, subst (λ X. X) (blind g) (subst Q (sym (some_is g f is)) holds)))
-    bare (MeantSpread p m ds) (f, (is, holds)) = absurd (true≢false (sym (ap is_some is)))
-    bare (MeantInline p c ds v) (f, (is, holds)) = absurd (true≢false (sym (ap is_some is)))
-
-    pub placed : (s : MeantSelection P) → Present (field_of (n, s)) Q → Present (field_there q n s) Q
-    placed (MeantField p df h v) (f, (is, holds)) =
-        let g : StandingField P = record { position = q; parent = n; place = p; definition = df; head = h; set = v } in
-        (g, (refl, subst (λ X. X) (sym (blind g)) (subst Q (sym (some_is (content g) f is)) holds)))
-    placed (MeantSpread p m ds) (f, (is, holds)) = absurd (true≢false (sym (ap is_some is)))
-    placed (MeantInline p c ds v) (f, (is, holds)) = absurd (true≢false (sym (ap is_some is)))
+  pub placed : (s : MeantSelection Place) → Present (outline_of (n, s)) Q → Present (field_there q n s) Q
+  placed (MeantField p df h v) (f, (is, holds)) =
+      let g : StandingField Place = record { position = q; parent = n; place = p; definition = df; head = h; set = v } in
+      (g, (refl, subst (λ X. X) (sym (blind g)) (subst Q (sym (some_is (outline g) f is)) holds)))
+  placed (MeantSpread p m ds) (f, (is, holds)) = absurd (true≢false (sym (ap is_some is)))
+  placed (MeantInline p c ds v) (f, (is, holds)) = absurd (true≢false (sym (ap is_some is)))

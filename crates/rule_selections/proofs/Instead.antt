@@ -1,40 +1,51 @@
--- Where others stand in for the fragments of a document, operations reach the same but for selections that are quiet.
-use Rattle.std.proofs.Common.{◌≡◌, ◌↔◌, ◌⊎◌, ◌∙◌, ℕ, List, [], refl, sym, ap, subst, inl, inr, Option, None, Some, Contains, true≢false, is_some}
+-- Where others replace the fragments of a document, operations reach what is left of the same, but for selections that are settled.
+use Rattle.std.proofs.Common.{◌≡◌, ◌↔◌, ◌⊎◌, ◌∙◌, ℕ, true, List, [], refl, sym, ap, subst, inl, inr, Option, None, Some, Contains, true≢false, is_some}
 use Rattle.graphql_names.specs.Placed.{Place}
 use Rattle.schema_components.specs.Names.{Entries}
-use Rattle.schema_components.proofs.Places.{not_in_nil, Contains-cons, Contains-first}
+use Rattle.schema_components.proofs.Places.{not_in_nil}
 use Rattle.schema_types.specs.SchemaTree.{SchemaTree}
 use Rattle.schema_types.specs.Plain.{plain}
 use Rattle.schema_types.specs.Addresses.{under}
 use Rattle.rule_selections.proofs.FieldPlaces.{some_is}
-use Rattle.document_meaning.specs.MeantTree.{MeantOperation, MeantFragment, MeantDocument}
+use Rattle.document_meaning.specs.MeantTree.{MeantSelection, MeantField, MeantSpread, MeantInline, MeantOperation, MeantFragment, MeantDocument}
 use Rattle.rule_document_ground.specs.in_typing.Meanings.{meanings}
-use Rattle.rule_document_ground.specs.in_typing.TypedByPlace.{IsTyped}
 use Rattle.rule_definitions.specs.Words.{Present}
 use Rattle.rule_definitions.specs.Judged.{judged}
 use Rattle.rule_definitions.specs.GivenValues.{Variables}
 use Rattle.rule_definitions.specs.Told.{PlacedFault}
 use Rattle.rule_definitions.specs.Uses.{GivenBreaks, UsesBreak}
-use Rattle.rule_document_definitions.specs.Selected.{InOperation, InFragment, SelectionAt, Standing, StandingField, spread_name, inline_condition, selection_location, selection_directives, own}
+use Rattle.rule_document_definitions.specs.Selected.{Position, InOperation, InFragment, Standing, StandingField, spread_name, inline_condition, selection_location, selection_directives, standing_in, own}
 use Rattle.rule_document_definitions.specs.Reached.{Closed, first, next, LeadsInto, AtReached, AtReachedField, AtReachedFragment}
-use Rattle.rule_document_definitions.specs.Contents.{content}
 use Rattle.rule_document_definitions.specs.Selections.{field_taker}
 use Rattle.rule_document_definitions.specs.Told.{place_or_built_in, places_in}
-use Rattle.rule_document_definitions.specs.UsedVariables.{StandsInArguments, StandsInSelection}
+use Rattle.rule_document_definitions.specs.UsedVariables.{StandsInArguments, StandsInDirectives}
 use Rattle.rule_document_ground.specs.Reach.{Member, field_of}
 use Rattle.rule_selections.specs.Steps.{MissesSubselection, ArgumentsOfBreak, SelectionBreaks}
 use Rattle.rule_selections.specs.Typed.{ReachesTyped}
-use Rattle.rule_selections.specs.Settled.{nothing, StandsWithin, emptied, IsQuiet, StandsInFor, StandIn}
-use Rattle.rule_selections.proofs.Elsewhere.{member, at, Alike, to_members, of_members, moved, Meets, into_nothing, of_nothing, no_name, no_condition, bare, placed}
+use Rattle.rule_selections.specs.Settled.{filler, filled, emptied, enters_none, IsQuiet, IsSettled, Thins, StandsInFor, StandIn}
+use Rattle.rule_selections.proofs.Elsewhere.{member, at, to_members, of_members, Look, look, outline, outline_of, bare, placed}
+use Rattle.rule_selections.proofs.Leaving.{IsFiller, StaysAs, stays_same, set_left_of, set_stays_in, filled_of, stays_filled, look_stays, stays_typed, filler_typed, settled_quiet, set_settled}
 use Rattle.rule_selections.proofs.SameUses.{same_uses}
 use Rattle.rule_selections.proofs.WithoutVariables.{gives_none, given_well, taken_well, used_well, unnamed_in_arguments, unnamed_in_directives}
 
+-- a member that enters no fragment on a type
+no_name : (s : MeantSelection Place) → enters_none s ≡ true → spread_name s ≡ None
+no_name (MeantField p d h v) e = refl
+no_name (MeantSpread p n ds) e = absurd (true≢false (sym e))
+no_name (MeantInline p c ds v) e = refl
+
+no_condition : (s : MeantSelection Place) → enters_none s ≡ true → inline_condition s ≡ None
+no_condition (MeantField p d h v) e = refl
+no_condition (MeantSpread p n ds) e = absurd (true≢false (sym e))
+no_condition (MeantInline p None ds v) e = refl
+no_condition (MeantInline p (Some c) ds v) e = absurd (true≢false (sym e))
+
 module _ (s : SchemaTree Place) (d : MeantDocument Place) (instead : Entries (MeantFragment Place)) (in' : StandIn s d.fragments instead) where
-  -- the document with those that stand in
+  -- the document with the others
   abbrev pub Other : MeantDocument Place
   Other = record { anonymous = d.anonymous; named = d.named; fragments = instead }
 
-  -- what stands under a name there, stands in for what stands there in the document
+  -- what is under a name there replaces what is under it in the document
   pub stood_for : (n : List ℕ) (h : MeantFragment Place) → under n instead ≡ Some h → (g : MeantFragment Place) × ((under n d.fragments ≡ Some g) × StandsInFor s h g)
   stood_for n h is = by (under n d.fragments) refl
     where
@@ -46,84 +57,168 @@ module _ (s : SchemaTree Place) (d : MeantDocument Place) (instead : Entries (Me
 
   -- ---- what a selection leads to
 
-  leads_more : (x y : Standing Place) → LeadsInto Other x y → (z : Standing Place) × (LeadsInto d x z × Alike z y)
-  leads_more x y (inl f) = (y, (inl f, refl))
-  leads_more x y (inr (inl i)) = (y, (inr (inl i), refl))
-  leads_more x y (inr (inr (n, (is, (h, (named, c)))))) =
-      let g = stood_for n h named in
-      let z = of_members (InFragment g.0.name.it) g.0.set (member y) (g.1.1.1.0 (member y) (to_members (InFragment h.name.it) h.set y c)) in
-      (z.0, (inr (inr (n, (is, (g.0, (g.1.0, z.1.0))))), z.1.1))
+  -- in the document x leads to one of which z is left; or z is a filler
+  abbrev LeadsMore : Standing Place → Standing Place → Type 0
+  LeadsMore x z = ((w : Standing Place) × (LeadsInto d x w × StaysAs s (member w) (member z))) ⊎ IsFiller (member z)
 
-  leads_less : (x y : Standing Place) → LeadsInto d x y → ((z : Standing Place) × (LeadsInto Other x z × Alike z y)) ⊎ IsQuiet s (member y)
-  leads_less x y (inl f) = inl (y, (inl f, refl))
-  leads_less x y (inr (inl i)) = inl (y, (inr (inl i), refl))
-  leads_less x y (inr (inr (n, (is, (g, (named, c)))))) =
-      let i = in'.there n g named in
-      elim (i.1.1.1.1 (member y) (to_members (InFragment g.name.it) g.set y c)) [
-        | inl k ↦ let z = of_members (InFragment i.0.name.it) i.0.set (member y) k in inl (z.0, (inr (inr (n, (is, (i.0, (i.1.0, z.1.0))))), z.1.1))
-        | inr quiet ↦ inr quiet
-      ]
+  -- with the others y leads to what is left of z; or z is settled
+  abbrev LeadsLess : Standing Place → Standing Place → Type 0
+  LeadsLess y z = ((w : Standing Place) × (LeadsInto Other y w × StaysAs s (member z) (member w))) ⊎ IsSettled s z.parent z.it
+
+  module _ (p q : Position) (t : List ℕ) where
+    leads_more : (x y : MeantSelection Place) → Thins s x y → (z : Standing Place) → LeadsInto Other (at q (t, y)) z → LeadsMore (at p (t, x)) z
+    leads_more (MeantField pl df h v) y (w, (l, is)) z leads = by (subst (λ (y : MeantSelection Place). LeadsInto Other (at q (t, y)) z) is leads)
+      where
+        by : LeadsInto Other (at q (t, MeantField pl df h (filled v w))) z → LeadsMore (at p (t, MeantField pl df h v)) z
+        by (inl (f, (same, c))) =
+            let new : StandingField Place = record { position = q; parent = t; place = pl; definition = df; head = h; set = filled v w } in
+            let old : StandingField Place = record { position = p; parent = t; place = pl; definition = df; head = h; set = v } in
+            elim (filled_of s v w l (member z) (to_members q (filled v w) z (subst (λ (f : StandingField Place). Contains (standing_in f.position f.set) z) (sym (some_is new f same)) c))) [
+              | inl r ↦ let u = of_members p v r.0 r.1.0 in inl (u.0, (inl (old, (refl, u.1.0)), subst (λ (e : Member Place). StaysAs s e (member z)) (sym u.1.1) r.1.1))
+              | inr k ↦ inr k
+            ]
+        by (inr (inl c)) = absurd (not_in_nil z c)
+        by (inr (inr (m, (named, rest)))) = absurd (true≢false (sym (ap is_some named)))
+    leads_more (MeantSpread pl n ds) y is z leads = by (subst (λ (y : MeantSelection Place). LeadsInto Other (at q (t, y)) z) is leads)
+      where
+        by : LeadsInto Other (at q (t, MeantSpread pl n ds)) z → LeadsMore (at p (t, MeantSpread pl n ds)) z
+        by (inl (f, (same, c))) = absurd (true≢false (sym (ap is_some same)))
+        by (inr (inl c)) = absurd (not_in_nil z c)
+        by (inr (inr (m, (named, (h, (there, c)))))) =
+            let g = stood_for m h there in
+            let r = set_left_of s g.0.set h.set g.1.1.1 (member z) (to_members (InFragment h.name.it) h.set z c) in
+            let u = of_members (InFragment g.0.name.it) g.0.set r.0 r.1.0 in
+            inl (u.0, (inr (inr (m, (named, (g.0, (g.1.0, u.1.0))))), subst (λ (e : Member Place). StaysAs s e (member z)) (sym u.1.1) r.1.1))
+    leads_more (MeantInline pl k ds v) y (w, (l, is)) z leads = by (subst (λ (y : MeantSelection Place). LeadsInto Other (at q (t, y)) z) is leads)
+      where
+        by : LeadsInto Other (at q (t, MeantInline pl k ds w)) z → LeadsMore (at p (t, MeantInline pl k ds v)) z
+        by (inl (f, (same, c))) = absurd (true≢false (sym (ap is_some same)))
+        by (inr (inl c)) =
+            let r = set_left_of s v w l (member z) (to_members q w z c) in
+            let u = of_members p v r.0 r.1.0 in
+            inl (u.0, (inr (inl u.1.0), subst (λ (e : Member Place). StaysAs s e (member z)) (sym u.1.1) r.1.1))
+        by (inr (inr (m, (named, rest)))) = absurd (true≢false (sym (ap is_some named)))
+
+    leads_less : (x y : MeantSelection Place) → Thins s x y → (z : Standing Place) → LeadsInto d (at p (t, x)) z → LeadsLess (at q (t, y)) z
+    leads_less (MeantField pl df h v) y (w, (l, is)) z leads = subst (λ (y : MeantSelection Place). LeadsLess (at q (t, y)) z) (sym is) (by leads)
+      where
+        by : LeadsInto d (at p (t, MeantField pl df h v)) z → LeadsLess (at q (t, MeantField pl df h (filled v w))) z
+        by (inl (f, (same, c))) =
+            let new : StandingField Place = record { position = q; parent = t; place = pl; definition = df; head = h; set = filled v w } in
+            let old : StandingField Place = record { position = p; parent = t; place = pl; definition = df; head = h; set = v } in
+            elim (stays_filled s v w l (member z) (to_members p v z (subst (λ (f : StandingField Place). Contains (standing_in f.position f.set) z) (sym (some_is old f same)) c))) [
+              | inl r ↦ let u = of_members q (filled v w) r.0 r.1.0 in inl (u.0, (inl (new, (refl, u.1.0)), subst (StaysAs s (member z)) (sym u.1.1) r.1.1))
+              | inr k ↦ inr k
+            ]
+        by (inr (inl c)) = absurd (not_in_nil z c)
+        by (inr (inr (m, (named, rest)))) = absurd (true≢false (sym (ap is_some named)))
+    leads_less (MeantSpread pl n ds) y is z leads = subst (λ (y : MeantSelection Place). LeadsLess (at q (t, y)) z) (sym is) (by leads)
+      where
+        by : LeadsInto d (at p (t, MeantSpread pl n ds)) z → LeadsLess (at q (t, MeantSpread pl n ds)) z
+        by (inl (f, (same, c))) = absurd (true≢false (sym (ap is_some same)))
+        by (inr (inl c)) = absurd (not_in_nil z c)
+        by (inr (inr (m, (named, (g, (there, c)))))) =
+            let i = in'.there m g there in
+            elim (set_stays_in s g.set i.0.set i.1.1.1 (member z) (to_members (InFragment g.name.it) g.set z c)) [
+              | inl r ↦ let u = of_members (InFragment i.0.name.it) i.0.set r.0 r.1.0 in inl (u.0, (inr (inr (m, (named, (i.0, (i.1.0, u.1.0))))), subst (StaysAs s (member z)) (sym u.1.1) r.1.1))
+              | inr k ↦ inr k
+            ]
+    leads_less (MeantInline pl k ds v) y (w, (l, is)) z leads = subst (λ (y : MeantSelection Place). LeadsLess (at q (t, y)) z) (sym is) (by leads)
+      where
+        by : LeadsInto d (at p (t, MeantInline pl k ds v)) z → LeadsLess (at q (t, MeantInline pl k ds w)) z
+        by (inl (f, (same, c))) = absurd (true≢false (sym (ap is_some same)))
+        by (inr (inl c)) =
+            elim (set_stays_in s v w l (member z) (to_members p v z c)) [
+              | inl r ↦ let u = of_members q w r.0 r.1.0 in inl (u.0, (inr (inl u.1.0), subst (StaysAs s (member z)) (sym u.1.1) r.1.1))
+              | inr k ↦ inr k
+            ]
+        by (inr (inr (m, (named, rest)))) = absurd (true≢false (sym (ap is_some named)))
+
+    -- what is settled leads to what is settled
+    settled_leads : (x : MeantSelection Place) → IsSettled s t x → (z : Standing Place) → LeadsInto d (at p (t, x)) z → IsSettled s z.parent z.it
+    settled_leads (MeantField pl df h v) k z (inl (f, (same, c))) =
+        let old : StandingField Place = record { position = p; parent = t; place = pl; definition = df; head = h; set = v } in
+        set_settled s v k.1 (member z) (to_members p v z (subst (λ (f : StandingField Place). Contains (standing_in f.position f.set) z) (sym (some_is old f same)) c))
+    settled_leads (MeantField pl df h v) k z (inr (inl c)) = absurd (not_in_nil z c)
+    settled_leads (MeantField pl df h v) k z (inr (inr (m, (named, rest)))) = absurd (true≢false (sym (ap is_some named)))
+    settled_leads (MeantSpread pl n ds) k z leads = absurd (true≢false (sym k.enters))
+    settled_leads (MeantInline pl c ds v) k z (inl (f, (same, h))) = absurd (true≢false (sym (ap is_some same)))
+    settled_leads (MeantInline pl c ds v) k z (inr (inl h)) = set_settled s v k.1 (member z) (to_members p v z h)
+    settled_leads (MeantInline pl c ds v) k z (inr (inr (m, (named, rest)))) = absurd (true≢false (sym (ap is_some named)))
+
+    -- a filler leads to nothing
+    filler_leads : (z : Standing Place) → LeadsInto Other (at q (t, filler t)) z → ⊥
+    filler_leads z (inl (f, (same, c))) = true≢false (sym (ap is_some same))
+    filler_leads z (inr (inl c)) = not_in_nil z c
+    filler_leads z (inr (inr (m, (named, rest)))) = true≢false (sym (ap is_some named))
+
+  more_from : (x y z : Standing Place) → StaysAs s (member x) (member y) → LeadsInto Other y z → LeadsMore x z
+  more_from x y z st leads = leads_more x.position y.position x.parent x.it y.it st.1 z (subst (λ (t : List ℕ). LeadsInto Other (at y.position (t, y.it)) z) st.0 leads)
+
+  less_from : (x y z : Standing Place) → StaysAs s (member x) (member y) → LeadsInto d x z → LeadsLess y z
+  less_from x y z st leads = subst (λ (t : List ℕ). LeadsLess (at y.position (t, y.it)) z) (sym st.0) (leads_less x.position y.position x.parent x.it y.it st.1 z leads)
+
+  none_from : (y z : Standing Place) → IsFiller (member y) → LeadsInto Other y z → ⊥
+  none_from y z (t, is) leads = filler_leads y.position y.position t z (subst (λ (e : Member Place). LeadsInto Other (at y.position e) z) (sym is) leads)
 
   -- ---- what is reached
 
   module _ (start : List (Standing Place)) where
-    -- what is reached with those that stand in is reached
-    pub reached_more : (x : Standing Place) → Closed (Contains start) (LeadsInto Other) x → Meets d start x
-    reached_more x (first c) = (x, (first c, refl))
-    reached_more y (next {x} r leads) =
-        let m = reached_more x r in
-        let w = moved Other x m.0 y m.1.1 leads in
-        let z = leads_more m.0 w.0 w.1.0 in
-        (z.0, (next m.1.0 z.1.0, z.1.1 ∙ w.1.1))
+    -- one is reached of which this is left; with the others, what is left of this is reached
+    abbrev pub MeetsMore : Standing Place → Type 0
+    MeetsMore y = (x : Standing Place) × (Closed (Contains start) (LeadsInto d) x × StaysAs s (member x) (member y))
 
-    -- a selection is reached
-    abbrev pub IsEntered : Member Place → Type 0
-    IsEntered e = (y : Standing Place) × (Closed (Contains start) (LeadsInto d) y × (member y ≡ e))
+    abbrev pub MeetsLess : Standing Place → Type 0
+    MeetsLess x = (y : Standing Place) × (Closed (Contains start) (LeadsInto Other) y × StaysAs s (member x) (member y))
 
-    -- it is one that stands in a quiet selection, which is reached
-    abbrev pub IsLeftOut : Standing Place → Type 0
-    IsLeftOut x = (e : Member Place) × (IsQuiet s e × (IsEntered e × ((w : Standing Place) × (StandsWithin e w × Alike w x))))
-
-    abbrev itself : Member Place → Standing Place
-    itself e = at (SelectionAt (InOperation None) 0) e
-
-    -- what is reached is reached with those that stand in, or left out
-    pub reached_less : (x : Standing Place) → Closed (Contains start) (LeadsInto d) x → Meets Other start x ⊎ IsLeftOut x
-    reached_less x (first c) = inl (x, (first c, refl))
-    reached_less y (next {x} r leads) = elim (reached_less x r) [
-      | inl m ↦ let w = moved d x m.0 y m.1.1 leads in elim (leads_less m.0 w.0 w.1.0) [
-        | inl z ↦ inl (z.0, (next m.1.0 z.1.0, z.1.1 ∙ w.1.1))
-        | inr quiet ↦ inr (member y, (subst (IsQuiet s) w.1.1 quiet, ((y, (next r leads, refl)), (itself (member y), (first (Contains-first (itself (member y)) [] (itself (member y)) refl), refl)))))
+    -- what is reached with the others is left of what is reached, or a filler
+    pub reached_more : (y : Standing Place) → Closed (Contains start) (LeadsInto Other) y → MeetsMore y ⊎ IsFiller (member y)
+    reached_more y (first c) = inl (y, (first c, stays_same s (member y)))
+    reached_more z (next {x} r leads) = elim (reached_more x r) [
+      | inl m ↦ elim (more_from m.0 x z m.1.1 leads) [
+        | inl w ↦ inl (w.0, (next m.1.0 w.1.0, w.1.1))
+        | inr k ↦ inr k
       ]
-      | inr l ↦ let z = l.1.1.1.0 in let w = moved d x z y l.1.1.1.1.1 leads in
-          inr (l.0, (l.1.0, (l.1.1.0, (w.0, (next l.1.1.1.1.0 (into_nothing d z w.0 (no_name z.it (l.1.0.enters z l.1.1.1.1.0)) w.1.0), w.1.1)))))
+      | inr k ↦ absurd (none_from x z k leads)
     ]
 
-    -- what stands in a selection is reached where that is
-    within : (e : Member Place) → IsEntered e → (x : Standing Place) → StandsWithin e x → Meets d start x
-    within e entered x (first c) = elim (Contains-cons (itself e) [] x c) [
-      | inl is ↦ (entered.0, (entered.1.0, entered.1.1 ∙ ap member is))
-      | inr k ↦ absurd (not_in_nil x k)
+    -- it is reached, and settled: so it may be left out
+    abbrev pub IsLeftOut : Standing Place → Type 0
+    IsLeftOut x = Closed (Contains start) (LeadsInto d) x × IsSettled s x.parent x.it
+
+    -- of what is reached something is left that is reached with the others, or it is settled
+    pub reached_less : (x : Standing Place) → Closed (Contains start) (LeadsInto d) x → MeetsLess x ⊎ IsSettled s x.parent x.it
+    reached_less x (first c) = inl (x, (first c, stays_same s (member x)))
+    reached_less z (next {x} r leads) = elim (reached_less x r) [
+      | inl m ↦ elim (less_from x m.0 z m.1.1 leads) [
+        | inl w ↦ inl (w.0, (next m.1.0 w.1.0, w.1.1))
+        | inr k ↦ inr k
+      ]
+      | inr k ↦ inr (settled_leads x.position x.position x.parent x.it k z leads)
     ]
-    within e entered y (next {x} r leads) =
-        let m = within e entered x r in
-        let w = moved nothing x m.0 y m.1.1 leads in
-        (w.0, (next m.1.0 (of_nothing d m.0 w.0 w.1.0), w.1.1))
 
   -- ---- what is told of what is left out
 
   module _ (o : MeantOperation Place) where
+    quiet : (x : Standing Place) → IsLeftOut (own o) x → IsQuiet s (member x)
+    quiet x l = settled_quiet s x.parent x.it l.1
+
     pub spreads_none : (x : Standing Place) → IsLeftOut (own o) x → spread_name x.it ≡ None
-    spreads_none x l = ap (λ (e : Member Place). spread_name e.1) (sym l.1.1.1.1.1) ∙ no_name l.1.1.1.0.it (l.1.0.enters l.1.1.1.0 l.1.1.1.1.0)
+    spreads_none x l = no_name x.it (quiet x l).enters
 
     pub without_condition : (x : Standing Place) → IsLeftOut (own o) x → inline_condition x.it ≡ None
-    without_condition x l = ap (λ (e : Member Place). inline_condition e.1) (sym l.1.1.1.1.1) ∙ no_condition l.1.1.1.0.it (l.1.0.enters l.1.1.1.0 l.1.1.1.1.0)
+    without_condition x l = no_condition x.it (quiet x l).enters
 
     module _ (typed : ReachesTyped (meanings (plain s)) d o) where
+      -- what is reached with the others is typed too
+      pub reaches_typed : ReachesTyped (meanings (plain s)) Other o
+      reaches_typed y r = elim (reached_more (own o) y r) [
+        | inl m ↦ stays_typed s (meanings (plain s)) (member m.0) (member y) m.1.1 (typed m.0 m.1.0)
+        | inr k ↦ filler_typed s (meanings (plain s)) (member y) k
+      ]
+
       keeps : (x : Standing Place) → IsLeftOut (own o) x → (f : PlacedFault) → SelectionBreaks s [] (member x) f → ⊥
-      keeps x l f h =
-          l.1.0.keeps (λ y z. let m = within (own o) l.0 l.1.1.0 y z in subst (λ (e : Member Place). IsTyped (meanings (plain s)) e.0 e.1) m.1.1 (typed m.0 m.1.0)) l.1.1.1.0 l.1.1.1.1.0 f
-          (subst (λ (e : Member Place). SelectionBreaks s [] e f) (sym l.1.1.1.1.1) h)
+      keeps x l f h = (quiet x l).keeps (typed x l.0) f h
 
       given : (x : Standing Place) → IsLeftOut (own o) x → (t : StandingField Place) → field_of (member x) ≡ Some t → (f : PlacedFault) → GivenBreaks (place_or_built_in s) (judged s) [] t.head.arguments f → ⊥
       given x l t is f h = keeps x l f (inr (t, (is, inr (inl h))))
@@ -145,31 +240,44 @@ module _ (s : SchemaTree Place) (d : MeantDocument Place) (instead : Entries (Me
       uses_well variables x l f h = used_well (place_or_built_in s) (judged s) (selection_location x.it) (selection_directives x.it) (used x l) variables f h
 
       -- no variable is used
-      pub uses_none : (n : List ℕ) (x : Standing Place) → IsLeftOut (own o) x → StandsInSelection n x → ⊥
-      uses_none n x l (inl h) = unnamed_in_directives (place_or_built_in s) (judged s) (selection_location x.it) (selection_directives x.it) (used x l) n h
-      uses_none n x l (inr h) =
-          let (t, (is, u)) = bare (λ (f : StandingField Place). StandsInArguments n f.head.arguments) (λ f. refl) x.position x.parent x.it h in
-          unnamed_in_arguments n t.head.arguments (gives_none (place_or_built_in s) (judged s) t.head.arguments (given x l t is)) u
+      pub names_none : (n : List ℕ) (x : Standing Place) → IsLeftOut (own o) x → StandsInDirectives n (selection_directives x.it) → ⊥
+      names_none n x l h = unnamed_in_directives (place_or_built_in s) (judged s) (selection_location x.it) (selection_directives x.it) (used x l) n h
+
+      pub gives_names_none : (n : List ℕ) (x : Standing Place) → IsLeftOut (own o) x → Present (field_of (member x)) (λ t. StandsInArguments n t.head.arguments) → ⊥
+      gives_names_none n x l (t, (is, u)) = unnamed_in_arguments n t.head.arguments (gives_none (place_or_built_in s) (judged s) t.head.arguments (given x l t is)) u
 
     -- ---- what is said of all that is reached
 
-    pub at_all : (Q : Member Place → Type 0) → ((x : Standing Place) → IsLeftOut (own o) x → Q (member x) → ⊥) → AtReached Other o (λ x. Q (member x)) ↔ AtReached d o (λ x. Q (member x))
-    at_all Q never = (
-      λ h. let m = reached_more (own o) h.0 h.1.0 in (m.0, (m.1.0, subst Q (sym m.1.1) h.1.1)),
-      λ h. elim (reached_less (own o) h.0 h.1.0) [ inl m ↦ (m.0, (m.1.0, subst Q (sym m.1.1) h.1.1)) | inr l ↦ absurd (never h.0 l h.1.1) ],
-    )
+    -- that is said of no filler
+    abbrev pub FillsUnsaid : (Look → Type 0) → Type 0
+    FillsUnsaid R = (t : List ℕ) → R (look (t, filler t)) → ⊥
 
-    pub at_all_fields : (Q : StandingField Place → Type 0) → ((f : StandingField Place) → Q f ≡ Q (content f)) → ((x : Standing Place) → IsLeftOut (own o) x → Present (field_of (member x)) Q → ⊥)
+    pub at_all : (R : Look → Type 0) → FillsUnsaid R → ((x : Standing Place) → IsLeftOut (own o) x → R (look (member x)) → ⊥) → AtReached Other o (λ x. R (look (member x))) ↔ AtReached d o (λ x. R (look (member x)))
+    at_all R fills never = (there, here)
+      where
+        there : AtReached Other o (λ x. R (look (member x))) → AtReached d o (λ x. R (look (member x)))
+        there (y, (r, h)) = elim (reached_more (own o) y r) [
+          | inl m ↦ (m.0, (m.1.0, subst R (look_stays s (member m.0) (member y) m.1.1) h))
+          | inr k ↦ absurd (fills k.0 (subst (λ (e : Member Place). R (look e)) (sym k.1) h))
+        ]
+
+        here : AtReached d o (λ x. R (look (member x))) → AtReached Other o (λ x. R (look (member x)))
+        here (x, (r, h)) = elim (reached_less (own o) x r) [
+          | inl m ↦ (m.0, (m.1.0, subst R (sym (look_stays s (member x) (member m.0) m.1.1)) h))
+          | inr k ↦ absurd (never x (r, k) h)
+        ]
+
+    pub at_all_fields : (Q : StandingField Place → Type 0) → ((f : StandingField Place) → Q f ≡ Q (outline f)) → ((x : Standing Place) → IsLeftOut (own o) x → Present (field_of (member x)) Q → ⊥)
         → AtReachedField Other o Q ↔ AtReachedField d o Q
     at_all_fields Q blind never = (λ h. out d (all.0 (into Other h)), λ h. out Other (all.1 (into d h)))
       where
-        all : AtReached Other o (λ x. Present (field_of (member x)) Q) ↔ AtReached d o (λ x. Present (field_of (member x)) Q)
-        all = at_all (λ e. Present (field_of e) Q) never
+        all : AtReached Other o (λ x. Present (outline_of (member x)) Q) ↔ AtReached d o (λ x. Present (outline_of (member x)) Q)
+        all = at_all (λ l. Present l.field Q) (λ t h. true≢false (sym (ap is_some h.1.0))) (λ x l h. never x l (placed Q blind (InOperation None) x.parent x.it h))
 
-        into : (e : MeantDocument Place) → AtReachedField e o Q → AtReached e o (λ x. Present (field_of (member x)) Q)
+        into : (e : MeantDocument Place) → AtReachedField e o Q → AtReached e o (λ x. Present (outline_of (member x)) Q)
         into e h = (h.0, (h.1.0, bare Q blind h.0.position h.0.parent h.0.it h.1.1))
 
-        out : (e : MeantDocument Place) → AtReached e o (λ x. Present (field_of (member x)) Q) → AtReachedField e o Q
+        out : (e : MeantDocument Place) → AtReached e o (λ x. Present (outline_of (member x)) Q) → AtReachedField e o Q
         out e h = (h.0, (h.1.0, placed Q blind h.0.position h.0.parent h.0.it h.1.1))
 
     pub at_all_fragments : (Q : MeantFragment Place → Type 0) → ((g : MeantFragment Place) → Q (emptied g) ≡ Q g) → AtReachedFragment Other o Q ↔ AtReachedFragment d o Q
@@ -179,13 +287,15 @@ module _ (s : SchemaTree Place) (d : MeantDocument Place) (instead : Entries (Me
         to h g e q = subst (λ X. X) (blind g) (subst Q e (subst (λ X. X) (sym (blind h)) q))
 
         there : AtReachedFragment Other o Q → AtReachedFragment d o Q
-        there (h, ((x, (r, (n, (is, named)))), q)) =
-            let g = stood_for n h named in
-            let m = reached_more (own o) x r in
-            (g.0, ((m.0, (m.1.0, (n, (ap (λ (e : Member Place). spread_name e.1) m.1.1 ∙ is, g.1.0)))), to h g.0 g.1.1.0 q))
+        there (h, ((x, (r, (n, (is, named)))), q)) = elim (reached_more (own o) x r) [
+          | inl m ↦ let g = stood_for n h named in
+              (g.0, ((m.0, (m.1.0, (n, (sym (ap (λ (l : Look). l.spread) (look_stays s (member m.0) (member x) m.1.1)) ∙ is, g.1.0)))), to h g.0 g.1.1.0 q))
+          | inr k ↦ absurd (true≢false (sym (ap is_some (ap (λ (e : Member Place). spread_name e.1) k.1 ∙ is))))
+        ]
 
         here : AtReachedFragment d o Q → AtReachedFragment Other o Q
         here (g, ((x, (r, (n, (is, named)))), q)) = elim (reached_less (own o) x r) [
-          | inl m ↦ let i = in'.there n g named in (i.0, ((m.0, (m.1.0, (n, (ap (λ (e : Member Place). spread_name e.1) m.1.1 ∙ is, i.1.0)))), to g i.0 (sym i.1.1.0) q))
-          | inr l ↦ absurd (true≢false (sym (ap is_some (sym (spreads_none x l) ∙ is))))
+          | inl m ↦ let i = in'.there n g named in
+              (i.0, ((m.0, (m.1.0, (n, (ap (λ (l : Look). l.spread) (look_stays s (member x) (member m.0) m.1.1) ∙ is, i.1.0)))), to g i.0 (sym i.1.1.0) q))
+          | inr k ↦ absurd (true≢false (sym (ap is_some (sym (spreads_none x (r, k)) ∙ is))))
         ]

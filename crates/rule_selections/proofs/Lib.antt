@@ -8,7 +8,9 @@ pub mod Typing
 pub mod NoArguments
 pub mod WithoutVariables
 pub mod Elsewhere
+pub mod Leaving
 pub mod Instead
 pub mod SameFaults
 pub mod Thinning
 pub mod Standing
+pub mod SetsWithin

@@ -1,5 +1,5 @@
 -- Where others stand in for the fragments of a document, the same faults are told of an operation.
-use Rattle.std.proofs.Common.{◌≡◌, ◌↔◌, ◌⊎◌, ◌∙◌, ℕ, List, refl, sym, ap, subst, inl, inr, Option, None, Some, true≢false, is_some}
+use Rattle.std.proofs.Common.{◌≡◌, ◌↔◌, ◌⊎◌, ◌∙◌, ℕ, List, [], refl, sym, ap, subst, inl, inr, Option, None, Some, true≢false, is_some}
 use Rattle.graphql_names.specs.Placed.{Place, Text}
 use Rattle.tree_directives.specs.declared.directive_location.DirectiveLocation.TheVariants as location
 use Rattle.schema_components.specs.Names.{Entries}
@@ -9,26 +9,32 @@ use Rattle.schema_types.specs.Addresses.{TypeAt, under}
 use Rattle.document_meaning.specs.MeantTree.{MeantOperation, MeantFragment, MeantDocument}
 use Rattle.rule_document_ground.specs.in_typing.Meanings.{meanings}
 use Rattle.rule_definitions.specs.Diagnostics.{UndefinedFragment, InvalidFragmentTarget, InvalidFragmentSpread}
-use Rattle.rule_definitions.specs.Words.{Present}
+use Rattle.rule_definitions.specs.Words.{Present, AtSomeIndex}
 use Rattle.rule_definitions.specs.Faults.{wrong}
 use Rattle.rule_definitions.specs.Judged.{judged}
-use Rattle.rule_definitions.specs.Names.{defined_name}
+use Rattle.rule_definitions.specs.Names.{defined_name, named_in}
 use Rattle.rule_definitions.specs.Uses.{UsesBreak}
 use Rattle.rule_definitions.specs.Told.{PlacedFault}
 use Rattle.rule_document_definitions.specs.Fragments.{UndefinedFragmentAt, InvalidFragmentTargetAt, InvalidFragmentSpreadAt}
-use Rattle.rule_document_definitions.specs.PossibleTypes.{IsNotComposite, MayApply}
+use Rattle.rule_document_definitions.specs.PossibleTypes.{IsCompositeType, IsNotComposite, MayApply}
 use Rattle.rule_document_definitions.specs.Reached.{AtReached, AtReachedField, AtReachedFragment, ReachesFragment}
-use Rattle.rule_document_definitions.specs.Selected.{InOperation, Standing, StandingField, inline_condition, selection_place, selection_location, selection_directives, spread_name, own}
+use Rattle.rule_document_definitions.specs.Selected.{InOperation, Standing, StandingField, inline_condition, spread_name, own}
 use Rattle.rule_document_definitions.specs.Selections.{SelectionsBreak}
 use Rattle.rule_document_definitions.specs.Told.{places_in}
 use Rattle.rule_document_definitions.specs.UsedVariables.{StandsInDirectives, StandsInArguments, StandsInSelection, IsUsedIn}
 use Rattle.rule_document_definitions.specs.Variables.{VariablesBreak}
-use Rattle.rule_document_ground.specs.Reach.{Member}
-use Rattle.rule_selections.specs.Steps.{MissesSubselection, ArgumentsOfBreak}
+use Rattle.rule_selections.specs.Steps.{without_subselection, MissesSubselection, ArgumentsOfBreak}
 use Rattle.rule_selections.specs.Typed.{ReachesTyped}
 use Rattle.rule_selections.specs.Settled.{StandsInFor, StandIn}
-use Rattle.rule_selections.proofs.Elsewhere.{member, at, bare, placed}
-use Rattle.rule_selections.proofs.Instead.{Other, stood_for, IsLeftOut, spreads_none, without_condition, misses_none, takes_well, uses_well, uses_none, at_all, at_all_fields, at_all_fragments}
+use Rattle.rule_selections.proofs.Elsewhere.{member, outline, Look, look, has_none, bare, placed}
+use Rattle.rule_selections.proofs.Instead.{Other, stood_for, IsLeftOut, spreads_none, without_condition, misses_none, takes_well, uses_well, names_none, gives_names_none, at_all, at_all_fields, at_all_fragments}
+
+-- nothing is said of what is not there
+none_there : {X : Type 0} {Q : X → Type 0} → Present None Q → ⊥
+none_there h = true≢false (sym (ap is_some h.1.0))
+
+nowhere : {X : Type 0} {R : ℕ → X → Type 0} → AtSomeIndex [] R → ⊥
+nowhere h = true≢false (sym (ap is_some h.1.1.0))
 
 module _ (s : SchemaTree Place) (d : MeantDocument Place) (instead : Entries (MeantFragment Place)) (in' : StandIn s d.fragments instead) where
   abbrev pub Else : MeantDocument Place
@@ -48,11 +54,11 @@ module _ (s : SchemaTree Place) (d : MeantDocument Place) (instead : Entries (Me
 
     -- UndefinedFragment
     module _ (f : PlacedFault) where
-      abbrev Lacks : Member Place → List ℕ → Type 0
-      Lacks e n = (under n d.fragments ≡ None) × (f ≡ wrong (selection_place e.1) (UndefinedFragment n))
+      abbrev Lacks : Look → List ℕ → Type 0
+      Lacks l n = (under n d.fragments ≡ None) × (f ≡ wrong l.place (UndefinedFragment n))
 
-      at_undefined : AtReached Else o (λ x. Present (spread_name x.it) (Lacks (member x))) ↔ AtReached d o (λ x. Present (spread_name x.it) (Lacks (member x)))
-      at_undefined = at_all s d instead in' o (λ e. Present (spread_name e.1) (Lacks e)) (λ x l h. never_spread (Lacks (member x)) x l h)
+      at_undefined : AtReached Else o (λ x. Present (spread_name x.it) (Lacks (look (member x)))) ↔ AtReached d o (λ x. Present (spread_name x.it) (Lacks (look (member x))))
+      at_undefined = at_all s d instead in' o (λ l. Present l.spread (Lacks l)) (λ t h. none_there h) (λ x l h. never_spread (Lacks (look (member x))) x l h)
 
       pub same_undefined : UndefinedFragmentAt Else f o ↔ UndefinedFragmentAt d f o
       same_undefined = (there, here)
@@ -71,8 +77,8 @@ module _ (s : SchemaTree Place) (d : MeantDocument Place) (instead : Entries (Me
     pub same_targets : (f : PlacedFault) → InvalidFragmentTargetAt (judged s) Else o f ↔ InvalidFragmentTargetAt (judged s) d o f
     same_targets f =
         let named = at_all_fragments s d instead in' o (λ g. IsNotComposite (judged s) g.type_condition.it × (f ≡ wrong g.place (InvalidFragmentTarget (Some g.name.it) g.type_condition.it))) (λ g. refl) in
-        let inlined = at_all s d instead in' o (λ e. Present (inline_condition e.1) (λ c. IsNotComposite (judged s) c × (f ≡ wrong (selection_place e.1) (InvalidFragmentTarget None c))))
-        (λ x l h. never_condition (λ c. IsNotComposite (judged s) c × (f ≡ wrong (selection_place x.it) (InvalidFragmentTarget None c))) x l h) in (
+        let inlined = at_all s d instead in' o (λ l. Present l.condition (λ c. IsNotComposite (judged s) c × (f ≡ wrong l.place (InvalidFragmentTarget None c))))
+        (λ t h. none_there h) (λ x l h. never_condition (λ c. IsNotComposite (judged s) c × (f ≡ wrong (look (member x)).place (InvalidFragmentTarget None c))) x l h) in (
           λ h. elim h [ inl u ↦ inl (named.0 u) | inr u ↦ inr (inlined.0 u) ],
           λ h. elim h [ inl u ↦ inl (named.1 u) | inr u ↦ inr (inlined.1 u) ],
         )
@@ -80,20 +86,21 @@ module _ (s : SchemaTree Place) (d : MeantDocument Place) (instead : Entries (Me
     -- InvalidFragmentSpread
     module _ (f : PlacedFault) where
       -- a spread of a fragment on this condition, at this place, is told
-      abbrev Told : List ℕ → Member Place → Text Place × Place → Type 0
-      Told n e g = (MayApply (judged s) e.0 g.0.it → ⊥) × (f ≡ wrong (selection_place e.1) (InvalidFragmentSpread (Some n) e.0 g.0.it g.1 ((places_in s).at (TypeAt e.0))))
+      abbrev Told : List ℕ → Look → Text Place × Place → Type 0
+      Told n l g = (MayApply (judged s) l.parent g.0.it → ⊥) × (f ≡ wrong l.place (InvalidFragmentSpread (Some n) l.parent g.0.it g.1 ((places_in s).at (TypeAt l.parent))))
 
-      abbrev ToldNamed : Entries (MeantFragment Place) → Member Place → List ℕ → Type 0
-      ToldNamed fragments e n = Present (under n fragments) (λ g. Told n e (g.type_condition, g.place))
+      abbrev ToldNamed : Entries (MeantFragment Place) → Look → List ℕ → Type 0
+      ToldNamed fragments l n = Present (under n fragments) (λ g. Told n l (g.type_condition, g.place))
 
-      abbrev ToldInline : Member Place → List ℕ → Type 0
-      ToldInline e c = (MayApply (judged s) e.0 c → ⊥) × (f ≡ wrong (selection_place e.1) (InvalidFragmentSpread None e.0 c (selection_place e.1) ((places_in s).at (TypeAt e.0))))
+      abbrev ToldInline : Look → List ℕ → Type 0
+      ToldInline l c = (MayApply (judged s) l.parent c → ⊥) × (f ≡ wrong l.place (InvalidFragmentSpread None l.parent c l.place ((places_in s).at (TypeAt l.parent))))
 
-      abbrev Both : Entries (MeantFragment Place) → Member Place → Type 0
-      Both fragments e = Present (spread_name e.1) (ToldNamed fragments e) ⊎ Present (inline_condition e.1) (ToldInline e)
+      abbrev Both : Entries (MeantFragment Place) → Look → Type 0
+      Both fragments l = Present l.spread (ToldNamed fragments l) ⊎ Present l.condition (ToldInline l)
 
-      at_spreads : AtReached Else o (λ x. Both d.fragments (member x)) ↔ AtReached d o (λ x. Both d.fragments (member x))
-      at_spreads = at_all s d instead in' o (Both d.fragments) (λ x l h. elim h [ inl u ↦ never_spread (ToldNamed d.fragments (member x)) x l u | inr u ↦ never_condition (ToldInline (member x)) x l u ])
+      at_spreads : AtReached Else o (λ x. Both d.fragments (look (member x))) ↔ AtReached d o (λ x. Both d.fragments (look (member x)))
+      at_spreads = at_all s d instead in' o (Both d.fragments) (λ t h. elim h [ inl u ↦ none_there u | inr u ↦ none_there u ])
+          (λ x l h. elim h [ inl u ↦ never_spread (ToldNamed d.fragments (look (member x))) x l u | inr u ↦ never_condition (ToldInline (look (member x))) x l u ])
 
       abbrev head : MeantFragment Place → Text Place × Place
       head g = (g.type_condition, g.place)
@@ -101,22 +108,22 @@ module _ (s : SchemaTree Place) (d : MeantDocument Place) (instead : Entries (Me
       heads : (h g : MeantFragment Place) → StandsInFor s h g → head h ≡ head g
       heads h g i = ap head i.0
 
-      told : (e : Member Place) → Both instead e → Both d.fragments e
-      told e (inl (n, (is, (h, (named, broken))))) =
+      told : (l : Look) → Both instead l → Both d.fragments l
+      told l (inl (n, (is, (h, (named, broken))))) =
           let g = stood_for s d instead in' n h named in
-          inl (n, (is, (g.0, (g.1.0, subst (Told n e) (heads h g.0 g.1.1) broken))))
-      told e (inr h) = inr h
+          inl (n, (is, (g.0, (g.1.0, subst (Told n l) (heads h g.0 g.1.1) broken))))
+      told l (inr h) = inr h
 
-      back : (e : Member Place) → Both d.fragments e → Both instead e
-      back e (inl (n, (is, (g, (named, broken))))) =
+      back : (l : Look) → Both d.fragments l → Both instead l
+      back l (inl (n, (is, (g, (named, broken))))) =
           let i = in'.there n g named in
-          inl (n, (is, (i.0, (i.1.0, subst (Told n e) (sym (heads i.0 g i.1.1)) broken))))
-      back e (inr h) = inr h
+          inl (n, (is, (i.0, (i.1.0, subst (Told n l) (sym (heads i.0 g i.1.1)) broken))))
+      back l (inr h) = inr h
 
       pub same_spreads : InvalidFragmentSpreadAt (judged s) Else o f (places_in s) ↔ InvalidFragmentSpreadAt (judged s) d o f (places_in s)
       same_spreads = (
-        λ h. at_spreads.0 (h.0, (h.1.0, told (member h.0) h.1.1)),
-        λ h. let k = at_spreads.1 h in (k.0, (k.1.0, back (member k.0) k.1.1)),
+        λ h. at_spreads.0 (h.0, (h.1.0, told (look (member h.0)) h.1.1)),
+        λ h. let k = at_spreads.1 h in (k.0, (k.1.0, back (look (member k.0)) k.1.1)),
       )
 
     module _ (typed : ReachesTyped (meanings (plain s)) d o) where
@@ -126,19 +133,23 @@ module _ (s : SchemaTree Place) (d : MeantDocument Place) (instead : Entries (Me
         Given f = StandsInArguments n f.head.arguments
 
         -- wherever it stands
-        abbrev Stands : Member Place → Type 0
-        Stands e = StandsInSelection n (at (InOperation None) e)
+        abbrev Stands : Look → Type 0
+        Stands l = StandsInDirectives n l.directives ⊎ Present l.field Given
 
-        into : (x : Standing Place) → StandsInSelection n x → Stands (member x)
+        into : (x : Standing Place) → StandsInSelection n x → Stands (look (member x))
         into x (inl h) = inl h
         into x (inr h) = inr (bare Given (λ f. refl) x.position x.parent x.it h)
 
-        out : (x : Standing Place) → Stands (member x) → StandsInSelection n x
+        out : (x : Standing Place) → Stands (look (member x)) → StandsInSelection n x
         out x (inl h) = inl h
         out x (inr h) = inr (placed Given (λ f. refl) x.position x.parent x.it h)
 
-        at_selections : AtReached Else o (λ x. Stands (member x)) ↔ AtReached d o (λ x. Stands (member x))
-        at_selections = at_all s d instead in' o Stands (λ x l h. uses_none s d instead in' o typed n x l (out x h))
+        unused : (x : Standing Place) → IsLeftOut s d instead in' (own o) x → Stands (look (member x)) → ⊥
+        unused x l (inl h) = names_none s d instead in' o typed n x l h
+        unused x l (inr h) = gives_names_none s d instead in' o typed n x l (placed Given (λ f. refl) (InOperation None) x.parent x.it h)
+
+        at_selections : AtReached Else o (λ x. Stands (look (member x))) ↔ AtReached d o (λ x. Stands (look (member x)))
+        at_selections = at_all s d instead in' o Stands (λ t h. elim h [ inl u ↦ nowhere u | inr u ↦ none_there u ]) unused
 
         pub same_uses : IsUsedIn n Else o ↔ IsUsedIn n d o
         same_uses =
@@ -178,20 +189,24 @@ module _ (s : SchemaTree Place) (d : MeantDocument Place) (instead : Entries (Me
       -- the rules on selections
       module _ (f : PlacedFault) where
         -- the directives of a selection, of a fragment break a rule
-        abbrev Used : Member Place → Type 0
-        Used e = UsesBreak (places_in s).at (judged s) o.variables (selection_location e.1) (selection_directives e.1) f
+        abbrev Used : Look → Type 0
+        Used l = UsesBreak (places_in s).at (judged s) o.variables l.location l.directives f
 
         abbrev UsedIn : MeantFragment Place → Type 0
         UsedIn g = UsesBreak (places_in s).at (judged s) o.variables location.FragmentDefinition g.directives f
 
+        -- which reads of the set of a field whether it has selections
+        misses_same : (t : StandingField Place) → MissesSubselection s t f ≡ MissesSubselection s (outline t) f
+        misses_same t = λ i. Present ((judged s).type_named (named_in t.definition.ty)) (λ k. IsCompositeType k × (has_none t.set i × (f ≡ without_subselection t k.kind)))
+
         at_missing : AtReachedField Else o (λ t. MissesSubselection s t f) ↔ AtReachedField d o (λ t. MissesSubselection s t f)
-        at_missing = at_all_fields s d instead in' o (λ t. MissesSubselection s t f) (λ t. refl) (λ x l h. misses_none s d instead in' o typed x l f h)
+        at_missing = at_all_fields s d instead in' o (λ t. MissesSubselection s t f) misses_same (λ x l h. misses_none s d instead in' o typed x l f h)
 
         at_arguments : AtReachedField Else o (λ t. ArgumentsOfBreak s o.variables t f) ↔ AtReachedField d o (λ t. ArgumentsOfBreak s o.variables t f)
         at_arguments = at_all_fields s d instead in' o (λ t. ArgumentsOfBreak s o.variables t f) (λ t. refl) (λ x l h. takes_well s d instead in' o typed o.variables x l f h)
 
-        at_uses : AtReached Else o (λ x. Used (member x)) ↔ AtReached d o (λ x. Used (member x))
-        at_uses = at_all s d instead in' o Used (λ x l h. uses_well s d instead in' o typed o.variables x l f h)
+        at_uses : AtReached Else o (λ x. Used (look (member x))) ↔ AtReached d o (λ x. Used (look (member x)))
+        at_uses = at_all s d instead in' o Used (λ t h. elim h [ inl u ↦ nowhere u | inr u ↦ nowhere u ]) (λ x l h. uses_well s d instead in' o typed o.variables x l f h)
 
         at_fragments : AtReachedFragment Else o UsedIn ↔ AtReachedFragment d o UsedIn
         at_fragments = at_all_fragments s d instead in' o UsedIn (λ g. refl)

@@ -18,6 +18,7 @@ use Rattle.document_typed_operations.specs.declared.operation.Fragment.{Fragment
 use Rattle.document_meaning.specs.MeantTree.{MeantFragment}
 use Rattle.rule_document_ground.specs.in_typing.DocumentView.{meant_by_fragment}
 use Rattle.rule_selections.specs.Settled.{fragment_meant, StandsInFor, StandIn}
+use Rattle.rule_selections.proofs.Leaving.{leaves_same}
 
 -- what entries mean
 abbrev pub meant_entries : List (NameValue × Node Fragment) → Entries (MeantFragment Place)
@@ -25,7 +26,7 @@ meant_entries es = map (λ (e : List ℕ × Placed Place (TypedFragment Place)).
 
 -- the fragments of a document stand in for themselves
 pub stand_in_same : (s : SchemaTree Place) (fragments : Entries (MeantFragment Place)) → StandIn s fragments fragments
-stand_in_same s fragments = record { there = λ n g is. (g, (is, (refl, (λ e c. c, λ e c. inl c)))); absent = λ n is. is }
+stand_in_same s fragments = record { there = λ n g is. (g, (is, (refl, leaves_same s g.set))); absent = λ n is. is }
 
 -- ---- a copy
 

@@ -1,5 +1,5 @@
--- Private: leads to `SelectionsBreak`. Fragments that stand in for those of a document: of what they leave out nothing is told, whatever the variables.
-use Rattle.std.specs.Prelude.{◌≡◌, ℕ, Bool, true, false, not, is_some, List, [], ◌∷◌, None, Some, Contains, ◌⊎◌}
+-- Private: leads to `SelectionsBreak`. Fragments that may replace those of a document: of what they leave out, at any depth, nothing is told, whatever the variables.
+use Rattle.std.specs.Prelude.{◌≡◌, ℕ, Bool, true, false, not, is_some, List, [], None, Some, ◌⊎◌}
 use Rattle.graphql_names.specs.Placed.{Place, node_tree}
 use Rattle.graphql_names.specs.declared.node.Node.{Node}
 use Rattle.schema_components.specs.Names.{Entries}
@@ -10,38 +10,19 @@ use Rattle.document_typed_selections.specs.TypedTree.{TypedSelection, TypedSet, 
 use Rattle.document_typed_selections.specs.TypedParts.{set_and}
 use Rattle.document_typed_operations.specs.TypedDocument.{typed_fragment_tree}
 use Rattle.document_typed_operations.specs.declared.operation.Fragment.{Fragment}
-use Rattle.document_meaning.specs.MeantTree.{MeantSelection, MeantField, MeantSpread, MeantInline, MeantSet, meant_set, MeantSelections, no_meant, meant_then, set_on, meant_of_set, MeantFragment, MeantDocument, meant}
+use Rattle.document_meaning.specs.MeantTree.{MeantSelection, MeantField, MeantSpread, MeantInline, MeantSet, meant_set, MeantSelections, no_meant, meant_then, meant_of_set, MeantFragment, meant}
 use Rattle.rule_document_ground.specs.in_typing.DocumentView.{meant_by_fragment}
 use Rattle.rule_document_ground.specs.in_typing.Meanings.{meanings}
 use Rattle.rule_document_ground.specs.in_typing.TypedByPlace.{IsTyped}
 use Rattle.rule_definitions.specs.Told.{PlacedFault}
-use Rattle.rule_document_definitions.specs.Reached.{Closed, LeadsInto}
-use Rattle.rule_document_definitions.specs.Selected.{InOperation, Standing, standing_in}
 use Rattle.rule_document_ground.specs.Reach.{Member}
 use Rattle.rule_selections.specs.Steps.{SelectionBreaks}
-
--- a document of nothing
-abbrev pub nothing : {P : Type 0} → MeantDocument P
-nothing = record { anonymous = None; named = []; fragments = [] }
 
 -- a selection enters no fragment that is on a type of its own: it is a field, or an inline fragment without a condition
 abbrev pub enters_none : {P : Type 0} → MeantSelection P → Bool
 enters_none (MeantField p d h s) = true
 enters_none (MeantSpread p n ds) = false
 enters_none (MeantInline p c ds s) = not (is_some c)
-
--- what stands in the selection: itself, and at any depth its selections
-abbrev pub StandsWithin : {P : Type 0} → Member P → Standing P → Type 0
-StandsWithin e = Closed (Contains (standing_in (InOperation None) (set_on e.0 (e.1 ∷ [])))) (LeadsInto nothing)
-
--- the selections of a set itself, each after the name of its type
-module _ {P : Type 0} where
-  abbrev pub along : List ℕ → MeantSelections P → List (Member P)
-  along t no_meant = []
-  along t (meant_then s ss) = (t, s) ∷ along t ss
-
-  abbrev pub own_members : MeantSet P → List (Member P)
-  own_members (meant_set t ss) = along t ss
 
 -- what a fragment means
 abbrev pub fragment_meant : Node Fragment → MeantFragment Place
@@ -51,29 +32,81 @@ fragment_meant n = meant_by_fragment (node_tree typed_fragment_tree n)
 abbrev pub emptied : MeantFragment Place → MeantFragment Place
 emptied g = record g { set = meant_set g.type_condition.it no_meant }
 
+-- a selection that fills a set on the type of this name, and of which nothing is told: an inline fragment without anything
+abbrev pub filler : List ℕ → MeantSelection Place
+filler t = MeantInline None None [] (meant_set t no_meant)
+
+-- what is left of a set; and where nothing is left of one that has selections, the filler, so that it has one
+abbrev pub filled : MeantSet Place → MeantSet Place → MeantSet Place
+filled (meant_set t no_meant) left = left
+filled (meant_set t (meant_then x xs)) (meant_set u no_meant) = meant_set t (meant_then (filler t) no_meant)
+filled (meant_set t (meant_then x xs)) (meant_set u (meant_then y ys)) = meant_set u (meant_then y ys)
+
+-- the selection with what is left of its set: that of a field has selections if it had any
+abbrev pub with_left : MeantSelection Place → MeantSet Place → MeantSelection Place
+with_left (MeantField p d h v) left = MeantField p d h (filled v left)
+with_left (MeantSpread p n ds) left = MeantSpread p n ds
+with_left (MeantInline p c ds v) left = MeantInline p c ds left
+
 module _ (s : SchemaTree Place) where
-  -- nothing in the selection enters a fragment on a type; and where it is typed, none of it breaks a rule where there are no variables
+  -- the selection by itself enters no fragment on a type; and where it is typed, it breaks no rule where there are no variables
   pub record IsQuiet (e : Member Place) : Type 0 where
-    pub enters : (x : Standing Place) → StandsWithin e x → enters_none x.it ≡ true
-    pub keeps : ((x : Standing Place) → StandsWithin e x → IsTyped (meanings (plain s)) x.parent x.it) → (x : Standing Place) → StandsWithin e x → (f : PlacedFault) → SelectionBreaks s [] (x.parent, x.it) f → ⊥
+    pub enters : enters_none e.1 ≡ true
+    pub keeps : IsTyped (meanings (plain s)) e.0 e.1 → (f : PlacedFault) → SelectionBreaks s [] e f → ⊥
 
-  -- of the old selections those are left that are not quiet, and maybe some that are
-  abbrev pub Leaves : List (Member Place) → List (Member Place) → Type 0
-  Leaves old new = ((e : Member Place) → Contains new e → Contains old e) × ((e : Member Place) → Contains old e → Contains new e ⊎ IsQuiet e)
+  -- a selection of a set on the type of this name is quiet, and all that it selects, at any depth
+  abbrev mutual
+    pub IsSettled : List ℕ → MeantSelection Place → Type 0
+    IsSettled t (MeantField p d h v) = IsQuiet (t, MeantField p d h v) × IsSettledSet v
+    IsSettled t (MeantSpread p n ds) = IsQuiet (t, MeantSpread p n ds)
+    IsSettled t (MeantInline p c ds v) = IsQuiet (t, MeantInline p c ds v) × IsSettledSet v
 
-  -- of a set
-  abbrev pub LeavesOf : TypedSet Place → TypedSet Place → Type 0
-  LeavesOf old new = (set_type new ≡ set_type old) × Leaves (own_members (meant_of_set old)) (own_members (meant_of_set new))
+    pub IsSettledSet : MeantSet Place → Type 0
+    IsSettledSet (meant_set t ss) = AreSettled t ss
 
-  -- a selection of a set on this type is put last; or it is quiet, and the set stays as it was
-  abbrev pub KeepsUnlessQuiet : List ℕ → TypedSelection Place → TypedSet Place → TypedSet Place → Type 0
-  KeepsUnlessQuiet ty x old new = (new ≡ set_and (typed_then x no_typed) old) ⊎ ((new ≡ old) × IsQuiet (ty, meant x))
+    pub AreSettled : List ℕ → MeantSelections Place → Type 0
+    AreSettled t no_meant = Unit {0}
+    AreSettled t (meant_then x xs) = IsSettled t x × AreSettled t xs
 
-  -- the fragment, maybe without selections that are quiet
+  -- the second is the first, maybe without selections in it that are settled, at any depth
+  abbrev mutual
+    pub Thins : MeantSelection Place → MeantSelection Place → Type 0
+    Thins (MeantField p d h v) y = (w : MeantSet Place) × (LeavesOf v w × (y ≡ MeantField p d h (filled v w)))
+    Thins (MeantSpread p n ds) y = y ≡ MeantSpread p n ds
+    Thins (MeantInline p c ds v) y = (w : MeantSet Place) × (LeavesOf v w × (y ≡ MeantInline p c ds w))
+
+    -- of a set
+    pub LeavesOf : MeantSet Place → MeantSet Place → Type 0
+    LeavesOf (meant_set t ss) w = (ws : MeantSelections Place) × ((w ≡ meant_set t ws) × Leaves t ss ws)
+
+    -- of the selections of a set on the type of this name, in order: each is settled and left out, or stays
+    pub Leaves : List ℕ → MeantSelections Place → MeantSelections Place → Type 0
+    Leaves t no_meant ws = ws ≡ no_meant
+    Leaves t (meant_then x xs) ws =
+        (IsSettled t x × Leaves t xs ws)
+        ⊎ ((y : MeantSelection Place) × ((ys : MeantSelections Place) × ((ws ≡ meant_then y ys) × (Thins x y × Leaves t xs ys))))
+
+  -- of the set of a selection; a spread has none
+  abbrev pub LeavesBelow : MeantSelection Place → MeantSet Place → Type 0
+  LeavesBelow (MeantField p d h v) w = LeavesOf v w
+  LeavesBelow (MeantSpread p n ds) w = Unit {0}
+  LeavesBelow (MeantInline p c ds v) w = LeavesOf v w
+
+  -- of a typed set, on the same type
+  abbrev pub LeavesOfTyped : TypedSet Place → TypedSet Place → Type 0
+  LeavesOfTyped old new = (set_type new ≡ set_type old) × LeavesOf (meant_of_set old) (meant_of_set new)
+
+  -- what stays of a selection of a set on this type is put last; or the selection is settled, and the set stays as it was
+  abbrev pub KeepsUnlessSettled : List ℕ → TypedSelection Place → TypedSet Place → TypedSet Place → Type 0
+  KeepsUnlessSettled ty x old new =
+      ((y : TypedSelection Place) × ((new ≡ set_and (typed_then y no_typed) old) × Thins (meant x) (meant y)))
+      ⊎ ((new ≡ old) × IsSettled ty (meant x))
+
+  -- the fragment, maybe without selections that are settled
   abbrev pub StandsInFor : MeantFragment Place → MeantFragment Place → Type 0
-  StandsInFor h g = (emptied h ≡ emptied g) × Leaves (own_members g.set) (own_members h.set)
+  StandsInFor h g = (emptied h ≡ emptied g) × LeavesOf g.set h.set
 
-  -- under each name stands what may stand in for the fragment of that name, and no more
+  -- under each name is what may replace the fragment of that name, and no more
   pub record StandIn (fragments instead : Entries (MeantFragment Place)) : Type 0 where
     pub there : (n : List ℕ) (g : MeantFragment Place) → under n fragments ≡ Some g → (h : MeantFragment Place) × ((under n instead ≡ Some h) × StandsInFor h g)
     pub absent : (n : List ℕ) → under n fragments ≡ None → under n instead ≡ None

@@ -15,21 +15,20 @@ use Rattle.document_typed_selections.specs.declared.selection.Selection.{Selecti
 use Rattle.document_typed_selections.specs.declared.selection.SelectionSet.{SelectionSet}
 use Rattle.document_typed_operations.specs.TypedDocument.{typed_fragment_tree}
 use Rattle.document_typed_operations.specs.declared.operation.Fragment.{Fragment}
-use Rattle.document_meaning.specs.MeantTree.{MeantFragment, meant}
+use Rattle.document_meaning.specs.MeantTree.{MeantFragment, meant, meant_of_set}
 use Rattle.rule_document_ground.specs.in_typing.Meanings.{meanings}
 use Rattle.rule_document_ground.specs.in_typing.TypedByPlace.{IsTyped}
 use Rattle.fault_data.specs.Adds.{Adds}
 use Rattle.fault_data.specs.declared.fault.Fault.{Fault}
 use Rattle.rule_definitions.specs.GivenValues.{Variables}
 use Rattle.rule_definitions.specs.Judged.{judged}
-use Rattle.rule_definitions.specs.Told.{PlacedFault}
 use Rattle.rule_definitions.specs.Uses.{TakerBreaks, UsesBreak}
 use Rattle.rule_definitions.specs.Words.{AtSomeIndex}
 use Rattle.rule_document_definitions.specs.Selected.{StandingField}
 use Rattle.rule_document_definitions.specs.Selections.{field_taker}
 use Rattle.rule_document_definitions.specs.Told.{place_or_built_in, places_in}
 use Rattle.rule_document_ground.specs.Reach.{Member}
-use Rattle.rule_selections.specs.Settled.{KeepsUnlessQuiet, StandIn}
+use Rattle.rule_selections.specs.Settled.{IsSettled, LeavesBelow, KeepsUnlessSettled, StandIn}
 use Rattle.rule_selections.specs.Steps.{IsDefined, FieldBreaks, SelectionBreaks}
 
 -- faults
@@ -63,9 +62,13 @@ module _ (s : SchemaTree Place) where
     abbrev pub AddsOfFragments : List (MeantFragment Place) → Faults → Faults → Type 0
     AddsOfFragments fragments old new = Adds old new (λ f. AtSomeIndex fragments (λ i x. UsesBreak (place_at s) (judged s) variables location.FragmentDefinition x.directives f))
 
-  -- a selection is put last, or of it nothing is told
+  -- what stays of a selection is put last, or nothing is told of it and of what it selects
   abbrev pub KeepsSelection : NameValue → Selection → SelectionSet → SelectionSet → Type 0
-  KeepsSelection ty selection old new = KeepsUnlessQuiet s ty.text (typed_selection_tree selection) (typed_set_tree old) (typed_set_tree new)
+  KeepsSelection ty selection old new = KeepsUnlessSettled s ty.text (typed_selection_tree selection) (typed_set_tree old) (typed_set_tree new)
+
+  -- if this is what is left of the set of a selection, nothing is told of the selection and of what it selects
+  abbrev pub SettlesIfLeft : NameValue → Selection → SelectionSet → Type 0
+  SettlesIfLeft ty selection left = LeavesBelow s (meant (typed_selection_tree selection)) (meant_of_set (typed_set_tree left)) → IsSettled s ty.text (meant (typed_selection_tree selection))
 
   -- if the old ones may stand in for these, so may the new ones
   abbrev pub StillStandIn : (fragments old new : Entries (MeantFragment Place)) → Type 0

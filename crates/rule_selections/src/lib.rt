@@ -5,10 +5,10 @@
 //! reaches in a document: `SelectionsBreak` under a schema, `GivenInBreaks` without one.
 //!
 //! What operations share is judged once: `settled_fragments` gives what replaces the fragments of a document (`StandIn` of
-//! `specs/Settled.antt`), each without those of its selections of which nothing is told, whatever the variables. So a walk from
-//! an operation does not meet them, and the same is told (`proofs/SameFaults.antt`).
+//! `specs/Settled.antt`), each without those of its selections, at any depth, of which nothing is told, whatever the variables.
+//! So a walk from an operation does not meet them, and the same is told (`proofs/SameFaults.antt`).
 //!
-//! Begin with `selections.rt`, then `fields.rt`; `settled.rt`, then `quiet.rt`.
+//! Begin with `selections.rt`, then `fields.rt`; `settled.rt`, then `thinned.rt`, `within.rt` and `quiet.rt`.
 #![tactic(auto)]
 
 mod alone;
@@ -16,6 +16,8 @@ mod fields;
 mod quiet;
 mod selections;
 mod settled;
+mod thinned;
+mod within;
 
 pub use alone::check_selections_alone;
 pub use selections::check_selections;

@@ -43,7 +43,7 @@ fn location_of(selection: &Selection) -> DirectiveLocation
 }
 
 /// Adds the faults of a selection: of its directives, and of a field by itself.
-fn check_selection(
+pub(crate) fn check_selection(
     schema: &Schema,
     parent: &NamedType,
     selection: &Selection,
@@ -67,7 +67,7 @@ fn check_selection(
 }
 
 /// Adds the faults of each selection.
-pub(crate) fn check_each_selection(
+fn check_each_selection(
     schema: &Schema,
     reach: &Reach<'_>,
     variables: &DefinedVariables<'_>,

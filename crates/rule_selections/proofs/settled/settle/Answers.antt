@@ -17,10 +17,10 @@ returns c = λ in'.
     let fs = meant_fragments c.args.fragments.now in
     let name = c.args.name.now in
     let f = c.in-Some.fragment.now in
-    let v = c.in_ok-thinned.field-0 in
+    let v = c.in_ok-thinned_fragment.field-0 in
     let old = c.args.instead.now in
     let new = c.insert.new.self in
     let found = sym (ap (option_map meant_node) c.in-Some.ensures.value ∙ found_under c.args.fragments.now name) in
     let entries = c.in_ok-insert.ensures.entries ∙ ap (λ n. insert_entry (same_text name_text) old.entries n v) c.in_ok-name.ensures.same in
-    stand_in_more s fs (meant_fragments old) (meant_fragments new) name (fragment_meant f) v found c.in_ok-thinned.ensures
+    stand_in_more s fs (meant_fragments old) (meant_fragments new) name (fragment_meant f) v found c.in_ok-thinned_fragment.ensures
     (λ n. subst (λ es. Replaced name v n (under n (meant_entries es)) (under n (meant_fragments old))) (sym entries) (replaced name v n old.entries)) in'

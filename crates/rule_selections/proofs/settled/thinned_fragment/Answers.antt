@@ -6,9 +6,9 @@ use Rattle.tree_directives.specs.DirectiveTree.{directives_tree}
 use Rattle.document_typed_selections.specs.TypedTree.{TypedSet, typed_set_tree}
 use Rattle.document_typed_operations.specs.TypedDocument.{typed_fragment_tree}
 use Rattle.document_typed_operations.specs.declared.operation.Fragment.{Fragment}
-use Rattle.rule_selections.specs.Settled.{LeavesOf}
+use Rattle.rule_selections.specs.Settled.{LeavesOfTyped}
 use Rattle.rule_selections.proofs.Thinning.{stands_in}
-use Rattle.rule_selections.proofs.settled.thinned.Goals as goal
+use Rattle.rule_selections.proofs.settled.thinned_fragment.Goals as goal
 
 pub returns : goal.returns
 returns c =
@@ -21,5 +21,5 @@ returns c =
     (ap (λ (f : Fragment). name_tree f.name) made ∙ ap name_tree c.in_ok-name.ensures.same ∙ ap (λ (f : Fragment). name_tree f.name) own)
     (ap (λ (f : Fragment). directives_tree f.directives) made ∙ c.in_ok-directives.ensures.cases ∙ ap (λ (f : Fragment). directives_tree f.directives) own)
     c.in_ok-same_location.ensures.place
-    (subst (λ (v : TypedSet Place). LeavesOf s v (typed_set_tree (content n).selection_set)) (ap (λ (f : Fragment). typed_set_tree f.selection_set) own)
-    (subst (λ (v : TypedSet Place). LeavesOf s (typed_set_tree c.content-own.result.now.selection_set) v) (sym (ap (λ (f : Fragment). typed_set_tree f.selection_set) made)) c.in_ok-selection_set.ensures))
+    (subst (λ (v : TypedSet Place). LeavesOfTyped s v (typed_set_tree (content n).selection_set)) (ap (λ (f : Fragment). typed_set_tree f.selection_set) own)
+    (subst (λ (v : TypedSet Place). LeavesOfTyped s (typed_set_tree c.content-own.result.now.selection_set) v) (sym (ap (λ (f : Fragment). typed_set_tree f.selection_set) made)) c.in_ok-selection_set.ensures))

@@ -1,0 +1,202 @@
+//! Selection sets without those selections, at any depth, of which nothing is told. The sets within a set are thinned before it,
+//! without recursion, so it takes the same stack at any depth.
+ghost use Rattle.std.specs.Prelude.{◌≡◌, IfOk, IsTrue, OnOk, None};
+ghost use Rattle.graphql_names.specs.Placed.{name_tree};
+ghost use Rattle.rule_document_ground.specs.in_schema.SchemaOf.{schema_tree};
+ghost use Rattle.document_typed_selections.specs.TypedTree.{typed_selection_tree, typed_set_tree};
+ghost use Rattle.document_typed_selections.specs.TypedParts.{bare_inline, typed_field_node, typed_inline_node};
+ghost use Rattle.document_meaning.specs.MeantTree.{meant, meant_of_set};
+ghost use Rattle.rule_selections.specs.Settled.{filled, with_left, LeavesOfTyped};
+ghost use Rattle.rule_selections.specs.Telling.{SettlesIfLeft};
+ghost use Rattle.rule_selections.specs.Within.{TakesBelow, TakesKept, TakesThinned, AreThinned};
+
+use crate::quiet::is_quiet;
+use crate::within::sets_within;
+use document_typed_selections::{Field, InlineFragment, Selection, SelectionSet};
+use graphql_names::Node;
+use rule_uses::Schema;
+use std::alloc::{AllocError, Global};
+use tree_literals::{NamedType, copies_of_three, copies_of_two};
+
+/// A selection by which a set on that type has some, and of which nothing is told: an inline fragment without anything.
+fn filler(alloc: Global, ty: &NamedType) -> Result<Selection, AllocError>
+    ensures { IfOk result (λ r. typed_selection_tree r ≡ bare_inline None (name_tree ty.now)) }
+{
+    let inline = InlineFragment::without_type_condition(alloc, ty.clone()?);
+    Ok(Selection::InlineFragment(Node::new(alloc, inline)?))
+}
+
+/// What is left of the whole set; but a set with a selection of which nothing is told, where nothing is left of some.
+fn filled(
+    alloc: Global,
+    whole: &SelectionSet,
+    left: SelectionSet,
+) -> Result<SelectionSet, AllocError>
+    ensures { IfOk result (λ r. meant_of_set (typed_set_tree r) ≡ filled (meant_of_set (typed_set_tree whole.now)) (meant_of_set (typed_set_tree left))) }
+{
+    if whole.is_empty() {
+        return Ok(left);
+    }
+    if !left.is_empty() {
+        return Ok(left);
+    }
+    let mut set = SelectionSet::new(alloc, whole.ty.clone()?);
+    set.push(filler(alloc, &whole.ty)?)?;
+    Ok(set)
+}
+
+/// The field with what is left of its set, where it stands.
+fn field_with(
+    alloc: Global,
+    field: &Node<Field>,
+    left: SelectionSet,
+) -> Result<Selection, AllocError>
+    ensures { IfOk result (λ r. meant (typed_selection_tree r) ≡ with_left (meant (typed_field_node field.now)) (meant_of_set (typed_set_tree left))) }
+{
+    let own = field.content();
+    let selection_set = filled(alloc, &own.selection_set, left)?;
+    let (definition, alias, name) = copies_of_three(&own.definition, &own.alias, &own.name)?;
+    let (arguments, directives) = copies_of_two(&own.arguments, &own.directives)?;
+    let thin = Field {
+        definition,
+        alias,
+        name,
+        arguments,
+        directives,
+        selection_set,
+    };
+    Ok(Selection::Field(field.same_location(alloc, thin)?))
+}
+
+/// The inline fragment with what is left of its set, where it stands.
+fn inline_with(
+    alloc: Global,
+    inline: &Node<InlineFragment>,
+    left: SelectionSet,
+) -> Result<Selection, AllocError>
+    ensures { IfOk result (λ r. meant (typed_selection_tree r) ≡ with_left (meant (typed_inline_node inline.now)) (meant_of_set (typed_set_tree left))) }
+{
+    let own = inline.content();
+    let (type_condition, directives) = copies_of_two(&own.type_condition, &own.directives)?;
+    let thin = InlineFragment {
+        type_condition,
+        directives,
+        selection_set: left,
+    };
+    Ok(Selection::InlineFragment(inline.same_location(alloc, thin)?))
+}
+
+/// The selection with what is left of its set. A spread has none.
+#[tactic(auto, using(document_typed_selections::proofs::TypedTrees::typed_tree_rules))]
+fn selection_with(
+    alloc: Global,
+    selection: &Selection,
+    left: SelectionSet,
+) -> Result<Selection, AllocError>
+    ensures { IfOk result (λ r. meant (typed_selection_tree r) ≡ with_left (meant (typed_selection_tree selection.now)) (meant_of_set (typed_set_tree left))) }
+{
+    match selection {
+        Selection::Field(field) => field_with(alloc, field, left),
+        Selection::FragmentSpread(_) => selection.clone(),
+        Selection::InlineFragment(inline) => inline_with(alloc, inline, left),
+    }
+}
+
+/// Whether nothing is told of the selection of a set on that type, of whose own set this is left: nothing is left of that, and
+/// the selection itself is quiet.
+fn is_settled(
+    alloc: Global,
+    schema: &Schema,
+    ty: &NamedType,
+    selection: &Selection,
+    left: &SelectionSet,
+) -> Result<bool, AllocError>
+    ensures { IfOk result (λ b. IsTrue b → SettlesIfLeft (schema_tree schema.now) ty.now selection.now left.now) }
+{
+    if left.is_empty() {
+        return is_quiet(alloc, schema, ty, selection);
+    }
+    Ok(false)
+}
+
+/// What is left of the set of a selection, if it has one: the last of these. A spread has none.
+fn left_below(selection: &Selection, thin: &mut Vec<SelectionSet>) -> Option<SelectionSet>
+    ensures { TakesBelow selection.now result thin.old.items thin.new.items }
+{
+    if selection.as_fragment_spread().is_some() {
+        return None;
+    }
+    thin.pop()
+}
+
+/// Puts what stays of a selection of a set on that type last, unless nothing is told of it, and of all that it selects.
+fn keep_unless_settled(
+    alloc: Global,
+    schema: &Schema,
+    ty: &NamedType,
+    selection: &Selection,
+    thin: &mut Vec<SelectionSet>,
+    kept: &mut SelectionSet,
+) -> Result<(), AllocError>
+    ensures { OnOk result (TakesKept (schema_tree schema.now) ty.now selection.now thin.old.items thin.new.items kept.old kept.new) }
+{
+    let Some(left) = left_below(selection, thin) else {
+        kept.push(selection.clone()?)?;
+        return Ok(());
+    };
+    if is_settled(alloc, schema, ty, selection, &left)? {
+        return Ok(());
+    }
+    kept.push(selection_with(alloc, selection, left)?)?;
+    Ok(())
+}
+
+/// What is left of a set. What is left of the sets of its selections is taken from these: that of the first one is the last.
+fn thinned_set(
+    alloc: Global,
+    schema: &Schema,
+    set: &SelectionSet,
+    thin: &mut Vec<SelectionSet>,
+) -> Result<SelectionSet, AllocError>
+    ensures { IfOk result (λ r. TakesThinned (schema_tree schema.now) set.now r thin.old.items thin.new.items) }
+{
+    let mut kept = SelectionSet::new(alloc, set.ty.clone()?);
+    for selection in &set.selections {
+        keep_unless_settled(alloc, schema, &set.ty, selection, thin, &mut kept)?;
+    }
+    Ok(kept)
+}
+
+/// What is left of sets, each of which comes before those within it. What is left within a set is taken into that, so at the
+/// end there is one for each that is in no other, the first one last.
+fn thinned_sets<'doc>(
+    alloc: Global,
+    schema: &Schema,
+    mut sets: Vec<&'doc SelectionSet>,
+) -> Result<Vec<SelectionSet>, AllocError>
+    ensures { IfOk result (λ thin. AreThinned (schema_tree schema.now) sets.entry.items thin.items) }
+{
+    let mut thin = Vec::new(alloc);
+    while let Some(next) = sets.pop() {
+        let set = thinned_set(alloc, schema, next, &mut thin)?;
+        thin.push(set)?;
+    }
+    Ok(thin)
+}
+
+/// The set without those of its selections, at any depth, of which nothing is told: they break no rule whatever the variables,
+/// and neither they nor what they select enters a fragment on a type of its own. A field keeps some selection if it has any.
+pub(crate) fn thinned(
+    alloc: Global,
+    schema: &Schema,
+    set: &SelectionSet,
+) -> Result<SelectionSet, AllocError>
+    ensures { IfOk result (λ r. LeavesOfTyped (schema_tree schema.now) (typed_set_tree set.now) (typed_set_tree r)) }
+{
+    let sets = sets_within(alloc, set)?;
+    let mut thin = thinned_sets(alloc, schema, sets)?;
+    match thin.pop() {
+        Some(whole) => Ok(whole),
+        None => set.clone(),
+    }
+}
