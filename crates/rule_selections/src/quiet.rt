@@ -12,7 +12,7 @@ use crate::selections::check_each_selection;
 use document_typed_selections::{Selection, SelectionSet};
 use indexmap::IndexMap;
 use rule_document_ground::{Reach, reach};
-use rule_uses::{DefinedVariables, Fault, Schema};
+use rule_uses::{DefinedVariables, Fault, IndexedSchema};
 use std::alloc::{AllocError, Global};
 use tree_literals::NamedType;
 
@@ -61,7 +61,7 @@ fn only(alloc: Global, ty: &NamedType, selection: &Selection) -> Result<Selectio
 /// no fragment on a type of its own. So it uses no variable, and breaks none in any operation.
 pub(crate) fn is_quiet(
     alloc: Global,
-    schema: &Schema,
+    schema: &IndexedSchema<'_>,
     ty: &NamedType,
     selection: &Selection,
 ) -> Result<bool, AllocError>

@@ -11,14 +11,14 @@ use crate::quiet::is_quiet;
 use document_typed_operations::{ExecutableDocument, Fragment, FragmentMap};
 use document_typed_selections::{Selection, SelectionSet};
 use graphql_names::{Name, Node};
-use rule_uses::Schema;
+use rule_uses::IndexedSchema;
 use std::alloc::{AllocError, Global};
 use tree_literals::NamedType;
 
 /// Puts a selection of a set on that type last, unless nothing is told of it.
 fn keep_unless_quiet(
     alloc: Global,
-    schema: &Schema,
+    schema: &IndexedSchema<'_>,
     ty: &NamedType,
     selection: &Selection,
     kept: &mut SelectionSet,
@@ -32,7 +32,7 @@ fn keep_unless_quiet(
 }
 
 /// The set without those of its selections of which nothing is told.
-fn unsettled(alloc: Global, schema: &Schema, set: &SelectionSet) -> Result<SelectionSet, AllocError>
+fn unsettled(alloc: Global, schema: &IndexedSchema<'_>, set: &SelectionSet) -> Result<SelectionSet, AllocError>
     ensures { IfOk result (λ r. LeavesOf (schema_tree schema.now) (typed_set_tree set.now) (typed_set_tree r)) }
 {
     let mut kept = SelectionSet::new(alloc, set.ty.clone()?);
@@ -45,7 +45,7 @@ fn unsettled(alloc: Global, schema: &Schema, set: &SelectionSet) -> Result<Selec
 /// The fragment without those of its selections, where it stands.
 fn thinned(
     alloc: Global,
-    schema: &Schema,
+    schema: &IndexedSchema<'_>,
     fragment: &Node<Fragment>,
 ) -> Result<Node<Fragment>, AllocError>
     ensures { IfOk result (λ r. StandsInFor (schema_tree schema.now) (fragment_meant r) (fragment_meant fragment.now)) }
@@ -64,7 +64,7 @@ fn thinned(
 
 /// Puts the fragment of that name, without those of its selections, in its place.
 fn settle(
-    schema: &Schema,
+    schema: &IndexedSchema<'_>,
     fragments: &FragmentMap,
     name: &Name,
     instead: &mut FragmentMap,
@@ -85,7 +85,7 @@ fn settle(
 /// type of its own. Fails where memory is refused.
 pub fn settled_fragments(
     alloc: Global,
-    schema: &Schema,
+    schema: &IndexedSchema<'_>,
     document: &ExecutableDocument,
 ) -> Result<Option<FragmentMap>, AllocError>
     ensures { IfOk result (λ r. StandIn (schema_tree schema.now) (document_meant document.now).fragments (meant_fragments (unwrap_or r document.now.fragments))) }

@@ -4,6 +4,7 @@ pub mod ValueFaults
 pub mod VariableFaults
 pub mod KeyFaults
 pub mod Firsts
+pub mod Inputs
 pub use Rattle.fault_data.specs as in_fault_data
 pub use Rattle.fault_data.specs.in_rule_definitions as in_rule_definitions
 pub use Rattle.graphql_schema.specs as in_schema

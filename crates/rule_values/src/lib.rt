@@ -4,6 +4,9 @@
 //! For the layers above: each check adds exactly the faults by which the rules of its name break, which are predicates of
 //! `rule_definitions` (`specs/Values.antt`) on the value's tree.
 //!
+//! The schema is given as an `IndexedSchema`: with `SchemaInputs`, which are found once, a use of many arguments or input fields
+//! costs what it gives.
+//!
 //! Begin with `checks.rt`; the rules themselves are in `forms.rt` and `objects.rt`.
 #![tactic(auto)]
 
@@ -12,6 +15,8 @@ mod defined;
 mod find;
 mod firsts;
 mod forms;
+mod indexed;
+mod inputs;
 mod judging;
 mod keys;
 mod objects;
@@ -27,3 +32,5 @@ pub use fault_data::{
 };
 pub use firsts::note_first;
 pub use graphql_schema::Schema;
+pub use indexed::{DefinedArguments, IndexedSchema};
+pub use inputs::{SchemaInputs, definition_numbers};
