@@ -64,7 +64,7 @@ fn schema_faults(alloc: Global, schema: &Schema) -> Result<Vec<Fault>, AllocErro
     check_types(alloc, schema, &mut faults)?;
     check_interfaces(alloc, schema, &mut faults)?;
     check_cycles(alloc, schema, &mut faults)?;
-    let inputs = SchemaInputs::new(alloc, schema)?;
+    let inputs = SchemaInputs::new(alloc, &schema.types, &schema.directive_definitions)?;
     let indexed = IndexedSchema::new(schema, &inputs);
     check_schema_directives(&indexed, &mut faults)?;
     Ok(faults)

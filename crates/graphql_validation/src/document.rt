@@ -63,7 +63,7 @@ pub fn validate_executable_document(
     ensures accepts { OnOk result (ValidMeansSilence (schema_tree schema.now) (document_meant document.now) (diagnostics_of list.old) (diagnostics_of list.new)) }
     ensures begins { OnErr result (BeginsAs (diagnostics_of list.old) (diagnostics_of list.new)) }
 {
-    let inputs = SchemaInputs::new(alloc, schema)?;
+    let inputs = SchemaInputs::new(alloc, &schema.types, &schema.directive_definitions)?;
     let schema = IndexedSchema::new(schema, &inputs);
     validate_with_possible_types(alloc, list, &schema, None, document)
 }

@@ -65,7 +65,7 @@ pub fn validate_field_set(
 {
     // As a document of one query, so that no rule is written a second time for sets.
     let document = document_of_set(alloc, field_set)?;
-    let inputs = SchemaInputs::new(alloc, schema)?;
+    let inputs = SchemaInputs::new(alloc, &schema.types, &schema.directive_definitions)?;
     let schema = IndexedSchema::new(schema, &inputs);
     let faults = faults_under(alloc, &schema, None, &document)?;
     let is_passed = passes_path_bound(&document);

@@ -27,14 +27,15 @@ use crate::usage::disallowed_variable_usage;
 use graphql_names::{Name, Node};
 use indexmap::IndexMap;
 use rule_values::{
-    DefinedVariables, DiagnosticData, Fault, IndexedSchema, definition_numbers, tell, type_breaks,
+    DefinedArguments, DefinedVariables, DiagnosticData, Fault, IndexedSchema, definition_numbers,
+    tell, type_breaks,
 };
 use std::alloc::AllocError;
 use tree_directives::{Argument, InputValueDefinition};
 
 /// The first of these definitions that has that name; `numbers` has where it stands.
 fn find_definition<'a>(
-    definitions: &'a [Node<InputValueDefinition>],
+    definitions: &DefinedArguments<'a>,
     numbers: &IndexMap<Name, usize>,
     name: &Name,
 ) -> Option<&'a Node<InputValueDefinition>>
@@ -43,7 +44,7 @@ fn find_definition<'a>(
 {
     match numbers.get(name) {
         None => None,
-        Some(index) => definitions.get(*index),
+        Some(index) => definitions.nodes().get(*index),
     }
 }
 
@@ -58,7 +59,7 @@ fn undefined_argument(
     ensures { OnOk result (Tells faults.old faults.new (undefined_argument_of taker.now argument.now)) }
 {
     let name = &argument.content().name;
-    if find_definition(taker.definitions.nodes(), defined, name).is_some() {
+    if find_definition(taker.definitions, defined, name).is_some() {
         return Ok(());
     }
     let name = name.clone()?;
@@ -173,7 +174,7 @@ fn check_if_defined(
     ensures { OnOk result (Adds faults.old faults.new (BreaksIfDefined judging.now taker.now argument.now)) }
 {
     let name = &argument.content().name;
-    match find_definition(taker.definitions.nodes(), defined, name) {
+    match find_definition(taker.definitions, defined, name) {
         None => Ok(()),
         Some(definition) => check_argument(judging, argument, definition, faults),
     }

@@ -34,7 +34,7 @@ use Rattle.rule_values.specs.VariableFaults.{variable_faults, variable_faults_en
 use Rattle.rule_values.specs.declared.judging.Judging.{Judging}
 use Rattle.rule_values.specs.declared.objects.GivenObject.{GivenObject}
 use Rattle.rule_values.specs.declared.objects.InputFields.{InputFields}
-use Rattle.rule_values.specs.Inputs.{AreRequired}
+use Rattle.schema_inputs.specs.Inputs.{AreRequired}
 use Rattle.rule_values.specs.declared.wanted.Wanted.{Wanted}
 
 -- the faults that were there, and after them these

@@ -13,10 +13,8 @@
 mod checks;
 mod defined;
 mod find;
-mod firsts;
 mod forms;
 mod indexed;
-mod inputs;
 mod judging;
 mod keys;
 mod objects;
@@ -30,7 +28,6 @@ pub use fault_data::{
     DiagnosticData, DirectiveArgumentCoordinate, DirectiveCoordinate, Fault,
     FieldArgumentCoordinate, SchemaCoordinate, TypeAttributeCoordinate, tell,
 };
-pub use firsts::note_first;
 pub use graphql_schema::Schema;
-pub use indexed::{DefinedArguments, IndexedSchema};
-pub use inputs::{SchemaInputs, definition_numbers};
+pub use indexed::IndexedSchema;
+pub use schema_inputs::{DefinedArguments, SchemaInputs, definition_numbers, note_first};

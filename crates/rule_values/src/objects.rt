@@ -5,13 +5,13 @@ ghost use Rattle.graphql_schema.specs.in_schema_types.TypeView.{extended_type};
 ghost use Rattle.schema_coordinates.specs.Coordinate.{OfAttribute};
 ghost use Rattle.schema_coordinates.specs.CoordinateView.{attribute_coordinate};
 ghost use Rattle.rule_values.specs.ValueFaults.{undefined_input_value};
-ghost use Rattle.rule_values.specs.Firsts.{AreFirsts};
+ghost use Rattle.schema_inputs.specs.Firsts.{AreFirsts};
 ghost use Rattle.rule_values.specs.Wanting.{is_not_provided, nulls_of};
 ghost use Rattle.rule_values.specs.Telling.{Tells, undefined_key_of, told_key, required_fields_of, required_among_entries, required_of_given, required_by_given, AreRequiredIfKnown};
 
 use crate::find::find_input;
-use crate::firsts::note_first;
-use crate::indexed::FoundType;
+use schema_inputs::note_first;
+use schema_inputs::FoundType;
 use fault_data::{DiagnosticData, Fault, TypeAttributeCoordinate, tell};
 use graphql_names::{Name, Node, SourceSpan};
 use indexmap::IndexMap;

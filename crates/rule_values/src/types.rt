@@ -4,11 +4,11 @@ ghost use Rattle.rule_values.specs.Telling.{Tells, form_faults_of, faults_for, f
 
 use crate::defined::DefinedVariables;
 use crate::find::find_input;
-use crate::firsts::note_first;
+use schema_inputs::{FoundType, note_first};
 use crate::forms::{
     int_coercion_error, is_custom_scalar, undefined_enum_value, unsupported_value_type,
 };
-use crate::indexed::{FoundType, IndexedSchema};
+use crate::indexed::IndexedSchema;
 use crate::judging::Judging;
 use crate::objects::{tell_required_fields, undefined_input_value};
 use crate::wanted::Wanted;

@@ -1,19 +1,22 @@
--- Private: leads to `TypeBreaks` and `TakerBreaks`. What is known of the arguments and the input fields that a schema defines, where they are many.
-use Rattle.std.specs.Prelude.{◌≡◌, ⊤, List, [], ◌∷◌, map, flat_map, Option, IfSome, ℕ, if◌then◌else◌}
+-- What is known of the arguments and the input fields that a schema defines, where they are many (GraphQL, October 2021, sections 3.6.1, 3.10 and 3.13).
+use Rattle.std.specs.Prelude.{◌≡◌, ⊤, List, [], ◌∷◌, map, flat_map, Option, IfSome, Some, ℕ, if◌then◌else◌}
 use Rattle.graphql_names.specs.Placed.{Placed, Place}
 use Rattle.graphql_names.specs.declared.name.Name.{Name}
-use Rattle.tree_directives.specs.DirectiveTree.{InputValueTree, InputValues, input_value_tree, input_value_trees}
+use Rattle.tree_directives.specs.DirectiveTree.{InputValueTree, InputValues, DirectiveDefinitionTree, input_value_tree, input_value_trees}
 use Rattle.tree_directives.specs.DirectiveQueries.{is_required_input}
 use Rattle.tree_directives.specs.declared.input_value.InputValueDefinition.{InputValueDefinition}
 use Rattle.schema_components.specs.Given.{Given, component_tree}
 use Rattle.schema_components.specs.Names.{Entries}
 use Rattle.schema_components.specs.declared.component.Component.{Component}
-use Rattle.graphql_schema.specs.in_schema_types.SchemaTree.{SchemaType, SchemaTree}
-use Rattle.fault_data.specs.in_rule_definitions.Names.{input_name}
-use Rattle.rule_values.specs.Firsts.{AreNumbers}
-use Rattle.rule_values.specs.declared.inputs.KnownArguments.{KnownArguments}
-use Rattle.rule_values.specs.declared.inputs.KnownType.{KnownType}
-use Rattle.rule_values.specs.declared.inputs.SchemaInputs.{SchemaInputs}
+use Rattle.schema_types.specs.SchemaTree.{SchemaType, SchemaTree}
+use Rattle.schema_inputs.specs.Firsts.{AreNumbers}
+use Rattle.schema_inputs.specs.declared.known.KnownArguments.{KnownArguments}
+use Rattle.schema_inputs.specs.declared.known.KnownType.{KnownType}
+use Rattle.schema_inputs.specs.declared.inputs.SchemaInputs.{SchemaInputs}
+
+-- the name of an argument
+abbrev pub input_name : Placed Place (InputValueTree Place) → List ℕ
+input_name v = v.it.name.it
 
 -- an argument, if it is required
 abbrev pub if_required : Placed Place (InputValueTree Place) → InputValues Place
@@ -43,6 +46,10 @@ AreEach R [] ys = ⊤
 AreEach R (x ∷ xs) [] = ⊤
 AreEach R (x ∷ xs) (y ∷ ys) = R x y × AreEach R xs ys
 
+-- there is one, and it is so
+abbrev pub HasAt : {X : Type 0} → Option X → (X → Type 0) → Type 0
+HasAt {X} o P = (x : X) × ((o ≡ Some x) × P x)
+
 -- of each name the index of the first argument that has it, and those that are required
 abbrev pub AreKnown : InputValues Place → KnownArguments → Type 0
 AreKnown vs known = AreNumbers input_name known.numbers vs × (input_value_trees known.required.items ≡ required_inputs vs)
@@ -60,8 +67,14 @@ IsKnownType t known =
     AreEach (λ e arguments. AreKnownIfMany e.1.it.it.arguments arguments) t.fields known.arguments.items
     × IfSome known.required (λ fields. AreRequired t.inputs fields.items)
 
--- of a schema: its types, and the arguments of its directives
+-- of each of these types, by its index
+abbrev pub AreTypesOf : Entries (SchemaType Place) → SchemaInputs → Type 0
+AreTypesOf ts inputs = AreEach (λ e known. IsKnownType e.1 known) ts inputs.types.items
+
+-- of each of these directives, by its index: its arguments
+abbrev pub AreDirectivesOf : Entries (Placed Place (DirectiveDefinitionTree Place)) → SchemaInputs → Type 0
+AreDirectivesOf ds inputs = AreEach (λ e arguments. AreKnownIfMany e.1.it.arguments arguments) ds inputs.directives.items
+
+-- of a schema
 abbrev pub AreInputsOf : SchemaTree Place → SchemaInputs → Type 0
-AreInputsOf s inputs =
-    AreEach (λ e known. IsKnownType e.1 known) s.types inputs.types.items
-    × AreEach (λ e arguments. AreKnownIfMany e.1.it.arguments arguments) s.directives inputs.directives.items
+AreInputsOf s inputs = AreTypesOf s.types inputs × AreDirectivesOf s.directives inputs

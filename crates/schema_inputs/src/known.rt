@@ -1,19 +1,16 @@
-//! The arguments and the input fields that a schema defines, where they are many: each definition is read once.
-ghost use Rattle.std.specs.Prelude.{◌≡◌, ◌++◌, IfOk, OnOk};
+//! What is kept of the arguments and the input fields that a schema defines, where they are many.
+ghost use Rattle.std.specs.Prelude.{◌≡◌, ◌++◌, [], map, IfOk, OnOk, IfSome};
 ghost use Rattle.graphql_names.specs.Placed.{node_tree};
 ghost use Rattle.tree_directives.specs.DirectiveTree.{input_value_tree, input_value_trees, directive_definition_tree};
 ghost use Rattle.tree_type_members.specs.TypeSystemTree.{field_definition_tree};
 ghost use Rattle.schema_components.specs.Given.{component_tree};
 ghost use Rattle.schema_components.specs.Names.{entries_of};
-ghost use Rattle.graphql_schema.specs.SchemaOf.{schema_tree};
-ghost use Rattle.graphql_schema.specs.in_schema_types.TypeView.{extended_type, name_text};
-ghost use Rattle.fault_data.specs.in_rule_definitions.Names.{input_name};
-ghost use Rattle.rule_values.specs.Firsts.{AreNumbers};
-ghost use Rattle.rule_values.specs.Inputs.{if_required, if_field_required, listed_field, required_inputs, AreEach, AreKnownIfMany, AreRequired, IsKnownType, AreInputsOf};
+ghost use Rattle.schema_types.specs.TypeView.{extended_type, name_text};
+ghost use Rattle.schema_inputs.specs.Firsts.{AreNumbers};
+ghost use Rattle.schema_inputs.specs.Inputs.{input_name, if_required, if_field_required, listed_field, required_inputs, AreEach, AreKnownIfMany, AreRequired, IsKnownType};
 
 use crate::firsts::note_first;
 use graphql_names::{Name, Node};
-use graphql_schema::Schema;
 use indexmap::IndexMap;
 use schema_components::Component;
 use schema_types::ExtendedType;
@@ -22,7 +19,7 @@ use tree_directives::{DirectiveDefinition, InputValueDefinition};
 use tree_type_members::FieldDefinition;
 
 /// So many arguments or input fields are gone through at each use.
-pub(crate) const FEW: usize = 8;
+pub const FEW: usize = 8;
 
 /// Many arguments that are defined together.
 pub struct KnownArguments {
@@ -38,16 +35,6 @@ pub(crate) struct KnownType {
     pub(crate) arguments: Vec<Option<KnownArguments>>,
     /// Of an input object that has many fields those that are required, in order.
     pub(crate) required: Option<Vec<(Name, Component<InputValueDefinition>)>>,
-}
-
-/// What a schema defines of many input values (sections 3.6.1, 3.10 and 3.13): where a field or a directive takes many arguments, or
-/// an input object has many fields, where each name stands, and which are required. So a use costs what it gives and what it has to
-/// give, and not all that is defined.
-pub struct SchemaInputs {
-    /// Of each type, by its index.
-    pub(crate) types: Vec<KnownType>,
-    /// Of each directive, by its index, the arguments, where they are many.
-    pub(crate) directives: Vec<Option<KnownArguments>>,
 }
 
 // Not derived: a derived drop is proved again in each crate that drops one.
@@ -66,26 +53,6 @@ impl Drop for KnownType {
             arguments: _,
             required: _,
         } = self;
-    }
-}
-
-impl Drop for SchemaInputs {
-    fn drop(self) {
-        let SchemaInputs {
-            types: _,
-            directives: _,
-        } = self;
-    }
-}
-
-impl SchemaInputs {
-    /// Those of the schema. Fails where memory is refused.
-    pub fn new(alloc: Global, schema: &Schema) -> Result<SchemaInputs, AllocError>
-        ensures { IfOk result (AreInputsOf (schema_tree schema.now)) }
-    {
-        let types = known_types(alloc, &schema.types)?;
-        let directives = known_directives(alloc, &schema.directive_definitions)?;
-        Ok(SchemaInputs { types, directives })
     }
 }
 
@@ -147,7 +114,7 @@ fn known_arguments(
 }
 
 /// Of each of these directives the arguments.
-fn known_directives(
+pub(crate) fn known_directives(
     alloc: Global,
     definitions: &IndexMap<Name, Node<DirectiveDefinition>>,
 ) -> Result<Vec<Option<KnownArguments>>, AllocError>
@@ -269,7 +236,7 @@ fn known_type(alloc: Global, ty: &ExtendedType) -> Result<KnownType, AllocError>
 }
 
 /// What is known of each of these types.
-fn known_types(
+pub(crate) fn known_types(
     alloc: Global,
     types: &IndexMap<Name, ExtendedType>,
 ) -> Result<Vec<KnownType>, AllocError>
