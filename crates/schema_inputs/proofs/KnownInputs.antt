@@ -47,10 +47,10 @@ required_again vs = only_those (λ v. is_required_input v.it) if_required (λ v 
 -- ---- in loops over a map
 
 -- one more entry, and what is kept of it
-pub each_yielded : {X Y Z W : Type 0} (R : Z → W → Type 0) (g : Y → Z) (d : X → Y) (xs : List X) (ws : List W) (x : X) (w : W) → length ws ≡ length xs → AreEach R (map g (map d xs)) ws → R (g (d x)) w
-    → AreEach R (map g (map d (xs ++ x ∷ []))) (ws ++ w ∷ []) × (length (ws ++ w ∷ []) ≡ length (xs ++ x ∷ []))
-each_yielded R g d xs ws x w e h r = (
-  subst (λ l. AreEach R l (ws ++ w ∷ [])) (sym (ap (map g) (map-append d xs (x ∷ [])) ∙ map-append g (map d xs) (d x ∷ [])))
-  (each_more R (map g (map d xs)) ws (g (d x)) w (e ∙ sym (length-map (map d xs) g ∙ length-map xs d)) h r),
-  length-append ws (w ∷ []) ∙ ap (λ n. n + 1) e ∙ sym (length-append xs (x ∷ [])),
+pub each_yielded : {X Y Z W : Type 0} (R : Z → W → Type 0) (g : Y → Z) (d : X → Y) (xs : List X) (ws new : List W) (x : X) (w : W) → new ≡ ws ++ w ∷ [] → length ws ≡ length xs → AreEach R (map g (map d xs)) ws → R (g (d x)) w
+    → AreEach R (map g (map d (xs ++ x ∷ []))) new × (length new ≡ length (xs ++ x ∷ []))
+each_yielded R g d xs ws new x w is e h r = (
+  subst (λ l. AreEach R l new) (sym (ap (map g) (map-append d xs (x ∷ [])) ∙ map-append g (map d xs) (d x ∷ [])))
+  (subst (λ l. AreEach R (map g (map d xs) ++ g (d x) ∷ []) l) (sym is) (each_more R (map g (map d xs)) ws (g (d x)) w (e ∙ sym (length-map (map d xs) g ∙ length-map xs d)) h r)),
+  ap length is ∙ length-append ws (w ∷ []) ∙ ap (λ n. n + 1) e ∙ sym (length-append xs (x ∷ [])),
 )

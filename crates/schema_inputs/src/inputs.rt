@@ -82,7 +82,7 @@ impl SchemaInputs {
     {
         match types.get_full(parent) {
             None => None,
-            Some((index, _, ty)) => match self.types.get(index) {
+            Some((index, _, ty)) => match type_at(&self.types, index) {
                 None => None,
                 Some(known) => known.of_field(ty, name),
             },
@@ -100,20 +100,27 @@ impl SchemaInputs {
     {
         match types.get_full(name) {
             None => None,
-            Some((index, _, ty)) => Some(found_at(&self.types, index, ty)),
+            Some((index, _, ty)) => Some(found(ty, type_at(&self.types, index))),
         }
     }
 }
 
-/// A type, where this is what is known of types, and at that index of this one.
-fn found_at<'a>(known: &'a [KnownType], index: usize, ty: &'a ExtendedType) -> FoundType<'a>
-    requires { IfSome (slice_get known.now index) (IsKnownType (extended_type ty.now)) }
+/// A type, with what is known of it, if anything is.
+fn found<'a>(ty: &'a ExtendedType, known: Option<&'a KnownType>) -> FoundType<'a>
+    requires { IfSome known (λ known. IsKnownType (extended_type ty.now) known.now) }
     ensures { result ≡ ty.now }
 {
-    match known.get(index) {
+    match known {
         None => FoundType::plain(ty),
         Some(known) => FoundType::new(ty, known),
     }
+}
+
+/// What is known of the type at that index.
+fn type_at(known: &[KnownType], index: usize) -> Option<&KnownType>
+    ensures { IfSome result (λ r. slice_get known.now index ≡ Some r.now) }
+{
+    known.get(index)
 }
 
 /// What is kept of the arguments at that index.
