@@ -125,8 +125,9 @@ fn check_variable(
 ) -> Result<(), AllocError>
     ensures { OnOk result (Adds faults.old faults.new (VariableBreaks (schema_tree schema.now) (node_tree variable_definition_tree variable.now))) }
 {
-    undefined_definition(schema.schema(), variable, faults)?;
-    variable_input_type(schema.schema(), variable, faults)?;
+    let whole = schema.schema();
+    undefined_definition(whole, variable, faults)?;
+    variable_input_type(whole, variable, faults)?;
     check_judged_default(schema, variable, faults)?;
     let directives = &variable.content().directives.0;
     let variables = DefinedVariables::listed(&[]);
