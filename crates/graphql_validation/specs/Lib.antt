@@ -4,3 +4,4 @@ pub mod TellsDocument
 pub mod TellsLasting
 pub mod Steps
 pub use Rattle.rule_fragments.specs as in_fragments
+pub use Rattle.rule_merging.specs as in_merging

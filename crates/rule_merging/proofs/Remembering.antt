@@ -1,202 +1,207 @@
--- Lists that are remembered: what stands at the numbers that are kept.
-use Rattle.std.proofs.Common.{◌≡◌, ◌++◌, ◌⊎◌, ◌∙◌, ℕ, ◌<◌, ◌≤◌, Bool, true, false, List, [], ◌∷◌, map, length, get_or, slice_get, Some, Contains, true≢false, refl, sym, ap, subst, length-append, arith, inl, inr}
+-- What is remembered: what is read of the numbers that are kept.
+use Rattle.std.proofs.Common.{◌≡◌, ◌⊎◌, ◌∙◌, ℕ, ◌+◌, ◌<◌, ◌≤◌, min, max, Bool, true, false, ◌==◌, cond, List, [], ◌∷◌, map, length, Contains, refl, sym, ap, ap₂, subst, arith, inl, inr}
 use Rattle.std.specs.Prelude.{Result, Ok, Err, OnErr}
-use Rattle.std.specs.List.{IsDistinct}
-use Rattle.std.proofs.lemmas.Bool.{cases_eq, cases_lt}
-use Rattle.std.proofs.lemmas.List.{map-append, length-map}
-use Rattle.std.proofs.lemmas.Map.Keys.{apart_from_distinct}
-use Rattle.std.proofs.lemmas.Option.{slice_get_within, get_or_from_slice_get}
+use Rattle.std.proofs.lemmas.List.{length-map}
+use Rattle.graphql_names.specs.Placed.{Place}
+use Rattle.document_meaning.specs.MeantTree.{MeantSet}
 use Rattle.rule_cycle_search.specs.Paths.{HasNoRepeat}
-use Rattle.rule_cycle_search.proofs.Lists.{mapped_some, slice_get-map}
-use Rattle.rule_number_lists.specs.Numbered.{AreNumbersIn, Grows, AddsOnly, AreWithin, at_places}
-use Rattle.rule_number_lists.specs.NumberLists.{HaveSame, Keeps}
-use Rattle.rule_number_lists.proofs.Standing.{in_map, of_map, AllWithin, Notes, NoneSame, all_stay, notes, none_same, numbered_so, of_table, same_sym, same_order}
-use Rattle.document_meaning.specs.Unplaced.{unplaced_set}
-use Rattle.rule_field_groups.specs.in_ground.Fields.{content_of}
-use Rattle.rule_field_groups.specs.in_ground.declared.field_selection.FieldSelection.{FieldSelection}
-use Rattle.rule_field_groups.proofs.in_ground.ContentEquality.{selection_eq, selection_eq-Decides}
-use Rattle.rule_field_groups.specs.declared.below.SelectedSet.{SelectedSet}
-use Rattle.rule_document_definitions.specs.PlainFields.{PlainField, PlainSet}
-use Rattle.rule_field_groups.specs.Below.{contents_of, meant_at, meant_sets, plain_sets}
-use Rattle.rule_field_groups.proofs.Sets.{set_key_eq, same_sets, source_eq, same_sources}
-use Rattle.rule_field_groups.specs.Own.{unplaced_source, source_meant, meant_sources}
-use Rattle.rule_field_groups.specs.declared.own.SelectionSource.{SelectionSource}
-use Rattle.rule_merging.specs.Counted.{Account, Meets}
-use Rattle.rule_merging.specs.Remembered.{Kept, PlainSource, plain_sources, Remembers, HasLooked, LooksAt}
+use Rattle.rule_cycle_search.proofs.Lists.{Contains-first}
+use Rattle.rule_number_lists.specs.NumberLists.{Keeps, list_of, lists_kept}
+use Rattle.rule_number_lists.specs.declared.lists.NumberLists.{NumberLists}
+use Rattle.rule_number_lists.specs.NumberPairs.{KeepsPair, pairs_kept}
+use Rattle.rule_number_lists.specs.NumberSet.{numbers_in, PutsIn}
+use Rattle.rule_number_lists.specs.declared.set.NumberSet.{NumberSet}
+use Rattle.rule_number_lists.proofs.Standing.{in_map, of_map}
+use Rattle.rule_number_lists.proofs.Few.{in_rest}
+use Rattle.rule_number_lists.proofs.Sets.{numbers_once, was_there}
+use Rattle.rule_number_lists.proofs.Said.{list_said, unlike_said, apart_said, say_both, pair_said}
+use Rattle.rule_document_definitions.specs.ReadFields.{ReadField, ReadSet, field_read, list_read}
+use Rattle.rule_field_sets.specs.Nodes.{AreSets, HasMember}
+use Rattle.rule_field_sets.specs.Read.{content_at, set_content_at}
+use Rattle.rule_field_sets.specs.declared.member.Member.{Member}
+use Rattle.rule_field_sets.specs.declared.field_sets.FieldSets.{FieldSets}
+use Rattle.rule_field_sets.proofs.Meaning.{content_of_member, content_injective}
+use Rattle.rule_merging.specs.Members.{field_of, fields_of, content_of, contents_of, read_sets, AreMembersOf}
+use Rattle.rule_merging.specs.Twos.{contents_of_two}
+use Rattle.rule_merging.specs.Counted.{Account, IsWithin, most_members, Meets, OnlyMeets, Pays}
+use Rattle.rule_merging.specs.Under.{sets_in}
+use Rattle.rule_merging.specs.Remembered.{Kept, kept_of, account_of, Remembers, LooksAt, Expands, IsKnown}
+use Rattle.rule_merging.specs.declared.remembered.Remembered.{Remembered}
+
+abbrev pub number_of : Member → ℕ
+number_of m = m.number
+
+abbrev pub numbers_of : List Member → List ℕ
+numbers_of ms = map number_of ms
+
+module _ (w : FieldSets) (are : AreSets w) where
+  -- what is read of members by their numbers
+  pub numbers_read : (ms : List Member) → AreMembersOf w ms → map (content_at w) (numbers_of ms) ≡ contents_of ms
+  numbers_read [] all = refl
+  numbers_read (m ∷ ms) all = ap₂ (λ c cs. c ∷ cs) (content_of_member w are m (all m (Contains-first m ms m refl))) (numbers_read ms (λ n c. all n (in_rest m ms n c)))
+
+  -- of two as a list
+  pub two_read : (one other : Member) → HasMember w one → HasMember w other → map (content_at w) (list_of (one.number, other.number)) ≡ contents_of_two one other
+  two_read one other has so = by (one.number == other.number)
+    where
+      by : (b : Bool) → map (content_at w) (cond b (one.number ∷ []) (one.number ∷ other.number ∷ [])) ≡ cond b (content_of one ∷ []) (content_of one ∷ content_of other ∷ [])
+      by true = ap (λ c. c ∷ []) (content_of_member w are one has)
+      by false = ap₂ (λ c e. c ∷ e ∷ []) (content_of_member w are one has) (content_of_member w are other so)
+
+  -- ---- lists of fields
+
+  module _ (base : Kept) where
+    abbrev kept_with : List (List ℕ) → Kept
+    kept_with ls = record base { lists = map (map (content_at w)) ls }
+
+    pub remembers : (old new : List (List ℕ)) (numbers : List ℕ) (list : List ReadField) (is_new : Bool) → map (content_at w) numbers ≡ list → Keeps old numbers is_new new
+        → Remembers (kept_with old) list is_new (kept_with new)
+    remembers old new numbers list is_new is keeps = subst (λ l. Remembers (kept_with old) l is_new (kept_with new)) is (by is_new keeps)
+      where
+        by : (b : Bool) → Keeps old numbers b new → Remembers (kept_with old) (map (content_at w) numbers) b (kept_with new)
+        by true h = let k = list_said (content_at w) old new numbers true h in (unlike_said (content_at w) (content_injective w are) old new numbers h, (k.0, (k.1.0, (k.1.1.0, (k.1.1.1, refl)))))
+        by false h = let k = list_said (content_at w) old new numbers false h in (k.0, ap kept_with (h.1))
+
+  -- ---- fields that are met
+
+  pub are_met : (old new : NumberSet) (list : List Member) (before after : Account) → AreMembersOf w list → before.met ≡ map (content_at w) (numbers_in old) → after.met ≡ map (content_at w) (numbers_in new)
+      → ((n : ℕ) → Contains (numbers_in new) n → Contains (numbers_in old) n ⊎ Contains (numbers_of list) n) → length (numbers_in old) ≤ length (numbers_in new) → after.comparisons ≡ before.comparisons
+      → Meets (contents_of list) before after
+  are_met old new list before after all was now only more same = record {
+    only = λ x c.
+        let n = of_map (content_at w) (numbers_in new) x (subst (λ l. Contains l x) now c) in
+        elim (only n.0 n.1.0) [
+          | inl a ↦ inl (subst (λ l. Contains l x) (sym was) (subst (Contains (map (content_at w) (numbers_in old))) n.1.1 (in_map (content_at w) (numbers_in old) n.0 a)))
+          | inr b ↦ inr (subst (λ l. Contains l x) (numbers_read list all) (subst (Contains (map (content_at w) (numbers_of list))) n.1.1 (in_map (content_at w) (numbers_of list) n.0 b)))
+        ];
+    once = subst HasNoRepeat (sym now) (apart_said (content_at w) (content_injective w are) (numbers_in new) (numbers_once new));
+    more = omega (arith, more, ap length was, ap length now, length-map (numbers_in old) (content_at w), length-map (numbers_in new) (content_at w));
+    same = same;
+  }
+
+module _ (w : FieldSets) where
+  -- how many were met
+  pub count_met : (s : NumberSet) → length (map (content_at w) (numbers_in s)) ≡ length (numbers_in s)
+  count_met s = length-map (numbers_in s) (content_at w)
+
+  -- ---- lists of sets, and pairs
+
+  pub expands : (old new : List (List ℕ)) (numbers : List ℕ) (list : List ReadSet) (is_new : Bool) → map (set_content_at w) numbers ≡ list → Keeps old numbers is_new new
+      → Expands (map (map (set_content_at w)) old) list is_new (map (map (set_content_at w)) new)
+  expands old new numbers list is_new is keeps = subst (λ l. Expands (map (map (set_content_at w)) old) l is_new (map (map (set_content_at w)) new)) is (by is_new keeps)
+    where
+      by : (b : Bool) → Keeps old numbers b new → Expands (map (map (set_content_at w)) old) (map (set_content_at w) numbers) b (map (map (set_content_at w)) new)
+      by true h = let k = list_said (set_content_at w) old new numbers true h in (k.0, (k.1.0, k.1.1.1))
+      by false h = list_said (set_content_at w) old new numbers false h
+
+  module _ (base : Kept) where
+    abbrev looked_with : List (ℕ × ℕ) → Kept
+    looked_with ps = record base { looked = map (say_both (set_content_at w)) ps }
+
+    pub looks : (old new : List (ℕ × ℕ)) (a b : ℕ) (one other : MeantSet Place) (is_new : Bool) → set_content_at w a ≡ list_read one → set_content_at w b ≡ list_read other
+        → KeepsPair old (max a b, min a b) is_new new → LooksAt (looked_with old) (read_sets (one ∷ other ∷ [])) is_new (looked_with new)
+    looks old new a b one other is_new first second keeps =
+        subst (λ two. LooksAt (looked_with old) two is_new (looked_with new)) (ap₂ (λ x y. x ∷ y ∷ []) first second) (by is_new keeps)
+      where
+        by : (t : Bool) → KeepsPair old (max a b, min a b) t new → LooksAt (looked_with old) (say_both (set_content_at w) (a, b)) t (looked_with new)
+        by true h = let k = pair_said (set_content_at w) old new a b true h in (k.0, (k.1.0, (k.1.1, refl)))
+        by false h = let k = pair_said (set_content_at w) old new a b false h in (k.0, ap looked_with (h.1))
+
+-- ---- what is asked to be paid
+
+-- what was met is met by what has the same fields
+pub meets_as : (list : List ReadField) (old mid new : Account) → new.met ≡ mid.met → new.comparisons ≡ mid.comparisons → Meets list old mid → Meets list old new
+meets_as list old mid new met same m = record {
+  only = λ x c. m.only x (subst (λ l. Contains l x) met c);
+  once = subst HasNoRepeat (sym met) m.once;
+  more = omega (arith, m.more, ap length met);
+  same = omega (arith, m.same, same);
+}
+
+-- nothing is spent
+pub asks_nothing : (list : List ReadField) (old new : Account) → Meets list old new → new.spent ≡ old.spent → Pays list old new
+asks_nothing list old new m e = record { meets = m; spends = omega (arith, e); within = still }
+  where
+    still : IsWithin old → IsWithin new
+    still within = omega (arith, e, within, m.more)
+
+-- so many steps are
+pub asks_steps : (list : List ReadField) (old new : Account) (steps : ℕ) → Meets list old new → new.spent ≡ old.spent + steps → new.spent ≤ most_members (length new.met) → Pays list old new
+asks_steps list old new steps m e within = record { meets = m; spends = omega (arith, e); within = λ h. within }
 
 -- what is so is so where a call fails
 pub where_err : {T E X : Type 0} (r : Result T E) → X → OnErr r X
 where_err (Ok y) h = tt
 where_err (Err y) h = h
 
--- ---- what items of a table say
+-- fields of a list are met, and nothing else changes
+pub meets_only : (old mid : Remembered) (met : NumberSet) (list : List Member) → mid ≡ record old { met = mid.met }
+    → ((n : ℕ) → Contains (numbers_in met) n → Contains (numbers_in old.met) n ⊎ Contains (numbers_of list) n) → length (numbers_in old.met) ≤ length (numbers_in met)
+    → (w : FieldSets) → AreSets w → AreMembersOf w list → OnlyMeets (contents_of list) (account_of w old) (account_of w (record mid { met = met }))
+meets_only old mid met list same only more w are all = (
+  are_met w are old.met met list (account_of w old) (account_of w (record mid { met = met })) all refl refl only more (ap (λ (r : Remembered). r.comparisons) same),
+  ap (λ (r : Remembered). r.spent) same,
+)
 
-module _ {T X : Type 0} (eq : T → T → Bool) (content : T → X) (sound : (a b : T) → eq a b ≡ true → content a ≡ content b) where
-  -- in a table that grew the same stands at the numbers
-  pub said_still : (old new : List T) (lists : List (List ℕ)) → Grows old new → AllWithin old lists → map (at_places (map content new)) lists ≡ map (at_places (map content old)) lists
-  said_still old new lists (more, is) all =
-      ap (λ t. map (at_places (map content t)) lists) is ∙ ap (λ t. map (at_places t) lists) (map-append content old more)
-      ∙ all_stay (map content old) (map content more) lists (λ l c n k. let h = all l c n k in omega (arith, h, length-map old content))
+-- one more of them is met
+pub one_more_met : (old mid new : List ℕ) (list : List Member) (m : Member) (is_new : Bool) → Contains list m → PutsIn mid m.number is_new new
+    → ((n : ℕ) → Contains mid n → Contains old n ⊎ Contains (numbers_of list) n) → (n : ℕ) → Contains new n → Contains old n ⊎ Contains (numbers_of list) n
+one_more_met old mid new list m is_new among puts only n c = elim (was_there mid new m.number is_new puts n c) [
+  | inl a ↦ only n a
+  | inr e ↦ inr (subst (Contains (numbers_of list)) e (in_map number_of list m among))
+]
 
-  -- a list that is remembered
-  pub said_notes : (old new : List T) (lists now : List (List ℕ)) (list : List T) (numbers : List ℕ) (is_new : Bool) → Grows old new → AllWithin old lists → AreNumbersIn eq new list numbers
-      → Keeps lists numbers is_new now → Notes (map (at_places (map content old)) lists) (map content list) is_new (map (at_places (map content new)) now)
-  said_notes old new lists now list numbers is_new grown all are keeps =
-      subst (λ ls. Notes ls (map content list) is_new (map (at_places (map content new)) now)) (said_still old new lists grown all)
-      (subst (λ l. Notes (map (at_places (map content new)) lists) l is_new (map (at_places (map content new)) now)) (numbered_so eq content sound new list numbers are)
-      (notes (map content new) lists now numbers is_new keeps))
+-- where fields of a list were met, and nothing else changed
+module _ (old mid : Remembered) (list slice : List Member) (same : mid ≡ record old { met = mid.met }) (is : slice ≡ list)
+    (meets : (w : FieldSets) → AreSets w → AreMembersOf w slice → OnlyMeets (contents_of slice) (account_of w old) (account_of w mid)) where
+  pub kept_same : (w : FieldSets) → kept_of w mid ≡ kept_of w old
+  kept_same w = ap (kept_of w) same
 
-  within_said : (table : List T) (places : List ℕ) → AreWithin table places → AreWithin (map content table) places
-  within_said table places w n c = let h = w n c in omega (arith, h, length-map table content)
+  pub next_same : (w : FieldSets) → sets_in w mid.next ≡ sets_in w old.next
+  next_same w = ap (λ (r : Remembered). sets_in w r.next) same
 
-  -- none with the same members was there
-  pub said_none : (old new : List T) (lists now : List (List ℕ)) (list : List T) (numbers : List ℕ) (is_new : Bool) → Grows old new → AllWithin old lists → AreNumbersIn eq new list numbers
-      → HasNoRepeat (map content new) → Keeps lists numbers is_new now → NoneSame (map (at_places (map content old)) lists) (map content list) is_new
-  said_none old new lists now list numbers is_new grown all are apart keeps =
-      subst (λ ls. NoneSame ls (map content list) is_new) (said_still old new lists grown all)
-      (subst (λ l. NoneSame (map (at_places (map content new)) lists) l is_new) (numbered_so eq content sound new list numbers are)
-      (none_same (map content new) lists now numbers is_new apart (λ l c. within_said new l (longer l c)) (within_said new numbers (of_table eq new list numbers are)) keeps))
-    where
-      longer : (l : List ℕ) → Contains lists l → AreWithin new l
-      longer l c n k = let h = all l c n k in let e = ap length grown.1 in omega (arith, h, e, length-append old grown.0)
+  spent_same : mid.spent ≡ old.spent
+  spent_same = ap (λ (r : Remembered). r.spent) same
 
-  -- where equal items alone say the same, and no two are equal, none says the same as another
-  pub said_apart : ((a b : T) → content a ≡ content b → eq a b ≡ true) → (table : List T) → IsDistinct eq table → HasNoRepeat (map content table)
-  said_apart complete table distinct i j x h k = by (cases_eq i j) (cases_lt i j)
-    where
-      at : (n : ℕ) → slice_get (map content table) n ≡ Some x → (a : T) × ((slice_get table n ≡ Some a) × (content a ≡ x))
-      at n e = let m = mapped_some content (slice_get table n) x (sym (slice_get-map content table n) ∙ e) in (m.0, (m.1.0, sym m.1.1))
+  met_so : (w : FieldSets) → AreSets w → AreMembersOf w list → OnlyMeets (contents_of list) (account_of w old) (account_of w mid)
+  met_so w are all = subst (λ l. OnlyMeets (contents_of l) (account_of w old) (account_of w mid)) is (meets w are (subst (AreMembersOf w) (sym is) all))
 
-      never : (m n : ℕ) → m < n → slice_get (map content table) m ≡ Some x → slice_get (map content table) n ≡ Some x → ⊥
-      never m n low e f =
-          let a = at m e in
-          let b = at n f in
-          let same = complete a.0 b.0 (a.1.1 ∙ sym b.1.1) in
-          let differ = apart_from_distinct eq table m n a.0 distinct low (slice_get_within table n b.0 b.1.0) in
-          let here : eq a.0 b.0 ≡ false =
-          subst (λ u. eq u b.0 ≡ false) (get_or_from_slice_get table m a.0 a.0 a.1.0) (subst (λ v. eq (get_or table m a.0) v ≡ false) (get_or_from_slice_get table n b.0 a.0 b.1.0) differ) in
-          true≢false (sym same ∙ here)
+  -- nothing is paid
+  pub pays_none : (w : FieldSets) → AreSets w → AreMembersOf w list → Pays (contents_of list) (account_of w old) (account_of w mid)
+  pays_none w are all = let m = met_so w are all in asks_nothing (contents_of list) (account_of w old) (account_of w mid) (m.0) (m.1)
 
-      by : (i ≡ j) ⊎ (i ≡ j → ⊥) → (i < j) ⊎ (j ≤ i) → i ≡ j
-      by (inl e) q = e
-      by (inr p) (inl low) = absurd (never i j low h k)
-      by (inr p) (inr high) = absurd (never j i (omega (arith, high, p)) k h)
+  -- so many steps are, whatever is remembered then
+  module _ (spent steps fields : ℕ) (is_sum : spent ≡ mid.spent + steps) (count : fields ≡ length (numbers_in mid.met)) (within : spent ≤ most_members fields) where
+    abbrev paid_account : FieldSets → NumberLists → Account
+    paid_account w lists = record { lists = map (map (content_at w)) (lists_kept lists); met = map (content_at w) (numbers_in mid.met); spent = spent; comparisons = mid.comparisons }
 
--- ---- lists of fields
+    pub pays_so : (lists : NumberLists) (w : FieldSets) → AreSets w → AreMembersOf w list → Pays (contents_of list) (account_of w old) (paid_account w lists)
+    pays_so lists w are all =
+        let m = met_so w are all in
+        let enough : spent ≤ most_members (length (map (content_at w) (numbers_in mid.met))) = subst (λ n. spent ≤ most_members n) (count ∙ sym (count_met w mid.met)) within in
+        asks_steps (contents_of list) (account_of w old) (paid_account w lists) steps
+        (meets_as (contents_of list) (account_of w old) (account_of w mid) (paid_account w lists) refl refl (m.0)) (omega (arith, is_sum, spent_same)) enough
 
-contents_said : (xs : List FieldSelection) → map content_of xs ≡ contents_of xs
-contents_said [] = refl
-contents_said (x ∷ xs) = ap (λ l. content_of x ∷ l) (contents_said xs)
+    pub paid_so : length list ≤ steps → old.spent + length (contents_of list) ≤ spent
+    paid_so long = omega (arith, is_sum, spent_same, long, length-map (fields_of list) (field_read {P = Place}), length-map list field_of)
 
-pub sound_fields : (a b : FieldSelection) → selection_eq a b ≡ true → content_of a ≡ content_of b
-sound_fields a b = (selection_eq-Decides a b).0
+  -- a list is remembered
+  pub remembers_so : (lists : NumberLists) (numbers : List ℕ) (is_new : Bool) → numbers ≡ numbers_of slice → Keeps (lists_kept mid.lists) numbers is_new (lists_kept lists)
+      → (w : FieldSets) → AreSets w → AreMembersOf w list → Remembers (kept_of w old) (contents_of list) is_new (record (kept_of w mid) { lists = map (map (content_at w)) (lists_kept lists) })
+  remembers_so lists numbers is_new they keeps w are all =
+      subst (λ k. Remembers k (contents_of list) is_new (record (kept_of w mid) { lists = map (map (content_at w)) (lists_kept lists) })) (kept_same w)
+      (remembers w are (kept_of w mid) (lists_kept mid.lists) (lists_kept lists) numbers (contents_of list) is_new
+      (ap (map (content_at w)) (they ∙ ap numbers_of is) ∙ numbers_read w are list all) keeps)
 
-pub complete_fields : (a b : FieldSelection) → content_of a ≡ content_of b → selection_eq a b ≡ true
-complete_fields a b = (selection_eq-Decides a b).1
+-- ---- numbers above all that stand there
 
-module _ (base : Kept) where
-  abbrev kept_with : List (List PlainField) → Kept
-  kept_with ls = record base { lists = ls }
-
-  -- what is noted of a list, and that none with its members was there
-  remembers_from : (old new : List (List PlainField)) (list : List PlainField) (is_new : Bool) → Notes old list is_new new → NoneSame old list is_new → Remembers (kept_with old) list is_new (kept_with new)
-  remembers_from old new list true (kept, (order, is)) none = (none, (kept, (order, ap kept_with is)))
-  remembers_from old new list false (known, is) none = (known, ap kept_with is)
-
-  pub remembers : (old new : List FieldSelection) (lists now : List (List ℕ)) (list : List FieldSelection) (numbers : List ℕ) (is_new : Bool) → IsDistinct selection_eq new → Grows old new → AllWithin old lists
-      → AreNumbersIn selection_eq new list numbers → Keeps lists numbers is_new now
-      → Remembers (record base { lists = map (at_places (contents_of old)) lists }) (contents_of list) is_new (record base { lists = map (at_places (contents_of new)) now })
-  remembers old new lists now list numbers is_new distinct grown all are keeps =
-      let from = remembers_from (map (at_places (map content_of old)) lists) (map (at_places (map content_of new)) now) (map content_of list) is_new
-      (said_notes selection_eq content_of sound_fields old new lists now list numbers is_new grown all are keeps)
-      (said_none selection_eq content_of sound_fields old new lists now list numbers is_new grown all are (said_apart selection_eq content_of sound_fields complete_fields new distinct) keeps) in
-      subst (λ t. Remembers (kept_with (map (at_places t) lists)) (contents_of list) is_new (kept_with (map (at_places (contents_of new)) now))) (contents_said old)
-      (subst (λ t. Remembers (kept_with (map (at_places (map content_of old)) lists)) (contents_of list) is_new (kept_with (map (at_places t) now))) (contents_said new)
-      (subst (λ l. Remembers (kept_with (map (at_places (map content_of old)) lists)) l is_new (kept_with (map (at_places (map content_of new)) now))) (contents_said list) from))
-
--- fields that are met
-pub fields_met : (old new list : List FieldSelection) (before after : Account) → IsDistinct selection_eq new → Grows old new → AddsOnly old list new → before.met ≡ contents_of old → after.met ≡ contents_of new
-    → after.comparisons ≡ before.comparisons → Meets (contents_of list) before after
-fields_met old new list before after distinct grown only was now same = record {
-  only = λ x c.
-      let y = of_map content_of new x (subst (λ l. Contains l x) (now ∙ sym (contents_said new)) c) in
-      elim (only y.0 y.1.0) [
-        | inl a ↦ inl (subst (λ l. Contains l x) (contents_said old ∙ sym was) (subst (Contains (map content_of old)) y.1.1 (in_map content_of old y.0 a)))
-        | inr b ↦ inr (subst (λ l. Contains l x) (contents_said list) (subst (Contains (map content_of list)) y.1.1 (in_map content_of list y.0 b)))
-      ];
-  once = subst HasNoRepeat (contents_said new ∙ sym now) (said_apart selection_eq content_of sound_fields complete_fields new distinct);
-  more = omega (arith, ap length was, ap length now, ap length (sym (contents_said old)), ap length (sym (contents_said new)), length-map old content_of, length-map new content_of, ap length grown.1, length-append old grown.0);
-  same = same;
+pub known_so : (fields sets : ℕ) (r : Remembered) (a b c d : ℕ)
+    → ((l : List ℕ) → Contains (lists_kept r.lists) l → (n : ℕ) → Contains l n → n < a) → ((n : ℕ) → Contains (numbers_in r.met) n → n < b)
+    → ((l : List ℕ) → Contains (lists_kept r.expanded) l → (n : ℕ) → Contains l n → n < c) → ((p : ℕ × ℕ) → Contains (pairs_kept r.looked) p → (p.0 < d) × (p.1 < d))
+    → a ≤ fields → b ≤ fields → c ≤ sets → d ≤ sets → IsKnown fields sets r
+known_so fields sets r a b c d lists met expanded looked ha hb hc hd = record {
+  lists = λ l k n m. omega (arith, lists l k n m, ha);
+  met = λ n k. omega (arith, met n k, hb);
+  expanded = λ l k n m. omega (arith, expanded l k n m, hc);
+  looked = λ p k. let q = looked p k in (omega (arith, q.0, hd), omega (arith, q.1, hd));
 }
-
--- nothing came to the lists
-pub lists_still : (old new : List FieldSelection) (lists now : List (List ℕ)) → Grows old new → AllWithin old lists → now ≡ lists → map (at_places (contents_of new)) now ≡ map (at_places (contents_of old)) lists
-lists_still old new lists now grown all is =
-    ap (map (at_places (contents_of new))) is ∙ ap (λ t. map (at_places t) lists) (sym (contents_said new)) ∙ said_still selection_eq content_of sound_fields old new lists grown all ∙ ap (λ t. map (at_places t) lists) (contents_said old)
-
--- ---- lists of sets
-
--- a list of sets is put last, in some order; where it is not new, one with the same members stood there
-abbrev pub Expands : Kept → List PlainSet → Bool → Kept → Type 0
-Expands old sets true new = (kept : List PlainSet) × (HaveSame kept sets × (new ≡ record old { expanded = old.expanded ++ kept ∷ [] }))
-Expands old sets false new = HasLooked old.expanded sets × (new ≡ old)
-
-abbrev plain_of : SelectedSet → PlainSet
-plain_of s = unplaced_set (meant_at s)
-
-sets_said : (xs : List SelectedSet) → map plain_of xs ≡ plain_sets (meant_sets xs)
-sets_said [] = refl
-sets_said (x ∷ xs) = ap (λ l. plain_of x ∷ l) (sets_said xs)
-
-sets_noted : (old new : List SelectedSet) (lists now : List (List ℕ)) (sets : List SelectedSet) (numbers : List ℕ) (is_new : Bool) → Grows old new → AllWithin old lists → AreNumbersIn set_key_eq new sets numbers
-    → Keeps lists numbers is_new now → Notes (map (at_places (plain_sets (meant_sets old))) lists) (plain_sets (meant_sets sets)) is_new (map (at_places (plain_sets (meant_sets new))) now)
-sets_noted old new lists now sets numbers is_new grown all are keeps =
-    subst (λ t. Notes (map (at_places t) lists) (plain_sets (meant_sets sets)) is_new (map (at_places (plain_sets (meant_sets new))) now)) (sets_said old)
-    (subst (λ t. Notes (map (at_places (map plain_of old)) lists) (plain_sets (meant_sets sets)) is_new (map (at_places t) now)) (sets_said new)
-    (subst (λ l. Notes (map (at_places (map plain_of old)) lists) l is_new (map (at_places (map plain_of new)) now)) (sets_said sets)
-    (said_notes set_key_eq plain_of same_sets old new lists now sets numbers is_new grown all are keeps)))
-
-module _ (base : Kept) where
-  abbrev sets_with : List (List PlainSet) → Kept
-  sets_with ls = record base { expanded = ls }
-
-  expands_from : (old new : List (List PlainSet)) (sets : List PlainSet) (is_new : Bool) → Notes old sets is_new new → Expands (sets_with old) sets is_new (sets_with new)
-  expands_from old new sets true (kept, (order, is)) = (kept, (same_sym sets kept (same_order sets kept order), ap sets_with is))
-  expands_from old new sets false (known, is) = (known, ap sets_with is)
-
-  pub expands : (old new : List SelectedSet) (lists now : List (List ℕ)) (sets : List SelectedSet) (numbers : List ℕ) (is_new : Bool) → Grows old new → AllWithin old lists → AreNumbersIn set_key_eq new sets numbers
-      → Keeps lists numbers is_new now → Expands (record base { expanded = map (at_places (plain_sets (meant_sets old))) lists }) (plain_sets (meant_sets sets)) is_new
-      (record base { expanded = map (at_places (plain_sets (meant_sets new))) now })
-  expands old new lists now sets numbers is_new grown all are keeps =
-      expands_from (map (at_places (plain_sets (meant_sets old))) lists) (map (at_places (plain_sets (meant_sets new))) now) (plain_sets (meant_sets sets)) is_new (sets_noted old new lists now sets numbers is_new grown all are keeps)
-
--- ---- pairs of sources
-
-abbrev plain_source : SelectionSource → PlainSource
-plain_source x = unplaced_source (source_meant x)
-
-sources_said : (xs : List SelectionSource) → map plain_source xs ≡ plain_sources (meant_sources xs)
-sources_said [] = refl
-sources_said (x ∷ xs) = ap (λ l. plain_source x ∷ l) (sources_said xs)
-
-sources_noted : (old new : List SelectionSource) (lists now : List (List ℕ)) (xs : List SelectionSource) (numbers : List ℕ) (is_new : Bool) → Grows old new → AllWithin old lists → AreNumbersIn source_eq new xs numbers
-    → Keeps lists numbers is_new now → Notes (map (at_places (plain_sources (meant_sources old))) lists) (plain_sources (meant_sources xs)) is_new (map (at_places (plain_sources (meant_sources new))) now)
-sources_noted old new lists now xs numbers is_new grown all are keeps =
-    subst (λ t. Notes (map (at_places t) lists) (plain_sources (meant_sources xs)) is_new (map (at_places (plain_sources (meant_sources new))) now)) (sources_said old)
-    (subst (λ t. Notes (map (at_places (map plain_source old)) lists) (plain_sources (meant_sources xs)) is_new (map (at_places t) now)) (sources_said new)
-    (subst (λ l. Notes (map (at_places (map plain_source old)) lists) l is_new (map (at_places (map plain_source new)) now)) (sources_said xs)
-    (said_notes source_eq plain_source same_sources old new lists now xs numbers is_new grown all are keeps)))
-
-module _ (base : Kept) where
-  abbrev pairs_with : List (List PlainSource) → Kept
-  pairs_with ls = record base { looked = ls }
-
-  looks_from : (old new : List (List PlainSource)) (two : List PlainSource) (is_new : Bool) → Notes old two is_new new → LooksAt (pairs_with old) two is_new (pairs_with new)
-  looks_from old new two true (kept, (order, is)) = (kept, (same_sym two kept (same_order two kept order), ap pairs_with is))
-  looks_from old new two false (known, is) = (known, ap pairs_with is)
-
-  pub looks : (old new : List SelectionSource) (lists now : List (List ℕ)) (xs : List SelectionSource) (numbers : List ℕ) (is_new : Bool) → Grows old new → AllWithin old lists → AreNumbersIn source_eq new xs numbers
-      → Keeps lists numbers is_new now → LooksAt (record base { looked = map (at_places (plain_sources (meant_sources old))) lists }) (plain_sources (meant_sources xs)) is_new
-      (record base { looked = map (at_places (plain_sources (meant_sources new))) now })
-  looks old new lists now xs numbers is_new grown all are keeps =
-      looks_from (map (at_places (plain_sources (meant_sources old))) lists) (map (at_places (plain_sources (meant_sources new))) now) (plain_sources (meant_sources xs)) is_new (sources_noted old new lists now xs numbers is_new grown all are keeps)

@@ -11,8 +11,8 @@ use Rattle.rule_cycle_search.proofs.Lists.{given_in}
 use Rattle.rule_document_definitions.specs.Selected.{InOperation, Standing, StandingField, as_field, standing_in, all_in, operations, operation_name, fragments, all_selections}
 use Rattle.rule_document_definitions.specs.Reached.{Closed, first, next, InFragmentOf, Reached}
 use Rattle.rule_document_definitions.specs.Chains.{Chain}
-use Rattle.rule_document_definitions.specs.Contents.{unplaced_content}
-use Rattle.rule_document_definitions.specs.PlainFields.{PlainField}
+use Rattle.rule_document_definitions.specs.ReadFields.{field_read}
+use Rattle.rule_document_definitions.specs.ReadFields.{ReadField}
 use Rattle.rule_document_definitions.specs.Merging.{Below, Starts}
 use Rattle.rule_document_definitions.proofs.Unplaced.{contains_map}
 use Rattle.rule_document_definitions.proofs.Spreading.{StandsThere, body, stands}
@@ -49,9 +49,9 @@ module _ (d : MeantDocument Place) where
         Contains-append_right (flat_map (λ (p : MeantOperation Place). all_in (InOperation (operation_name p)) p.set) (operations d)) (flat_map (body d) (fragments d)) x
         (given_in (body d) x (fragments d) f (contains_map (λ (e : List ℕ × MeantFragment Place). e.1) d.fragments (n, f) (under_given n d.fragments f e)) c)
 
-  pub last_written : (x : PlainField) → IsLast d (operations d) x → Contains (fields_written d) x
+  pub last_written : (x : ReadField) → IsLast d (operations d) x → Contains (fields_written d) x
   last_written x (o, (c, (f, (there, (chain, same))))) =
       let y = last_reached o c (Starts d o) (starts_reached o) f chain in
       let stands_there : Contains (all_selections d) y.0 = stands_in o there y.0 (stands d o y.0 y.1.0) in
-      let is : written y.0 ≡ unplaced_content f ∷ [] = ap (λ (g : Option (StandingField Place)). cons_option (option_map unplaced_content g) []) y.1.1 in
-      given_in written x (all_selections d) y.0 stands_there (subst (λ l. Contains l x) (sym is) (Contains-first (unplaced_content f) [] x same))
+      let is : written y.0 ≡ field_read f ∷ [] = ap (λ (g : Option (StandingField Place)). cons_option (option_map field_read g) []) y.1.1 in
+      given_in written x (all_selections d) y.0 stands_there (subst (λ l. Contains l x) (sym is) (Contains-first (field_read f) [] x same))

@@ -1,3 +1,15 @@
+pub mod Members
+pub mod Kinds
+pub mod Shapes
+pub mod Grouped
+pub mod KeyGroups
+pub mod Passes
+pub mod Compared
+pub mod Conflicts
+pub mod Below
+pub mod Under
+pub mod NodeWalk
+pub mod Paired
 pub mod Remembered
 pub mod Counted
 pub mod Examined

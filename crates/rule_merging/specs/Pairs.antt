@@ -1,30 +1,32 @@
--- Private: leads to `FieldsMerge`. Pairs of sources that are looked at.
+-- Private: leads to `FieldsMerge`. Pairs of sets that are looked at.
 use Rattle.std.specs.Prelude.{◌≡◌, ◌++◌, ◌∷◌, ◌⊎◌, List, [], map, Contains}
 use Rattle.graphql_names.specs.Placed.{Place}
 use Rattle.rule_number_lists.specs.NumberLists.{HaveSame}
-use Rattle.rule_field_groups.specs.Own.{Source}
-use Rattle.rule_merging.specs.Remembered.{Kept, PlainSource, plain_sources, HasLooked}
-use Rattle.rule_merging.specs.Examined.{Sources, AreTwosOf}
+use Rattle.document_meaning.specs.MeantTree.{MeantSet}
+use Rattle.rule_document_definitions.specs.ReadFields.{ReadSet}
+use Rattle.rule_merging.specs.Members.{read_sets}
+use Rattle.rule_merging.specs.Remembered.{Kept, HasLooked}
+use Rattle.rule_merging.specs.Examined.{Sets, AreTwosOf}
 
 -- each of these with another one
-abbrev pub each_with : Sources → Source Place → List Sources
+abbrev pub each_with : Sets → MeantSet Place → List Sets
 each_with xs v = map (λ w. w ∷ v ∷ []) xs
 
 -- one of these pairs has the same members
-abbrev pub HasSame : List Sources → List PlainSource → Type 0
-HasSame pairs known = (two : Sources) × (Contains pairs two × HaveSame known (plain_sources two))
+abbrev pub HasSame : List Sets → List ReadSet → Type 0
+HasSame pairs known = (two : Sets) × (Contains pairs two × HaveSame known (read_sets two))
 
 -- such pairs are looked at; each that was not looked at before is put last
-pub record Looks (wanted : List Sources) (old new : Kept) : Type 0 where
+pub record Looks (wanted : List Sets) (old new : Kept) : Type 0 where
   pub lists : new.lists ≡ old.lists
   pub expanded : new.expanded ≡ old.expanded
-  pub pairs : List Sources
+  pub pairs : List Sets
   pub is_pairs : new.pairs ≡ old.pairs ++ pairs
-  pub within : (two : Sources) → Contains pairs two → Contains wanted two
-  pub keeps : (known : List PlainSource) → Contains old.looked known → Contains new.looked known
-  pub fresh : (known : List PlainSource) → Contains new.looked known → Contains old.looked known ⊎ HasSame pairs known
-  pub has : (two : Sources) → Contains wanted two → HasLooked new.looked (plain_sources two)
+  pub within : (two : Sets) → Contains pairs two → Contains wanted two
+  pub keeps : (known : List ReadSet) → Contains old.looked known → Contains new.looked known
+  pub fresh : (known : List ReadSet) → Contains new.looked known → Contains old.looked known ⊎ HasSame pairs known
+  pub has : (two : Sets) → Contains wanted two → HasLooked new.looked (read_sets two)
 
--- pairs are looked at, and no others stand there, of which any two of these sources are one
-abbrev pub LooksAtTwos : Sources → Kept → Kept → Type 0
-LooksAtTwos xs old new = (twos : List Sources) × (AreTwosOf xs twos × Looks twos (record old { pairs = [] }) new)
+-- pairs are looked at, and no others stand there, of which any two of these sets are one
+abbrev pub LooksAtTwos : Sets → Kept → Kept → Type 0
+LooksAtTwos xs old new = (twos : List Sets) × (AreTwosOf xs twos × Looks twos (record old { pairs = [] }) new)

@@ -3,21 +3,29 @@
 ghost use Rattle.std.specs.Prelude.{◌≡◌, ◌≤◌, ◌+◌, IsTrue, IfSome};
 ghost use Rattle.rule_merging.specs.Counted.{most_members};
 
-/// So many members of lists may be examined for each field that was seen.
-const FOR_EACH_FIELD: usize = 4;
+/// So many steps of walks are paid by each field that was met.
+pub(crate) const FOR_EACH_FIELD: usize = 4;
 
-/// So many may be examined before that.
+/// So many are paid before that.
 const AT_FIRST: usize = 200;
 
-/// Whether so many fields pay for so many members of lists.
-fn is_paid(members: usize, fields: usize) -> bool
-    ensures { IsTrue result → members ≤ most_members fields }
+/// How many steps more so many fields pay, where so many were taken.
+pub(crate) fn left_of(spent: usize, fields: usize) -> usize {
+    let all = fields
+        .saturating_mul(FOR_EACH_FIELD)
+        .saturating_add(AT_FIRST);
+    all.saturating_sub(spent)
+}
+
+/// Whether so many fields pay for so many steps.
+fn is_paid(steps: usize, fields: usize) -> bool
+    ensures { IsTrue result → steps ≤ most_members fields }
 {
-    let more = members.saturating_sub(AT_FIRST);
+    let more = steps.saturating_sub(AT_FIRST);
     more <= fields.saturating_mul(FOR_EACH_FIELD)
 }
 
-/// What is spent with so many members more, if so many fields pay for all.
+/// What is spent with so many steps more, if so many fields pay for all.
 pub(crate) fn spent_with(spent: usize, more: usize, fields: usize) -> Option<usize>
     ensures { IfSome result (λ all. (all ≡ spent + more) × (all ≤ most_members fields)) }
 {

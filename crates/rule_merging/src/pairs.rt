@@ -1,26 +1,29 @@
-//! Pairs of sets and fragments that are looked at together: each pair once, whichever operations it is in, by what the two say.
+//! Pairs of sets that are looked at together: each pair once, whichever operations it is in, by what the two say.
 ghost use Rattle.std.specs.Prelude.{◌≡◌, ◌∷◌, [], OnOk};
-ghost use Rattle.rule_field_groups.specs.Below.{meant_sets};
-ghost use Rattle.rule_field_groups.specs.Own.{source_meant, meant_sources};
+ghost use Rattle.rule_field_sets.specs.Nodes.{AreSets};
+ghost use Rattle.rule_field_sets.specs.Read.{set_at};
+ghost use Rattle.rule_merging.specs.Members.{meant_sets};
 ghost use Rattle.rule_merging.specs.Remembered.{kept_of, beside_of};
-ghost use Rattle.rule_merging.specs.Examined.{of_sets, with_each};
+ghost use Rattle.rule_merging.specs.Examined.{with_each};
 ghost use Rattle.rule_merging.specs.Pairs.{Looks, LooksAtTwos, each_with};
 
 use crate::remembered::{Pair, Remembered};
-use rule_field_groups::{SelectedSet, SelectionSource};
+use rule_field_sets::FieldSets;
 use std::alloc::AllocError;
 
-impl<'doc> Remembered<'doc> {
-    /// Looks at two, unless they were looked at before.
+impl Remembered {
+    /// Looks at two sets, unless they were looked at before.
     fn look_at_pair(
         &mut self,
-        one: SelectionSource<'doc>,
-        other: SelectionSource<'doc>,
+        sets: &FieldSets<'_>,
+        one: usize,
+        other: usize,
     ) -> Result<(), AllocError>
-        ensures looks { OnOk result (Looks ((source_meant one.entry ∷ source_meant other.entry ∷ []) ∷ []) (kept_of self.old) (kept_of self.new)) }
-        ensures beside { beside_of self.new ≡ beside_of self.old }
+        requires { AreSets sets.now }
+        ensures looks { OnOk result (Looks ((set_at sets.now one ∷ set_at sets.now other ∷ []) ∷ []) (kept_of sets.now self.old) (kept_of sets.now self.new)) }
+        ensures beside { beside_of sets.now self.new ≡ beside_of sets.now self.old }
     {
-        let is_new = self.look(one, other)?;
+        let is_new = self.look(sets, one, other)?;
         if is_new {
             self.pairs.push(Pair { one, other })?;
         }
@@ -30,14 +33,16 @@ impl<'doc> Remembered<'doc> {
     /// Looks at each of these with the other, which comes after them.
     pub(crate) fn look_at_each(
         &mut self,
-        sources: &[SelectionSource<'doc>],
-        other: SelectionSource<'doc>,
+        sets: &FieldSets<'_>,
+        nodes: &[usize],
+        other: usize,
     ) -> Result<(), AllocError>
-        ensures looks { OnOk result (Looks (each_with (meant_sources sources.now) (source_meant other.entry)) (kept_of self.old) (kept_of self.new)) }
-        ensures beside { beside_of self.new ≡ beside_of self.old }
+        requires { AreSets sets.now }
+        ensures looks { OnOk result (Looks (each_with (meant_sets sets.now nodes.now) (set_at sets.now other)) (kept_of sets.now self.old) (kept_of sets.now self.new)) }
+        ensures beside { beside_of sets.now self.new ≡ beside_of sets.now self.old }
     {
-        for source in sources {
-            self.look_at_pair(*source, other)?;
+        for node in nodes {
+            self.look_at_pair(sets, *node, other)?;
         }
         Ok(())
     }
@@ -45,29 +50,35 @@ impl<'doc> Remembered<'doc> {
     /// Looks at one with each of these, which come after it.
     pub(crate) fn look_before_each(
         &mut self,
-        one: SelectionSource<'doc>,
-        sources: &[SelectionSource<'doc>],
+        sets: &FieldSets<'_>,
+        one: usize,
+        nodes: &[usize],
     ) -> Result<(), AllocError>
-        ensures looks { OnOk result (Looks (with_each (source_meant one.entry) (meant_sources sources.now)) (kept_of self.old) (kept_of self.new)) }
-        ensures beside { beside_of self.new ≡ beside_of self.old }
+        requires { AreSets sets.now }
+        ensures looks { OnOk result (Looks (with_each (set_at sets.now one) (meant_sets sets.now nodes.now)) (kept_of sets.now self.old) (kept_of sets.now self.new)) }
+        ensures beside { beside_of sets.now self.new ≡ beside_of sets.now self.old }
     {
-        for source in sources {
-            self.look_at_pair(one, *source)?;
+        for node in nodes {
+            self.look_at_pair(sets, one, *node)?;
         }
         Ok(())
     }
 
     /// Looks at each two of the sets, and at each with itself.
-    pub(crate) fn look_at_twos(&mut self, sets: &[SelectedSet<'doc>]) -> Result<(), AllocError>
-        ensures looks { OnOk result (LooksAtTwos (of_sets (meant_sets sets.now)) (kept_of self.old) (kept_of self.new)) }
-        ensures beside { beside_of self.new ≡ beside_of self.old }
+    pub(crate) fn look_at_twos(
+        &mut self,
+        sets: &FieldSets<'_>,
+        nodes: &[usize],
+    ) -> Result<(), AllocError>
+        requires { AreSets sets.now }
+        ensures looks { OnOk result (LooksAtTwos (meant_sets sets.now nodes.now) (kept_of sets.now self.old) (kept_of sets.now self.new)) }
+        ensures beside { beside_of sets.now self.new ≡ beside_of sets.now self.old }
     {
         self.begin_pairs();
         let mut seen = Vec::new(*self.pairs.allocator());
-        for set in sets {
-            let last = SelectionSource::Set(*set);
-            seen.push(last)?;
-            self.look_at_each(&seen, last)?;
+        for node in nodes {
+            seen.push(*node)?;
+            self.look_at_each(sets, &seen, *node)?;
         }
         Ok(())
     }

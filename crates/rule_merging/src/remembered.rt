@@ -1,38 +1,46 @@
 //! What was examined.
-ghost use Rattle.std.specs.Prelude.{◌≡◌, ◌∷◌, [], is_some, IfOk, OnErr};
-ghost use Rattle.rule_field_groups.specs.Below.{contents_of};
-ghost use Rattle.rule_field_groups.specs.Own.{source_meant};
-ghost use Rattle.rule_field_groups.specs.Under.{sets_in};
+ghost use Rattle.std.specs.Prelude.{◌≡◌, ◌∷◌, [], map, is_some, IsTrue, IfOk, OnErr};
+ghost use Rattle.rule_document_definitions.specs.ReadFields.{list_read};
+ghost use Rattle.rule_field_sets.specs.Nodes.{AreSets, HasMember};
+ghost use Rattle.rule_number_lists.specs.NumberLists.{lists_kept};
+ghost use Rattle.rule_field_sets.specs.Read.{set_at, set_content_at};
+ghost use Rattle.rule_field_sets.specs.declared.field_sets.FieldSets.{FieldSets};
+ghost use Rattle.rule_merging.specs.Members.{contents_of, meant_sets, read_sets, AreMembersOf};
+ghost use Rattle.rule_merging.specs.Under.{sets_in};
+ghost use Rattle.rule_merging.specs.Twos.{contents_of_two};
 ghost use Rattle.rule_merging.specs.Counted.{OnlyMeets, Pays, IsPaidIf, no_account};
-ghost use Rattle.rule_merging.specs.Remembered.{kept_of, account_of, beside_of, nothing_kept, plain_sources, Remembers, RemembersPaid, LooksAt};
+ghost use Rattle.rule_merging.specs.Remembered.{remembered, kept_of, account_of, beside_of, nothing_kept, Remembers, RemembersPaid, LooksAt, Expands, IsKnown};
 
-use crate::budget::spent_with;
-use rule_field_groups::{FieldSelection, SelectedSet, SelectionSource};
-use rule_number_lists::ListMemory;
+use crate::budget::{FOR_EACH_FIELD, left_of, spent_with};
+use crate::node_walk::{MergedList, Toll};
+use crate::nodes::number_of;
+use rule_field_sets::{FieldSets, Member};
+use rule_number_lists::{NumberLists, NumberPairs, NumberSet};
 use std::alloc::{AllocError, Global};
 
-/// Two sets or fragments that are looked at together: the fields of the one with those of the other.
+/// Two sets that are looked at together, by their nodes: the fields of the one with those of the other.
 #[derive(Clone, Copy)]
-pub(crate) struct Pair<'doc> {
-    pub(crate) one: SelectionSource<'doc>,
-    pub(crate) other: SelectionSource<'doc>,
+pub(crate) struct Pair {
+    pub(crate) one: usize,
+    pub(crate) other: usize,
 }
 
-/// The contents of the lists of fields that were examined, each once, and of the lists of sets that were looked at: fields that
-/// these select and that go together are in lists that were examined. A list is known by which contents it has, in whatever
-/// order; so is a pair, in which a fragment is known by its name: many pairs have one large fragment.
+/// The lists of fields that were examined, each once, and the lists of sets that were looked at: fields that these select and that go
+/// together are in lists that were examined. All are known by numbers, and a list by which it has, in whatever order; so is a pair.
 #[derive(Drop)]
-pub(crate) struct Remembered<'doc> {
-    lists: ListMemory<FieldSelection<'doc>>,
+pub(crate) struct Remembered {
+    lists: NumberLists,
+    /// The fields that were met in lists of sets.
+    met: NumberSet,
     /// The lists of sets that were looked at.
-    pub(crate) expanded: ListMemory<SelectedSet<'doc>>,
+    pub(crate) expanded: NumberLists,
     /// The pairs that were looked at, or are left.
-    looked: ListMemory<SelectionSource<'doc>>,
+    looked: NumberPairs,
     /// Of these the ones that came last, in turn.
-    pub(crate) pairs: Vec<Pair<'doc>>,
-    /// The lists of sets that are left for the next level.
-    pub(crate) next: Vec<Vec<SelectedSet<'doc>>>,
-    /// How many members of lists were examined.
+    pub(crate) pairs: Vec<Pair>,
+    /// The lists of sets that are left for the next level, by their nodes.
+    pub(crate) next: Vec<Vec<usize>>,
+    /// How many steps the walks over sets took that were paid.
     spent: usize,
     /// Whether a list was not paid.
     is_spent: bool,
@@ -40,16 +48,44 @@ pub(crate) struct Remembered<'doc> {
     pub(crate) comparisons: u128,
 }
 
-impl<'doc> Remembered<'doc> {
+/// The numbers of these fields.
+fn numbers_of(alloc: Global, list: &[Member<'_>]) -> Result<Vec<usize>, AllocError>
+    ensures { IfOk result (λ numbers. numbers.items ≡ map (λ m. m.number) list.now) }
+{
+    let mut numbers = Vec::with_capacity(alloc, list.len())?;
+    for field in list {
+        numbers.push(field.number)?;
+    }
+    Ok(numbers)
+}
+
+/// The numbers of the sets of these nodes.
+fn numbers_of_nodes(
+    alloc: Global,
+    sets: &FieldSets<'_>,
+    nodes: &[usize],
+) -> Result<Vec<usize>, AllocError>
+    requires { AreSets sets.now }
+    ensures { IfOk result (λ numbers. map (set_content_at sets.now) numbers.items ≡ read_sets (meant_sets sets.now nodes.now)) }
+{
+    let mut numbers = Vec::with_capacity(alloc, nodes.len())?;
+    for node in nodes {
+        numbers.push(number_of(sets, *node)?)?;
+    }
+    Ok(numbers)
+}
+
+impl Remembered {
     /// None.
-    pub(crate) fn new(alloc: Global) -> Remembered<'doc>
-        ensures kept { kept_of result ≡ nothing_kept }
-        ensures account { account_of result ≡ no_account }
+    pub(crate) fn new(alloc: Global) -> Remembered
+        ensures kept { (w : FieldSets) → kept_of w result ≡ nothing_kept }
+        ensures account { (w : FieldSets) → account_of w result ≡ no_account }
     {
         Remembered {
-            lists: ListMemory::new(alloc),
-            expanded: ListMemory::new(alloc),
-            looked: ListMemory::new(alloc),
+            lists: NumberLists::new(alloc),
+            met: NumberSet::new(alloc),
+            expanded: NumberLists::new(alloc),
+            looked: NumberPairs::new(alloc),
             pairs: Vec::new(alloc),
             next: Vec::new(alloc),
             spent: 0,
@@ -58,65 +94,123 @@ impl<'doc> Remembered<'doc> {
         }
     }
 
-    /// Remembers a list of fields. Whether it was not remembered before is given: one with the same contents.
-    pub(crate) fn remember(&mut self, list: &[FieldSelection<'doc>]) -> Result<bool, AllocError>
-        ensures remembers { IfOk result (λ is_new. Remembers (kept_of self.old) (contents_of list.now) is_new (kept_of self.new)) }
-        ensures refused { OnErr result (kept_of self.new ≡ kept_of self.old) }
-        ensures meets { OnlyMeets (contents_of list.now) (account_of self.old) (account_of self.new) }
-        ensures next { sets_in self.new.next ≡ sets_in self.old.next }
+    /// Whether all numbers that stand here are below these: those of fields, and those of sets.
+    pub(crate) fn is_known(&self, fields: usize, sets: usize) -> bool
+        ensures { IsTrue result → IsKnown fields sets self.now }
     {
-        self.lists.remember(list)
+        self.lists.bound() <= fields
+            && self.met.bound() <= fields
+            && self.expanded.bound() <= sets
+            && self.looked.bound() <= sets
     }
 
-    /// Notes that two are looked at together. Whether they were not noted before is given: two with the same contents.
+    /// Remembers two fields as a list: one, where both say the same. Whether it was not remembered before is given.
+    pub(crate) fn remember_two(
+        &mut self,
+        one: Member<'_>,
+        other: Member<'_>,
+    ) -> Result<bool, AllocError>
+        ensures remembers { IfOk result (λ is_new. (w : FieldSets) → AreSets w → HasMember w one.entry → HasMember w other.entry → Remembers (kept_of w self.old) (contents_of_two one.entry other.entry) is_new (kept_of w self.new)) }
+        ensures refused { OnErr result ((w : FieldSets) → kept_of w self.new ≡ kept_of w self.old) }
+        ensures account { (w : FieldSets) → account_of w self.new ≡ record (account_of w self.old) { lists = remembered w self.new } }
+        ensures next { (w : FieldSets) → sets_in w self.new.next ≡ sets_in w self.old.next }
+    {
+        self.lists.remember_two(one.number, other.number)
+    }
+
+    /// Notes that the sets of two nodes are looked at together. Whether they were not noted before is given: two with the same contents.
     pub(crate) fn look(
         &mut self,
-        one: SelectionSource<'doc>,
-        other: SelectionSource<'doc>,
+        sets: &FieldSets<'_>,
+        one: usize,
+        other: usize,
     ) -> Result<bool, AllocError>
-        ensures looks { IfOk result (λ is_new. LooksAt (kept_of self.old) (plain_sources (source_meant one.entry ∷ source_meant other.entry ∷ [])) is_new (kept_of self.new)) }
-        ensures beside { beside_of self.new ≡ beside_of self.old }
+        requires { AreSets sets.now }
+        ensures looks { IfOk result (λ is_new. LooksAt (kept_of sets.now self.old) (read_sets (set_at sets.now one ∷ set_at sets.now other ∷ [])) is_new (kept_of sets.now self.new)) }
+        ensures beside { beside_of sets.now self.new ≡ beside_of sets.now self.old }
     {
-        self.looked.remember(&[one, other])
+        self.looked
+            .remember(number_of(sets, one)?, number_of(sets, other)?)
     }
 
     /// No pair is left to look at.
     pub(crate) fn begin_pairs(&mut self)
-        ensures kept { kept_of self.new ≡ record (kept_of self.old) { pairs = [] } }
-        ensures beside { beside_of self.new ≡ beside_of self.old }
+        ensures kept { (w : FieldSets) → kept_of w self.new ≡ record (kept_of w self.old) { pairs = [] } }
+        ensures beside { (w : FieldSets) → beside_of w self.new ≡ beside_of w self.old }
     {
         self.pairs.clear();
     }
 
     /// Whether sets are looked at in pairs before they are expanded: they are two, and a list was not paid. There may be as many
     /// lists of two sets as sets times sets.
-    pub(crate) fn skips(&self, sets: &[SelectedSet<'doc>]) -> bool {
-        self.is_spent && sets.len() == 2
+    pub(crate) fn skips(&self, nodes: &[usize]) -> bool {
+        self.is_spent && nodes.len() == 2
     }
 
-    /// Remembers a list of fields, if it may be examined: what it costs is paid by fields that are new. Whether it was not
-    /// remembered before is given: one with the same contents; or nothing, where it is not paid.
+    /// What the walk over the next list of sets may cost.
+    pub(crate) fn toll(&self) -> Toll<'_> {
+        Toll {
+            met: &self.met,
+            paid: left_of(self.spent, self.met.len()),
+            each: FOR_EACH_FIELD,
+        }
+    }
+
+    /// Meets these fields.
+    fn meet(&mut self, list: &[Member<'_>]) -> Result<(), AllocError>
+        ensures meets { (w : FieldSets) → AreSets w → AreMembersOf w list.now → OnlyMeets (contents_of list.now) (account_of w self.old) (account_of w self.new) }
+        ensures same { self.new ≡ record self.old { met = self.new.met } }
+    {
+        for field in list {
+            self.met.insert(field.number)?;
+        }
+        Ok(())
+    }
+
+    /// Remembers the merged list of some sets, if it is whole and may be examined: what it costs is paid by fields that are new. Whether it
+    /// was not remembered before is given: one with the same contents; or nothing, where it is not paid.
     pub(crate) fn remember_paid(
         &mut self,
-        list: &[FieldSelection<'doc>],
+        alloc: Global,
+        list: &MergedList<'_>,
     ) -> Result<Option<bool>, AllocError>
-        ensures remembers { IfOk result (λ is_new. RemembersPaid (kept_of self.old) (contents_of list.now) is_new (kept_of self.new)) }
-        ensures refused { OnErr result (kept_of self.new ≡ kept_of self.old) }
-        ensures pays { Pays (contents_of list.now) (account_of self.old) (account_of self.new) }
-        ensures paid { IfOk result (λ is_new. IsPaidIf (is_some is_new) (contents_of list.now) (account_of self.old) (account_of self.new)) }
-        ensures next { sets_in self.new.next ≡ sets_in self.old.next }
+        ensures remembers { IfOk result (λ is_new. (w : FieldSets) → AreSets w → AreMembersOf w list.now.members.items → RemembersPaid (kept_of w self.old) (contents_of list.now.members.items) is_new (kept_of w self.new)) }
+        ensures whole { IfOk result (λ is_new. IsTrue (is_some is_new) → IsTrue list.now.is_whole) }
+        ensures refused { OnErr result ((w : FieldSets) → kept_of w self.new ≡ kept_of w self.old) }
+        ensures pays { (w : FieldSets) → AreSets w → AreMembersOf w list.now.members.items → Pays (contents_of list.now.members.items) (account_of w self.old) (account_of w self.new) }
+        ensures paid { IfOk result (λ is_new. (w : FieldSets) → IsPaidIf (is_some is_new) (contents_of list.now.members.items) (account_of w self.old) (account_of w self.new)) }
+        ensures next { (w : FieldSets) → sets_in w self.new.next ≡ sets_in w self.old.next }
     {
-        let numbers = self.lists.numbers(list)?;
-        match spent_with(self.spent, list.len(), self.lists.len()) {
+        self.meet(&list.members)?;
+        let steps = list.steps.max(list.members.len());
+        match spent_with(self.spent, steps, self.met.len()) {
+            Some(spent) => self.spent = spent,
             None => {
                 self.is_spent = true;
-                Ok(None)
-            }
-            Some(spent) => {
-                self.spent = spent;
-                let is_new = self.lists.remember_numbers(numbers)?;
-                Ok(Some(is_new))
+                return Ok(None);
             }
         }
+        if !list.is_whole {
+            self.is_spent = true;
+            return Ok(None);
+        }
+        let numbers = numbers_of(alloc, &list.members)?;
+        let is_new = self.lists.remember(numbers)?;
+        Ok(Some(is_new))
+    }
+
+    /// Notes that a list of sets is looked at. Whether it was not noted before is given: one with the same contents.
+    pub(crate) fn expand(
+        expanded: &mut NumberLists,
+        alloc: Global,
+        sets: &FieldSets<'_>,
+        nodes: &[usize],
+    ) -> Result<bool, AllocError>
+        requires { AreSets sets.now }
+        ensures expands { IfOk result (λ is_new. Expands (map (map (set_content_at sets.now)) (lists_kept expanded.old)) (read_sets (meant_sets sets.now nodes.now)) is_new (map (map (set_content_at sets.now)) (lists_kept expanded.new))) }
+        ensures refused { OnErr result (lists_kept expanded.new ≡ lists_kept expanded.old) }
+    {
+        let numbers = numbers_of_nodes(alloc, sets, nodes)?;
+        expanded.remember(numbers)
     }
 }

@@ -1,12 +1,12 @@
 use Rattle.std.proofs.Common.{◌≤◌, ◌-◌, ◌^◌, length}
-use Rattle.rule_field_groups.specs.Under.{sets_in}
+use Rattle.rule_merging.specs.Under.{sets_in}
 use Rattle.rule_merging.specs.Remembered.{kept_of}
-use Rattle.rule_merging.specs.Examined.{ExaminesFirst, GrowsHere}
+use Rattle.rule_merging.specs.Examined.{sets_of, ExaminesFirst, GrowsHere}
 use Rattle.rule_merging.proofs.examination.Examination.examine_pairs.Given as goal
 
 abbrev pub invariant-loop-done : goal.invariant-loop-done
 invariant-loop-done l = record {
-  examined : ExaminesFirst l.self l.done (kept_of l.fn.examined) (kept_of l.examined) l.fn.breaches l.breaches (sets_in l.fn.examined.next) (sets_in l.examined.next);
+  examined : ExaminesFirst l.self l.done (kept_of (sets_of l.self) l.fn.examined) (kept_of (sets_of l.self) l.examined) l.fn.breaches l.breaches (sets_in (sets_of l.self) l.fn.examined.next) (sets_in (sets_of l.self) l.examined.next);
   counted : GrowsHere l.self l.fn.examined l.examined;
   within : l.done ≤ length l.examined.pairs.items;
 }

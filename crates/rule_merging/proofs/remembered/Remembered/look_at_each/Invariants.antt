@@ -1,11 +1,12 @@
 use Rattle.std.proofs.Common.{◌≡◌, take}
-use Rattle.rule_field_groups.specs.Own.{source_meant, meant_sources}
+use Rattle.rule_field_sets.specs.Read.{set_at}
+use Rattle.rule_merging.specs.Members.{meant_sets}
 use Rattle.rule_merging.specs.Remembered.{kept_of, beside_of}
 use Rattle.rule_merging.specs.Pairs.{Looks, each_with}
 use Rattle.rule_merging.proofs.remembered.Remembered.look_at_each.Given as goal
 
-abbrev pub invariant-loop-source : goal.invariant-loop-source
-invariant-loop-source l = record {
-  looks : Looks (each_with (meant_sources (take l.source-index l.sources)) (source_meant l.other)) (kept_of l.fn.self) (kept_of l.self);
-  beside : beside_of l.self ≡ beside_of l.fn.self;
+abbrev pub invariant-loop-node : goal.invariant-loop-node
+invariant-loop-node l = record {
+  looks : Looks (each_with (meant_sets l.sets (take l.node-index l.nodes)) (set_at l.sets l.other)) (kept_of l.sets l.fn.self) (kept_of l.sets l.self);
+  beside : beside_of l.sets l.self ≡ beside_of l.sets l.fn.self;
 }

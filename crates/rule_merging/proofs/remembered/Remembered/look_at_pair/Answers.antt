@@ -1,20 +1,23 @@
 use Rattle.std.proofs.Common.{true, subst}
 use Rattle.rule_merging.specs.declared.remembered.Pair.{Pair}
-use Rattle.rule_merging.specs.Remembered.{kept_of, two_of, plain_sources, LooksAt}
+use Rattle.rule_merging.specs.Members.{read_sets}
+use Rattle.rule_merging.specs.Remembered.{kept_of, two_of, LooksAt}
 use Rattle.rule_merging.proofs.Looking.{looks_new, looks_known, pushed}
 use Rattle.rule_merging.proofs.remembered.Remembered.look_at_pair.Goals as goal
 
 pub returns-in_ok-push-clause-looks : goal.returns-in_ok-push-clause-looks
 returns-in_ok-push-clause-looks c =
+    let w = c.args.sets.now in
     let pair : Pair = record { one = c.args.one; other = c.args.other } in
-    let old = kept_of c.args.self.now in
-    let mid = kept_of c.look.new.self in
-    let is : LooksAt old (plain_sources (two_of pair)) true mid = subst (λ b. LooksAt old (plain_sources (two_of pair)) b mid) c.if-is_new.true c.in_ok-is_new.ensures.looks in
-    looks_new (two_of pair) old mid _ is (λ i. record mid { pairs = pushed c.look.new.self.pairs.items c.push.new.self.items pair c.in_ok-push.ensures.items i })
+    let old = kept_of w c.args.self.now in
+    let mid = kept_of w c.look.new.self in
+    let is : LooksAt old (read_sets (two_of w pair)) true mid = subst (λ b. LooksAt old (read_sets (two_of w pair)) b mid) c.if-is_new.true c.in_ok-is_new.ensures.looks in
+    looks_new (two_of w pair) old mid _ is (λ i. record mid { pairs = pushed w c.look.new.self.pairs.items c.push.new.self.items pair c.in_ok-push.ensures.items i })
 
 pub returns-else-is_new-clause-looks : goal.returns-else-is_new-clause-looks
 returns-else-is_new-clause-looks c =
+    let w = c.args.sets.now in
     let pair : Pair = record { one = c.args.one; other = c.args.other } in
-    let old = kept_of c.args.self.now in
-    let new = kept_of c.look.new.self in
-    looks_known (two_of pair) old new (subst (λ b. LooksAt old (plain_sources (two_of pair)) b new) c.if-is_new.false c.in_ok-is_new.ensures.looks)
+    let old = kept_of w c.args.self.now in
+    let new = kept_of w c.look.new.self in
+    looks_known (two_of w pair) old new (subst (λ b. LooksAt old (read_sets (two_of w pair)) b new) c.if-is_new.false c.in_ok-is_new.ensures.looks)

@@ -1,0 +1,8 @@
+pub mod Kinds
+pub mod Tables
+pub mod Numbered
+pub mod Found
+pub mod Opened
+pub mod Nodes
+pub mod Read
+pub mod Added

@@ -1,0 +1,22 @@
+use Rattle.std.proofs.Common.{◌≡◌, ◌<◌, ◌++◌, ℕ, List, length, get_or, sym, subst, append-nil, arith}
+use Rattle.std.proofs.lemmas.List.{take_all, get_or_default}
+use Rattle.rule_merging.specs.Grouped.{lists_of}
+use Rattle.rule_merging.specs.Under.{each_with}
+use Rattle.rule_merging.proofs.Under.{with_more}
+use Rattle.rule_merging.proofs.below.push_each_with.Goals as goal
+
+pub loop-node-init : goal.loop-node-init
+loop-node-init c = sym (append-nil (lists_of c.args.lists.now))
+
+pub loop-node-preserved : goal.loop-node-preserved
+loop-node-preserved c =
+    let i = c.loop-node.node-index in
+    let h : i < length c.args.nodes.now = omega arith in
+    let x = get_or c.args.nodes.now i 0 in
+    let is : x ≡ get_or c.args.nodes.now i x = get_or_default c.args.nodes.now i 0 x h in
+    with_more c.args.last c.args.nodes.now i x h is (lists_of c.args.lists.now) (lists_of c.loop-node.lists) (lists_of c.push_two.new.lists) c.loop-node.invariant c.in_ok-push_two.ensures
+
+pub returns : goal.returns
+returns c =
+    subst (λ (l : List ℕ). lists_of c.loop-node.lists ≡ lists_of c.args.lists.now ++ each_with l c.args.last)
+    (take_all c.loop-node.node-index c.args.nodes.now c.loop-node-test.false) c.loop-node.invariant

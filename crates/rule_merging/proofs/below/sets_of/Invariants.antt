@@ -1,0 +1,11 @@
+use Rattle.std.proofs.Common.{take}
+use Rattle.rule_merging.specs.Members.{fields_of, meant_sets}
+use Rattle.rule_merging.specs.Below.{AreSetsOf}
+use Rattle.rule_merging.specs.Under.{AreNumbered}
+use Rattle.rule_merging.proofs.below.sets_of.Given as goal
+
+abbrev pub invariant-loop-field : goal.invariant-loop-field
+invariant-loop-field l = record {
+  sets : AreSetsOf (fields_of (take l.field-index l.fields)) (meant_sets l.sets l.found.nodes.items);
+  numbered : AreNumbered l.sets l.found;
+}

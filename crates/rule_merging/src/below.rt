@@ -1,0 +1,242 @@
+//! The sets below a group of fields.
+ghost use Rattle.std.specs.Prelude.{◌≡◌, ◌++◌, ◌∷◌, [], map, Contains, IfOk, OnOk};
+ghost use Rattle.rule_field_sets.specs.Nodes.{AreSets, HasMember};
+ghost use Rattle.rule_merging.specs.Members.{field_of, fields_of, meant_sets, AreMembersOf};
+ghost use Rattle.rule_merging.specs.Below.{AreSetsOf, NotesSet};
+ghost use Rattle.rule_merging.specs.Grouped.{lists_of};
+ghost use Rattle.rule_merging.specs.Under.{sets_in, each_with, AreFurther, AddsFurther, JoinsSets, JoinsTwos, PutsTogether, JoinsEach, AreListsBelow, AreNumbered, AddsNode, IsGroupOf};
+ghost use Rattle.rule_merging.specs.KeyGroups.{parts_of};
+
+use crate::groups::{KeyGroup, OwnFields};
+use crate::nodes::number_of;
+use indexmap::IndexSet;
+use rule_field_sets::{FieldSets, Member};
+use std::alloc::{AllocError, Global};
+
+/// Lists of shared sets and others are made whole if they are for so few types, or at most so many times as long as the others: so
+/// the lists below a group are in all not much longer than the group is.
+const FEW: usize = 4;
+
+/// Sets of fields, each number once, by their nodes.
+#[derive(Drop)]
+pub(crate) struct SetsBelow {
+    numbers: IndexSet<usize>,
+    nodes: Vec<usize>,
+}
+
+impl SetsBelow {
+    /// None.
+    fn new(alloc: Global) -> SetsBelow
+        ensures numbers { result.numbers.keys ≡ [] }
+        ensures nodes { result.nodes.items ≡ [] }
+    {
+        SetsBelow {
+            numbers: IndexSet::new(alloc),
+            nodes: Vec::new(alloc),
+        }
+    }
+
+    /// Adds the set of a node, unless its number is there.
+    fn add(&mut self, number: usize, node: usize) -> Result<(), AllocError>
+        ensures { OnOk result (AddsNode number node self.old self.new) }
+    {
+        if !self.numbers.insert(number)? {
+            return Ok(());
+        }
+        self.nodes.push(node)?;
+        Ok(())
+    }
+}
+
+/// Adds the set of a field, unless it has no selections, or one with the same contents is there.
+fn note_set(
+    sets: &FieldSets<'_>,
+    field: Member<'_>,
+    found: &mut SetsBelow,
+) -> Result<(), AllocError>
+    requires sets { AreSets sets.now }
+    requires member { HasMember sets.now field }
+    requires numbered { AreNumbered sets.now found.old }
+    ensures notes { OnOk result (NotesSet (field_of field.entry) (meant_sets sets.now found.old.nodes.items) (meant_sets sets.now found.new.nodes.items)) }
+    ensures numbered { OnOk result (AreNumbered sets.now found.new) }
+{
+    match field.below {
+        None => Ok(()),
+        Some(node) => found.add(number_of(sets, node)?, node),
+    }
+}
+
+/// The sets of these fields, each content once. A set without selections is left out.
+fn sets_of(
+    alloc: Global,
+    sets: &FieldSets<'_>,
+    fields: &[Member<'_>],
+) -> Result<SetsBelow, AllocError>
+    requires sets { AreSets sets.now }
+    requires members { AreMembersOf sets.now fields.now }
+    ensures sets { IfOk result (λ found. AreSetsOf (fields_of fields.now) (meant_sets sets.now found.nodes.items)) }
+    ensures numbered { IfOk result (λ found. AreNumbered sets.now found) }
+{
+    let mut found = SetsBelow::new(alloc);
+    for field in fields {
+        note_set(sets, *field, &mut found)?;
+    }
+    Ok(found)
+}
+
+/// Adds the set of a field, unless it has no selections, or one with the same contents is there or among the others.
+fn note_further(
+    sets: &FieldSets<'_>,
+    field: Member<'_>,
+    others: &SetsBelow,
+    found: &mut SetsBelow,
+) -> Result<(), AllocError>
+    requires sets { AreSets sets.now }
+    requires member { HasMember sets.now field }
+    requires others { AreNumbered sets.now others.now }
+    requires numbered { AreNumbered sets.now found.old }
+    ensures notes { OnOk result (AddsFurther (field_of field.entry) (meant_sets sets.now others.now.nodes.items) (meant_sets sets.now found.old.nodes.items) (meant_sets sets.now found.new.nodes.items)) }
+    ensures numbered { OnOk result (AreNumbered sets.now found.new) }
+{
+    let Some(node) = field.below else {
+        return Ok(());
+    };
+    let number = number_of(sets, node)?;
+    if others.numbers.contains(&number) {
+        return Ok(());
+    }
+    found.add(number, node)
+}
+
+/// The nodes of the sets of these fields that the others do not have, each content once.
+fn further_sets(
+    alloc: Global,
+    sets: &FieldSets<'_>,
+    fields: &[Member<'_>],
+    others: &SetsBelow,
+) -> Result<Vec<usize>, AllocError>
+    requires sets { AreSets sets.now }
+    requires members { AreMembersOf sets.now fields.now }
+    requires others { AreNumbered sets.now others.now }
+    ensures { IfOk result (λ nodes. AreFurther (fields_of fields.now) (meant_sets sets.now others.now.nodes.items) (meant_sets sets.now nodes.items)) }
+{
+    let mut found = SetsBelow::new(alloc);
+    for field in fields {
+        note_further(sets, *field, others, &mut found)?;
+    }
+    Ok(found.nodes)
+}
+
+/// Adds a list of the first nodes and then the further ones, unless there are no further ones.
+fn push_joined(
+    first: &[usize],
+    further: &[usize],
+    lists: &mut Vec<Vec<usize>>,
+) -> Result<(), AllocError>
+    ensures { OnOk result (JoinsSets first.now further.now (lists_of lists.old) (lists_of lists.new)) }
+{
+    if further.is_empty() {
+        return Ok(());
+    }
+    let mut list = Vec::from_slice(*lists.allocator(), first)?;
+    list.extend_from_slice(further)?;
+    lists.push(list)?;
+    Ok(())
+}
+
+/// Adds a list of two nodes.
+fn push_two(one: usize, other: usize, lists: &mut Vec<Vec<usize>>) -> Result<(), AllocError>
+    ensures { OnOk result (lists_of lists.new ≡ lists_of lists.old ++ (one ∷ other ∷ []) ∷ []) }
+{
+    let two = Vec::from_slice(*lists.allocator(), &[one, other])?;
+    lists.push(two)?;
+    Ok(())
+}
+
+/// Adds a list of two for each of the nodes: it and the last.
+fn push_each_with(
+    nodes: &[usize],
+    last: usize,
+    lists: &mut Vec<Vec<usize>>,
+) -> Result<(), AllocError>
+    ensures { OnOk result (lists_of lists.new ≡ lists_of lists.old ++ each_with nodes.now last) }
+{
+    for node in nodes {
+        push_two(*node, last, lists)?;
+    }
+    Ok(())
+}
+
+/// Adds a list of the further nodes, unless there are none, and lists of two: each of the first nodes with each of these.
+fn push_apart(
+    first: &[usize],
+    further: &[usize],
+    lists: &mut Vec<Vec<usize>>,
+) -> Result<(), AllocError>
+    ensures { OnOk result (JoinsTwos first.now further.now (lists_of lists.old) (lists_of lists.new)) }
+{
+    push_joined(&[], further, lists)?;
+    for node in further {
+        push_each_with(first, *node, lists)?;
+    }
+    Ok(())
+}
+
+/// Whether the first sets stand with the further ones in one list, where there are lists for so many types.
+fn is_short(types: usize, first: usize, further: usize) -> bool {
+    types <= FEW || first / FEW <= further
+}
+
+/// Adds lists of the first nodes and the further ones, for one of so many types: one of them has any two, if one of these is a further
+/// one.
+fn push_together(
+    types: usize,
+    first: &[usize],
+    further: &[usize],
+    lists: &mut Vec<Vec<usize>>,
+) -> Result<(), AllocError>
+    ensures { OnOk result (PutsTogether first.now further.now (lists_of lists.old) (lists_of lists.new)) }
+{
+    if is_short(types, first.len(), further.len()) {
+        return push_joined(first, further, lists);
+    }
+    push_apart(first, further, lists)
+}
+
+/// Adds lists for each object type, of the shared sets and the further ones of its fields. A type without further ones has none.
+fn push_own_lists(
+    sets: &FieldSets<'_>,
+    owns: &[OwnFields<'_>],
+    shared: &SetsBelow,
+    lists: &mut Vec<Vec<usize>>,
+) -> Result<(), AllocError>
+    requires sets { AreSets sets.now }
+    requires members { (own : _) → Contains (map (λ o. o.fields.items) owns.now) own → AreMembersOf sets.now own }
+    requires shared { AreNumbered sets.now shared.now }
+    ensures { OnOk result (JoinsEach (meant_sets sets.now shared.now.nodes.items) (map (λ o. fields_of o.fields.items) owns.now) (sets_in sets.now lists.old) (sets_in sets.now lists.new)) }
+{
+    let alloc = *lists.allocator();
+    for own in owns {
+        let nodes = further_sets(alloc, sets, &own.fields, shared)?;
+        push_together(owns.len(), &shared.nodes, &nodes, lists)?;
+    }
+    Ok(())
+}
+
+/// The lists of nodes below the fields of one key: those of the shared sets, and for each object type these and its own, in one list or
+/// in lists of two. For any two fields that go together, one of the lists has the sets of both.
+pub(crate) fn lists_below(
+    alloc: Global,
+    sets: &FieldSets<'_>,
+    group: &KeyGroup<'_>,
+) -> Result<Vec<Vec<usize>>, AllocError>
+    requires sets { AreSets sets.now }
+    requires members { IsGroupOf sets.now group.now }
+    ensures { IfOk result (λ lists. AreListsBelow (map fields_of (parts_of group.now)) (sets_in sets.now lists)) }
+{
+    let shared = sets_of(alloc, sets, &group.shared)?;
+    let mut lists = Vec::new(alloc);
+    push_joined(&[], &shared.nodes, &mut lists)?;
+    push_own_lists(sets, &group.own, &shared, &mut lists)?;
+    Ok(lists)
+}

@@ -1,0 +1,276 @@
+//! Groups of the fields of a list.
+ghost use Rattle.std.specs.Prelude.{◌≡◌, ◌≤◌, ◌+◌, ℕ, ◌++◌, ◌∷◌, [], List, map, filter, flat_map, not, length, if◌then◌else◌, IfOk, OnOk};
+ghost use Rattle.std.specs.List.{sum};
+ghost use Rattle.std.specs.Str.{bytes_eq};
+ghost use Rattle.indexmap.specs.IndexMap.{get, IsUnique};
+ghost use Rattle.schema_components.specs.Names.{same_text};
+ghost use Rattle.schema_types.specs.TypeView.{name_text};
+ghost use Rattle.rule_document_ground.specs.in_schema.SchemaOf.{schema_tree};
+ghost use Rattle.rule_definitions.specs.Judged.{judged};
+ghost use Rattle.rule_document_definitions.specs.Groups.{AreGroups};
+ghost use Rattle.rule_merging.specs.Members.{fields_of};
+ghost use Rattle.rule_merging.specs.Compared.{compared};
+ghost use Rattle.rule_merging.specs.Passes.{Together};
+ghost use Rattle.rule_merging.specs.Grouped.{items_under, count_in, has, lists_in, lists_of, AreFiled, ArePartsOf};
+ghost use Rattle.rule_merging.specs.KeyGroups.{filed_name, is_shared, own_lists, parts_of, parts_in, lists_in_group, compared_in, IsByParents, ArePartsFor};
+
+use crate::kinds::is_abstract;
+use crate::pass::Pass;
+use graphql_names::Name;
+use indexmap::IndexMap;
+use rule_field_sets::{Member, Schema};
+use std::alloc::{AllocError, Global};
+
+/// Adds a field after those under the name.
+fn push_under<'doc>(
+    alloc: Global,
+    index: &mut IndexMap<Name, Vec<Member<'doc>>>,
+    name: &Name,
+    field: Member<'doc>,
+) -> Result<(), AllocError>
+    ensures under { OnOk result ((n : List ℕ) → items_under n index.new ≡ items_under n index.old ++ (if bytes_eq n name.now.text then field.entry ∷ [] else [])) }
+    ensures counted { OnOk result (count_in index.new ≡ count_in index.old + 1) }
+{
+    if let Some(fields) = index.get_mut(name) {
+        fields.push(field)?;
+        return Ok(());
+    }
+    insert_under(alloc, index, name, field)
+}
+
+/// Adds a field under a name that nothing stands under.
+fn insert_under<'doc>(
+    alloc: Global,
+    index: &mut IndexMap<Name, Vec<Member<'doc>>>,
+    name: &Name,
+    field: Member<'doc>,
+) -> Result<(), AllocError>
+    requires { get (same_text name_text) index.old name.now ≡ None }
+    ensures under { OnOk result ((n : List ℕ) → items_under n index.new ≡ items_under n index.old ++ (if bytes_eq n name.now.text then field.entry ∷ [] else [])) }
+    ensures counted { OnOk result (count_in index.new ≡ count_in index.old + 1) }
+{
+    let mut fields = Vec::new(alloc);
+    fields.push(field)?;
+    let name = name.clone()?;
+    index.insert(name, fields)?;
+    Ok(())
+}
+
+/// What the fields of a list are grouped by.
+#[derive(Clone, Copy)]
+enum Filing {
+    /// The response key.
+    Key,
+    /// The type that they are selected on.
+    Parent,
+}
+
+/// The name that a field is grouped by.
+fn filed_name<'doc>(filing: Filing, field: Member<'doc>) -> &'doc Name
+    ensures { result.now.text ≡ filed_name filing field.entry }
+{
+    match filing {
+        Filing::Key => field.selection.response_key(),
+        Filing::Parent => field.selection.parent_type,
+    }
+}
+
+/// The fields of the list under the names that they are grouped by.
+fn index_of<'doc>(
+    alloc: Global,
+    filing: Filing,
+    list: &[Member<'doc>],
+) -> Result<IndexMap<Name, Vec<Member<'doc>>>, AllocError>
+    ensures under { IfOk result (λ m. (n : List ℕ) → items_under n m ≡ filter (has (filed_name filing) n) list.now) }
+    ensures counted { IfOk result (λ m. count_in m ≡ length list.now) }
+{
+    let mut index = IndexMap::new(alloc);
+    for field in list {
+        push_under(alloc, &mut index, filed_name(filing, *field), *field)?;
+    }
+    Ok(index)
+}
+
+/// What an index has under its names, name by name.
+fn groups_in<'doc>(
+    alloc: Global,
+    index: IndexMap<Name, Vec<Member<'doc>>>,
+) -> Result<Vec<Vec<Member<'doc>>>, AllocError>
+    ensures all { IfOk result (λ groups. lists_of groups ≡ lists_in index.entry) }
+    ensures unique { IfOk result (λ groups. IsUnique (same_text name_text) index.entry) }
+{
+    let mut groups = Vec::with_capacity(alloc, index.len())?;
+    for group in index.into_values() {
+        groups.push(group)?;
+    }
+    Ok(groups)
+}
+
+/// The fields of the list that have one name, for each name, in the order of the list.
+fn filed<'doc>(
+    alloc: Global,
+    filing: Filing,
+    list: &[Member<'doc>],
+) -> Result<Vec<Vec<Member<'doc>>>, AllocError>
+    ensures filed { IfOk result (λ groups. AreFiled (filed_name filing) list.now (lists_of groups)) }
+    ensures counted { IfOk result (λ groups. sum (map length (lists_of groups)) ≡ length list.now) }
+{
+    let index = index_of(alloc, filing, list)?;
+    groups_in(alloc, index)
+}
+
+/// The fields of a list under one response key ("fieldsForName"): those on abstract types, which are shared by all objects, and
+/// those on each object type. One object may have the shared ones and those of one type.
+#[derive(Drop)]
+pub(crate) struct KeyGroup<'doc> {
+    pub(crate) shared: Vec<Member<'doc>>,
+    pub(crate) own: Vec<OwnFields<'doc>>,
+}
+
+/// The fields on one object type.
+#[derive(Drop)]
+pub(crate) struct OwnFields<'doc> {
+    pub(crate) fields: Vec<Member<'doc>>,
+    /// How many of them are before the first shared one, in the order of the list.
+    pub(crate) early: usize,
+}
+
+/// A group in which all fields are shared: shapes are compared whatever the types that fields are selected on.
+fn all_shared<'doc>(alloc: Global, shared: Vec<Member<'doc>>) -> KeyGroup<'doc>
+    ensures shared { result.shared.items ≡ shared.entry.items }
+    ensures own { own_lists result ≡ [] }
+{
+    KeyGroup {
+        shared,
+        own: Vec::new(alloc),
+    }
+}
+
+/// The fields of the list on abstract types.
+fn abstract_fields<'doc>(
+    alloc: Global,
+    schema: &Schema,
+    list: &[Member<'doc>],
+) -> Result<Vec<Member<'doc>>, AllocError>
+    ensures { IfOk result (λ v. v.items ≡ filter (is_shared (judged (schema_tree schema.now))) list.now) }
+{
+    let mut found = Vec::new(alloc);
+    for field in list {
+        if is_abstract(schema, field.selection.parent_type) {
+            found.push(*field)?;
+        }
+    }
+    Ok(found)
+}
+
+/// The fields of the list on object types.
+fn object_fields<'doc>(
+    alloc: Global,
+    schema: &Schema,
+    list: &[Member<'doc>],
+) -> Result<Vec<Member<'doc>>, AllocError>
+    ensures { IfOk result (λ v. v.items ≡ filter (λ x. not (is_shared (judged (schema_tree schema.now)) x)) list.now) }
+{
+    let mut found = Vec::new(alloc);
+    for field in list {
+        if !is_abstract(schema, field.selection.parent_type) {
+            found.push(*field)?;
+        }
+    }
+    Ok(found)
+}
+
+/// How many of the fields on each object type are before the first one on an abstract type, in the order of these types.
+fn early_counts(
+    alloc: Global,
+    schema: &Schema,
+    list: &[Member<'_>],
+) -> Result<Vec<usize>, AllocError> {
+    let mut leading = Vec::new(alloc);
+    for field in list {
+        if is_abstract(schema, field.selection.parent_type) {
+            break;
+        }
+        leading.push(*field)?;
+    }
+    let mut counts = Vec::new(alloc);
+    for fields in &filed(alloc, Filing::Parent, &leading)? {
+        counts.push(fields.len())?;
+    }
+    Ok(counts)
+}
+
+/// The lists, each with its count of `early`, or 0 where that is shorter.
+fn own_fields<'doc>(
+    alloc: Global,
+    lists: Vec<Vec<Member<'doc>>>,
+    early: &[usize],
+) -> Result<Vec<OwnFields<'doc>>, AllocError>
+    ensures { IfOk result (λ own. map (λ o. o.fields.items) own.items ≡ lists_of lists.entry) }
+{
+    let mut own = Vec::with_capacity(alloc, lists.len())?;
+    for fields in lists {
+        let early = match early.get(own.len()) {
+            Some(count) => *count,
+            None => 0,
+        };
+        own.push(OwnFields { fields, early })?;
+    }
+    Ok(own)
+}
+
+/// The fields of one key by their parents ("the parent types are equal or either is not an Object Type").
+fn by_parents<'doc>(
+    alloc: Global,
+    schema: &Schema,
+    list: &[Member<'doc>],
+) -> Result<KeyGroup<'doc>, AllocError>
+    ensures parents { IfOk result (λ group. IsByParents (judged (schema_tree schema.now)) list.now group) }
+    ensures once { IfOk result (λ group. sum (map length (lists_in_group group)) ≡ length list.now) }
+{
+    let shared = abstract_fields(alloc, schema, list)?;
+    let objects = object_fields(alloc, schema, list)?;
+    let filed = filed(alloc, Filing::Parent, &objects)?;
+    let early = early_counts(alloc, schema, list)?;
+    let own = own_fields(alloc, filed, &early)?;
+    Ok(KeyGroup { shared, own })
+}
+
+/// The fields of one key, as a pass compares them.
+fn key_group<'doc>(
+    alloc: Global,
+    pass: Pass,
+    schema: &Schema,
+    list: Vec<Member<'doc>>,
+) -> Result<KeyGroup<'doc>, AllocError>
+    ensures parts { IfOk result (λ group. ArePartsFor pass (judged (schema_tree schema.now)) list.entry.items (parts_of group)) }
+    ensures counted { IfOk result (λ group. compared_in pass group ≤ compared pass list.entry.items) }
+    ensures ordered { IfOk result (λ group. ArePartsOf list.entry.items (lists_in_group group)) }
+    ensures once { IfOk result (λ group. sum (map length (lists_in_group group)) ≡ length list.entry.items) }
+{
+    match pass {
+        Pass::Shapes => Ok(all_shared(alloc, list)),
+        Pass::Selections => by_parents(alloc, schema, &list),
+    }
+}
+
+/// The fields of the list by response keys, as a pass compares them. Each field is in one part, once, and each part is in the
+/// order of the list.
+pub(crate) fn groups_of<'doc>(
+    alloc: Global,
+    pass: Pass,
+    schema: &Schema,
+    list: &[Member<'doc>],
+) -> Result<Vec<KeyGroup<'doc>>, AllocError>
+    ensures groups { IfOk result (λ groups. AreGroups (Together pass (judged (schema_tree schema.now))) (fields_of list.now) (map fields_of (parts_in groups.items))) }
+    ensures counted { IfOk result (λ groups. sum (map (compared_in pass) groups.items) ≤ compared pass list.now) }
+    ensures ordered { IfOk result (λ groups. ArePartsOf list.now (flat_map lists_in_group groups.items)) }
+    ensures once { IfOk result (λ groups. sum (map length (flat_map lists_in_group groups.items)) ≡ length list.now) }
+{
+    let mut groups = Vec::new(alloc);
+    let keyed = filed(alloc, Filing::Key, list)?;
+    for fields in keyed {
+        groups.push(key_group(alloc, pass, schema, fields)?)?;
+    }
+    Ok(groups)
+}
