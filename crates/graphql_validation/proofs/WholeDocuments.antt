@@ -25,7 +25,7 @@ use Rattle.rule_fragments.specs.Used.{AreUnderOwnNames, IsUsed}
 use Rattle.rule_selections.proofs.Typing.{document_reaches_typed}
 use Rattle.rule_subscriptions.specs.Nested.{NestsTooDeep}
 use Rattle.rule_subscriptions.specs.Told.{AreAlike}
-use Rattle.rule_fragments.specs.in_typing.Meanings.{meanings}
+use Rattle.rule_selections.specs.in_typing.Meanings.{meanings}
 use Rattle.rule_merging.specs.Merged.{MergingFailsAt}
 use Rattle.graphql_validation.specs.Operations.{AreReachesTyped, TellsData, AllUnder, OperationFails, all_told}
 use Rattle.rule_subscriptions.specs.Documents.{TellsBreaches}

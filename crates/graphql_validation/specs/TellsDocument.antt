@@ -5,8 +5,8 @@ use Rattle.schema_types.specs.SchemaTree.{SchemaTree}
 use Rattle.schema_types.specs.Plain.{plain}
 use Rattle.document_meaning.specs.MeantTree.{MeantOperation, MeantFragment, MeantDocument}
 use Rattle.document_meaning.specs.Unplaced.{unplaced_document}
-use Rattle.rule_fragments.specs.in_typing.Meanings.{meanings}
-use Rattle.rule_fragments.specs.in_typing.TypedByPlace.{IsTypedDocument}
+use Rattle.rule_selections.specs.in_typing.Meanings.{meanings}
+use Rattle.rule_selections.specs.in_typing.TypedByPlace.{IsTypedDocument}
 use Rattle.rule_document_definitions.specs.DocumentFaults.{Broken, OfData, OfDocument, OfLimit}
 use Rattle.rule_document_definitions.specs.DocumentRules.{DeferredBreaks}
 use Rattle.rule_document_definitions.specs.Fragments.{ReachesItself, UnusedFragmentAt}

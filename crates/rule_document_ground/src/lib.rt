@@ -31,4 +31,4 @@ pub use noted_names::{has_name, note_name};
 pub use reaching::reach;
 
 // Of the crates beneath, for those above.
-pub use document_typing::{BuilderRefusal, ExecutableDocumentBuilder, Schema};
+pub use graphql_schema::Schema;

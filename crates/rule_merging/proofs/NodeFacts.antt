@@ -10,7 +10,7 @@ use Rattle.graphql_names.specs.Placed.{Place, Placed, node_tree}
 use Rattle.graphql_names.specs.declared.node.Node.{Node}
 use Rattle.schema_types.specs.TypeView.{name_text}
 use Rattle.document_meaning.specs.MeantTree.{MeantSet, MeantFragment, MeantDocument, meant_of_set}
-use Rattle.rule_document_ground.specs.in_typing.DocumentView.{meant_by_fragment}
+use Rattle.rule_document_ground.specs.in_meaning.DocumentView.{meant_by_fragment}
 use Rattle.document_typed_operations.specs.TypedDocument.{TypedFragment, typed_fragment_tree}
 use Rattle.document_typed_operations.specs.declared.operation.Fragment.{Fragment}
 use Rattle.document_walks.specs.Reached.{NamedSet, Fragments, fragment_named}

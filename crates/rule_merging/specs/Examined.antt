@@ -6,7 +6,7 @@ use Rattle.fault_document_data.specs.declared.build_error.BuildError.{BuildError
 use Rattle.rule_document_ground.specs.in_schema.SchemaOf.{schema_tree}
 use Rattle.document_meaning.specs.MeantTree.{MeantSet, MeantOperation, MeantDocument}
 use Rattle.rule_definitions.specs.in_schema_types.Addresses.{under}
-use Rattle.rule_document_ground.specs.in_typing.DocumentView.{document_meant}
+use Rattle.rule_document_ground.specs.in_meaning.DocumentView.{document_meant}
 use Rattle.rule_definitions.specs.Judged.{Judged, judged}
 use Rattle.rule_document_definitions.specs.DocumentFaults.{Broken}
 use Rattle.rule_document_definitions.specs.Selected.{StandingField}

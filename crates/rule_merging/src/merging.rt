@@ -5,7 +5,7 @@ ghost use Rattle.graphql_faults.specs.DetailsView.{diagnostics_of, BeginsAs};
 ghost use Rattle.rule_document_ground.specs.Broken.{brokens_of};
 ghost use Rattle.rule_definitions.specs.Judged.{judged};
 ghost use Rattle.rule_document_ground.specs.in_schema.SchemaOf.{schema_tree};
-ghost use Rattle.rule_document_ground.specs.in_typing.DocumentView.{document_meant, operation_meant};
+ghost use Rattle.rule_document_ground.specs.in_meaning.DocumentView.{document_meant, operation_meant};
 ghost use Rattle.rule_merging.specs.Merged.{AreSettledIf, limit_told, conflicts_told};
 ghost use Rattle.rule_merging.specs.OfProgram.{AddsDetails};
 

@@ -4,7 +4,7 @@ ghost use Rattle.rule_document_ground.specs.in_schema.SchemaOf.{schema_tree};
 ghost use Rattle.rule_definitions.specs.Judged.{judged};
 ghost use Rattle.graphql_names.specs.Placed.{Place};
 ghost use Rattle.document_meaning.specs.MeantTree.{MeantOperation, MeantDocument, meant_of_set};
-ghost use Rattle.rule_document_ground.specs.in_typing.DocumentView.{document_meant, operation_meant};
+ghost use Rattle.rule_document_ground.specs.in_meaning.DocumentView.{document_meant, operation_meant};
 ghost use Rattle.rule_definitions.specs.Judged.{Judged};
 ghost use Rattle.document_typed_selections.specs.TypedTree.{typed_set_tree};
 ghost use Rattle.rule_field_sets.specs.Nodes.{AreSets, HasAllStarts};

@@ -1,6 +1,6 @@
 use Rattle.std.proofs.Common.{map}
 use Rattle.std.proofs.lemmas.Result.{on_ok_weaker}
-use Rattle.rule_document_ground.specs.in_typing.DocumentView.{operation_meant}
+use Rattle.rule_document_ground.specs.in_meaning.DocumentView.{operation_meant}
 use Rattle.rule_document_definitions.specs.DocumentFaults.{OfDocument}
 use Rattle.graphql_faults.specs.DetailsTree.{of_document}
 use Rattle.graphql_faults.specs.DetailsView.{diagnostics_of}

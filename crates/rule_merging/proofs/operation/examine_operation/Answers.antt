@@ -1,5 +1,5 @@
 use Rattle.rule_document_ground.specs.in_schema.SchemaOf.{schema_tree}
-use Rattle.rule_document_ground.specs.in_typing.DocumentView.{document_meant, operation_meant}
+use Rattle.rule_document_ground.specs.in_meaning.DocumentView.{document_meant, operation_meant}
 use Rattle.rule_definitions.specs.Judged.{judged}
 use Rattle.rule_document_ground.specs.Broken.{brokens_of}
 use Rattle.rule_field_sets.specs.Read.{set_at}

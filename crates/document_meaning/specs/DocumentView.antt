@@ -7,7 +7,7 @@ use Rattle.document_typed_selections.specs.TypedTree.{set_type}
 use Rattle.document_typed_operations.specs.TypedDocument.{TypedOperation, TypedFragment, TypedDocumentTree, typed_operation_tree, typed_document_tree}
 use Rattle.document_typed_operations.specs.declared.operation.Operation.{Operation}
 use Rattle.document_typed_operations.specs.declared.document.ExecutableDocument.{ExecutableDocument}
-use Rattle.document_typing.specs.MeantTree.{MeantOperation, MeantFragment, MeantDocument, meant_of_set}
+use Rattle.document_meaning.specs.MeantTree.{MeantOperation, MeantFragment, MeantDocument, meant_of_set}
 
 module _ {P : Type 0} where
   abbrev pub meant_by_operation : Placed P (TypedOperation P) → MeantOperation P
