@@ -32,4 +32,4 @@ pub mod FoldingFacts
 pub mod RefusedFacts
 pub mod ExceptionFacts
 pub mod YesRows
-pub use Rattle.document_typing.proofs as in_typing
+pub use Rattle.rule_typed_reach.proofs.in_typing as in_typing

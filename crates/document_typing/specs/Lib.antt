@@ -1,5 +1,5 @@
 pub use Rattle.document_meaning.specs.MeantTree
-pub use Rattle.document_meaning.specs.DocumentView
+pub use Rattle.document_typed_operations.specs.DocumentView
 pub mod Meanings
 pub mod KeptSelections
 pub mod KeptDocument

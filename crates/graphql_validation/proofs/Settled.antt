@@ -14,7 +14,7 @@ use Rattle.document_typed_selections.specs.TypedTree.{typed_set_tree}
 use Rattle.document_typed_operations.specs.declared.operation.Fragment.{Fragment}
 use Rattle.document_typed_operations.specs.declared.operation.Operation.{Operation}
 use Rattle.document_meaning.specs.MeantTree.{MeantOperation, MeantFragment, MeantDocument}
-use Rattle.rule_fragments.specs.in_meaning.DocumentView.{operation_meant}
+use Rattle.rule_fragments.specs.in_typed_operations.DocumentView.{operation_meant}
 use Rattle.rule_selections.specs.in_typing.Meanings.{meanings}
 use Rattle.rule_definitions.specs.Judged.{judged}
 use Rattle.rule_definitions.specs.Told.{PlacedFault}

@@ -6,7 +6,7 @@ ghost use Rattle.rule_document_definitions.specs.FieldSets.{document_of_set};
 ghost use Rattle.rule_merging.specs.in_faults.DetailsView.{diagnostics_of, BeginsAs};
 ghost use Rattle.document_typed_operations.specs.TypedDocument.{typed_operation_tree};
 ghost use Rattle.document_typed_selections.specs.TypedTree.{typed_set_tree};
-ghost use Rattle.rule_fragments.specs.in_meaning.DocumentView.{document_meant};
+ghost use Rattle.rule_fragments.specs.in_typed_operations.DocumentView.{document_meant};
 ghost use Rattle.graphql_validation.specs.Operations.{query_on};
 ghost use Rattle.graphql_validation.specs.Told.{set_meant, TypedFieldSetTold, SilenceMeansValidSet, ValidSetMeansSilence};
 

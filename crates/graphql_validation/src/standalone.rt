@@ -1,6 +1,6 @@
 //! Every rule on a document without a schema.
 ghost use Rattle.std.specs.Prelude.{OnErr, OnOk};
-ghost use Rattle.rule_fragments.specs.in_meaning.DocumentView.{document_meant};
+ghost use Rattle.rule_fragments.specs.in_typed_operations.DocumentView.{document_meant};
 ghost use Rattle.rule_merging.specs.in_faults.DetailsView.{diagnostics_of, BeginsAs};
 ghost use Rattle.graphql_validation.specs.Told.{NamedAloneTold, SilenceMeansValidAlone, ValidAloneMeansSilence};
 

@@ -5,7 +5,7 @@ ghost use Rattle.fault_data.specs.Adds.{Adds};
 ghost use Rattle.fault_data.specs.FaultView.{faults_of};
 ghost use Rattle.rule_definitions.specs.Judged.{judged};
 ghost use Rattle.rule_fragments.specs.in_schema.SchemaOf.{schema_tree};
-ghost use Rattle.rule_fragments.specs.in_meaning.DocumentView.{document_meant, operation_meant};
+ghost use Rattle.rule_fragments.specs.in_typed_operations.DocumentView.{document_meant, operation_meant};
 ghost use Rattle.rule_fragments.specs.Possible.{ArePossibleIfFound};
 ghost use Rattle.graphql_validation.specs.Steps.{FindsUnder, NotesUnder, StayPossible, FindsAllUnder, NotesAllUnder, TellsUnder};
 

@@ -12,7 +12,7 @@ use Rattle.document_walks.specs.Reached.{NamedSet, Fragments, Member as TypedMem
 use Rattle.document_walks.proofs.Finding.{some_is}
 use Rattle.document_walks.proofs.WalkLaws.{from_one, to_all}
 use Rattle.rule_document_definitions.specs.in_document_meaning.MeantTree.{MeantSelection, MeantField, MeantSpread, MeantInline, MeantFragment, MeantDocument, meant, meant_of_set}
-use Rattle.document_meaning.specs.DocumentView.{meant_by_fragment}
+use Rattle.document_walks.specs.in_typed_operations.DocumentView.{meant_by_fragment}
 use Rattle.rule_document_definitions.specs.Selected.{Position, InOperation, InFragment, SelectionAt, Standing, StandingField, standing_in, spread_name, field_there, as_field, fragment_named}
 use Rattle.rule_document_definitions.specs.Reached.{Closed, first, next, InFragmentOf}
 use Rattle.rule_document_definitions.specs.Contents.{content}

@@ -12,7 +12,7 @@ use Rattle.document_typed_selections.specs.TypedParts.{typed_head}
 use Rattle.document_walks.specs.in_typed_operations.TypedDocument.{typed_fragment_tree}
 use Rattle.document_walks.specs.in_typed_operations.declared.operation.Fragment.{Fragment}
 use Rattle.rule_document_definitions.specs.in_document_meaning.MeantTree.{MeantFragment, meant_of_set}
-use Rattle.document_meaning.specs.DocumentView.{meant_by_fragment}
+use Rattle.document_walks.specs.in_typed_operations.DocumentView.{meant_by_fragment}
 use Rattle.rule_document_definitions.specs.Selected.{InOperation, StandingField}
 use Rattle.rule_document_definitions.specs.Contents.{unplaced_content}
 use Rattle.indexmap.specs.IndexMap.{IndexMap}

@@ -6,3 +6,4 @@ pub mod Opened
 pub mod Nodes
 pub mod Read
 pub mod Added
+pub use Rattle.rule_document_ground.specs as in_ground

@@ -11,6 +11,6 @@ pub mod SpreadViews
 pub mod SpreadGraph
 pub mod CycleFaults
 pub mod Told
-pub use Rattle.rule_document_ground.specs.in_meaning as in_meaning
+pub use Rattle.rule_document_ground.specs.in_typed_operations as in_typed_operations
 pub use Rattle.rule_cycles.specs.in_schema as in_schema
 pub use Rattle.rule_document_ground.specs as in_ground

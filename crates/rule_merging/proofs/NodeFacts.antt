@@ -10,7 +10,7 @@ use Rattle.graphql_names.specs.Placed.{Place, Placed, node_tree}
 use Rattle.graphql_names.specs.declared.node.Node.{Node}
 use Rattle.schema_types.specs.TypeView.{name_text}
 use Rattle.document_meaning.specs.MeantTree.{MeantSet, MeantFragment, MeantDocument, meant_of_set}
-use Rattle.rule_document_ground.specs.in_meaning.DocumentView.{meant_by_fragment}
+use Rattle.rule_field_sets.specs.in_ground.in_typed_operations.DocumentView.{meant_by_fragment}
 use Rattle.document_typed_operations.specs.TypedDocument.{TypedFragment, typed_fragment_tree}
 use Rattle.document_typed_operations.specs.declared.operation.Fragment.{Fragment}
 use Rattle.document_walks.specs.Reached.{NamedSet, Fragments, fragment_named}
@@ -25,7 +25,7 @@ use Rattle.rule_document_definitions.specs.ReadFields.{ReadField, ReadSet, liste
 use Rattle.rule_document_definitions.proofs.Unplaced.{contains_map, contains_unmap, closed_map, closed_unmap}
 use Rattle.rule_document_definitions.proofs.ReadFacts.{read_written}
 use Rattle.rule_document_definitions.proofs.WrittenFacts.{written_from}
-use Rattle.rule_document_ground.specs.Fields.{meant_fragments}
+use Rattle.rule_field_sets.specs.in_ground.Fields.{meant_fragments}
 use Rattle.rule_field_sets.specs.declared.field_sets.FieldSets.{FieldSets}
 use Rattle.rule_field_sets.specs.declared.member.Member.{Member}
 use Rattle.rule_field_sets.specs.declared.member.SetNode.{SetNode}

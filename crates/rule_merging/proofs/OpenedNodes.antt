@@ -8,7 +8,7 @@ use Rattle.document_meaning.specs.MeantTree.{MeantDocument}
 use Rattle.rule_definitions.proofs.Lists.{not_in_nil, Contains-cons, Contains-first}
 use Rattle.rule_document_definitions.specs.ReadFields.{list_read}
 use Rattle.rule_document_definitions.proofs.Unplaced.{contains_map, contains_unmap}
-use Rattle.rule_document_ground.specs.Fields.{meant_fragments}
+use Rattle.rule_field_sets.specs.in_ground.Fields.{meant_fragments}
 use Rattle.rule_field_sets.specs.declared.field_sets.FieldSets.{FieldSets}
 use Rattle.rule_field_sets.specs.declared.member.SetNode.{SetNode}
 use Rattle.rule_field_sets.specs.Nodes.{AreSets, HasAllStarts, set_nodes, fragment_nodes}

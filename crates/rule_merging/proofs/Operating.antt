@@ -9,9 +9,9 @@ use Rattle.graphql_names.specs.declared.node.Node.{Node}
 use Rattle.document_typed_selections.specs.TypedTree.{TypedSet, typed_set_tree}
 use Rattle.document_typed_operations.specs.declared.operation.Operation.{Operation}
 use Rattle.document_meaning.specs.MeantTree.{MeantSet, MeantOperation, MeantDocument, meant_of_set}
-use Rattle.rule_document_ground.specs.in_schema.SchemaOf.{schema_tree}
-use Rattle.rule_document_ground.specs.in_meaning.DocumentView.{operation_meant}
-use Rattle.rule_document_ground.specs.Fields.{meant_fragments}
+use Rattle.rule_field_sets.specs.in_ground.in_schema.SchemaOf.{schema_tree}
+use Rattle.rule_field_sets.specs.in_ground.in_typed_operations.DocumentView.{operation_meant}
+use Rattle.rule_field_sets.specs.in_ground.Fields.{meant_fragments}
 use Rattle.rule_definitions.specs.Judged.{Judged, judged}
 use Rattle.rule_document_definitions.specs.DocumentFaults.{Broken}
 use Rattle.rule_document_definitions.proofs.ReadFacts.{read_fields_merge}

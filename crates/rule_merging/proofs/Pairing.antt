@@ -11,7 +11,7 @@ use Rattle.rule_definitions.specs.Judged.{Judged}
 use Rattle.rule_document_definitions.specs.DocumentFaults.{Broken}
 use Rattle.rule_document_definitions.specs.Selected.{StandingField}
 use Rattle.rule_document_definitions.specs.Merging.{SameKey}
-use Rattle.rule_document_ground.specs.Broken.{broken_of, brokens_of}
+use Rattle.rule_field_sets.specs.in_ground.Broken.{broken_of, brokens_of}
 use Rattle.rule_merging.specs.Members.{field_of, fields_of, content_of}
 use Rattle.rule_field_sets.specs.declared.member.Member.{Member}
 use Rattle.rule_field_sets.specs.declared.field_sets.FieldSets.{FieldSets}

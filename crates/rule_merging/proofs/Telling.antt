@@ -14,7 +14,7 @@ use Rattle.rule_document_definitions.specs.Groups.{AgreeWithHead}
 use Rattle.rule_document_definitions.proofs.Equivalences.{shape_sym, shape_trans, selection_sym, selection_trans}
 use Rattle.rule_document_definitions.proofs.Unplaced.{contains_map, contains_unmap}
 use Rattle.rule_same_values.proofs.Equivalences.{arguments_refl}
-use Rattle.rule_document_ground.specs.Broken.{brokens_of}
+use Rattle.rule_field_sets.specs.in_ground.Broken.{brokens_of}
 use Rattle.rule_merging.specs.Members.{field_of, fields_of}
 use Rattle.rule_field_sets.specs.declared.member.Member.{Member}
 use Rattle.rule_merging.specs.declared.pass.Pass.{Pass}

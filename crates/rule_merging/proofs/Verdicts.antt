@@ -19,7 +19,7 @@ use Rattle.rule_document_definitions.specs.ReadFields.{ReadSameKey, ReadStarts, 
 use Rattle.rule_document_definitions.specs.Settled.{StandWhere, StartsStand}
 use Rattle.rule_merging.specs.Verdict.{lists_examined, ExaminesOperation}
 use Rattle.rule_merging.specs.declared.operation.Examined.{Examined}
-use Rattle.rule_document_ground.specs.Broken.{brokens_of}
+use Rattle.rule_field_sets.specs.in_ground.Broken.{brokens_of}
 use Rattle.graphql_faults.specs.DetailsTree.{of_document, Telling}
 use Rattle.rule_merging.specs.Merged.{MergingFailsAt, AreSettledIf, limit_told, conflicts_told}
 use Rattle.rule_merging.proofs.Behind.{breaches_told, nothing_told, told_nothing}

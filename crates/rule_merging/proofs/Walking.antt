@@ -17,7 +17,7 @@ use Rattle.rule_document_definitions.specs.Reached.{first, next}
 use Rattle.rule_document_definitions.specs.PlainFields.{IsSelected}
 use Rattle.rule_document_definitions.specs.ReadFields.{ReadField, field_read}
 use Rattle.rule_document_definitions.proofs.Unplaced.{contains_map, contains_unmap}
-use Rattle.rule_document_ground.specs.Fields.{meant_fragments}
+use Rattle.rule_field_sets.specs.in_ground.Fields.{meant_fragments}
 use Rattle.rule_number_lists.specs.NumberSet.{PutsIn}
 use Rattle.rule_field_sets.specs.declared.field_sets.FieldSets.{FieldSets}
 use Rattle.rule_field_sets.specs.declared.member.Member.{Member}

@@ -3,17 +3,17 @@ use Rattle.std.specs.Prelude.{◌≡◌, ◌++◌, ◌∷◌, ◌≤◌, ℕ, Bo
 use Rattle.std.specs.declared.alloc.Global.{Global}
 use Rattle.graphql_names.specs.Placed.{Place}
 use Rattle.fault_document_data.specs.declared.build_error.BuildError.{BuildError}
-use Rattle.rule_document_ground.specs.in_schema.SchemaOf.{schema_tree}
+use Rattle.rule_field_sets.specs.in_ground.in_schema.SchemaOf.{schema_tree}
 use Rattle.document_meaning.specs.MeantTree.{MeantSet, MeantOperation, MeantDocument}
 use Rattle.rule_definitions.specs.in_schema_types.Addresses.{under}
-use Rattle.rule_document_ground.specs.in_meaning.DocumentView.{document_meant}
+use Rattle.rule_field_sets.specs.in_ground.in_typed_operations.DocumentView.{document_meant}
 use Rattle.rule_definitions.specs.Judged.{Judged, judged}
 use Rattle.rule_document_definitions.specs.DocumentFaults.{Broken}
 use Rattle.rule_document_definitions.specs.Selected.{StandingField}
 use Rattle.rule_document_definitions.specs.Groups.{AgreeWithHead, AreGroups}
 use Rattle.rule_document_definitions.specs.Merging.{MergingBreaks}
 use Rattle.rule_document_definitions.specs.Limits.{PassesChainBound}
-use Rattle.rule_document_ground.specs.Broken.{brokens_of}
+use Rattle.rule_field_sets.specs.in_ground.Broken.{brokens_of}
 use Rattle.rule_merging.specs.Members.{fields_of}
 use Rattle.rule_field_sets.specs.declared.member.Member.{Member}
 use Rattle.rule_document_definitions.specs.ReadFields.{ReadField, ReadSet, list_read, fields_in, spreads_in, fragments_read, SelectsRead, ReadBelow, ReadStarts}
@@ -27,7 +27,7 @@ use Rattle.rule_merging.specs.declared.pass.Pass.{Pass}
 use Rattle.rule_number_lists.specs.NumberLists.{HaveSame}
 use Rattle.rule_merging.specs.Remembered.{Kept, HasLooked, account_of, kept_of}
 use Rattle.rule_merging.specs.Counted.{AreListed, Grows}
-use Rattle.rule_document_ground.specs.Fields.{meant_fragments}
+use Rattle.rule_field_sets.specs.in_ground.Fields.{meant_fragments}
 use Rattle.rule_field_sets.specs.Nodes.{AreSets, HasAllStarts, schema_in}
 use Rattle.rule_field_sets.specs.declared.field_sets.FieldSets.{FieldSets}
 use Rattle.rule_merging.specs.declared.remembered.Remembered.{Remembered}

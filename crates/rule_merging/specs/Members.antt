@@ -5,7 +5,7 @@ use Rattle.graphql_names.specs.Placed.{Place}
 use Rattle.document_meaning.specs.MeantTree.{MeantSet}
 use Rattle.rule_document_definitions.specs.Selected.{StandingField}
 use Rattle.rule_document_definitions.specs.ReadFields.{ReadField, ReadSet, field_read, list_read}
-use Rattle.rule_document_ground.specs.Fields.{field_of as selected_field}
+use Rattle.rule_field_sets.specs.in_ground.Fields.{field_of as selected_field}
 use Rattle.rule_field_sets.specs.declared.member.Member.{Member}
 use Rattle.rule_field_sets.specs.declared.field_sets.FieldSets.{FieldSets}
 use Rattle.rule_field_sets.specs.Nodes.{HasMember}

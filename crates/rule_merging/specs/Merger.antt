@@ -3,9 +3,9 @@ use Rattle.std.specs.Prelude.{◌≡◌, ◌≤◌, ◌↔◌, ℕ, Bool, List, 
 use Rattle.std.specs.List.{sum, cons_option}
 use Rattle.std.specs.Option.{option_map}
 use Rattle.graphql_names.specs.Placed.{Place}
-use Rattle.rule_document_ground.specs.in_schema.SchemaOf.{schema_tree}
+use Rattle.rule_field_sets.specs.in_ground.in_schema.SchemaOf.{schema_tree}
 use Rattle.document_meaning.specs.MeantTree.{MeantOperation, MeantDocument}
-use Rattle.rule_document_ground.specs.in_meaning.DocumentView.{document_meant}
+use Rattle.rule_field_sets.specs.in_ground.in_typed_operations.DocumentView.{document_meant}
 use Rattle.rule_definitions.specs.Judged.{Judged, judged}
 use Rattle.rule_document_definitions.specs.Merging.{FieldsMerge}
 use Rattle.rule_document_definitions.specs.Selected.{Standing, as_field, all_selections, operations}

@@ -12,7 +12,7 @@ use Rattle.rule_document_definitions.specs.Selected.{StandingField, field_name, 
 use Rattle.rule_document_definitions.specs.Groups.{AgreeWithHead}
 use Rattle.rule_document_definitions.specs.ReadFields.{ReadField, ReadSameKey, ReadMayShare, ReadSameShape, ReadSameNameAndArguments}
 use Rattle.rule_document_definitions.specs.Merging.{SameKey, MayShare, SameShape, SameName, SameArgument, SameNameAndArguments, telling, telling_argument}
-use Rattle.rule_document_ground.specs.Broken.{brokens_of}
+use Rattle.rule_field_sets.specs.in_ground.Broken.{brokens_of}
 use Rattle.rule_merging.specs.declared.pass.Pass.{Pass}
 use Rattle.rule_merging.specs.declared.pass.Pass.TheVariants.{Shapes, Selections}
 

@@ -7,7 +7,7 @@ use Rattle.rule_document_definitions.specs.DocumentFaults.{Broken}
 use Rattle.rule_document_definitions.specs.Selected.{StandingField}
 use Rattle.rule_document_definitions.specs.ReadFields.{ReadField}
 use Rattle.rule_document_definitions.specs.Settled.{StandIn}
-use Rattle.rule_document_ground.specs.Broken.{brokens_of}
+use Rattle.rule_field_sets.specs.in_ground.Broken.{brokens_of}
 use Rattle.rule_merging.specs.Members.{field_of, content_of}
 use Rattle.rule_field_sets.specs.declared.member.Member.{Member}
 use Rattle.rule_merging.specs.Passes.{Together, Conflict}

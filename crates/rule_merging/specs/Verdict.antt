@@ -6,11 +6,11 @@ use Rattle.rule_definitions.specs.Judged.{Judged}
 use Rattle.rule_document_definitions.specs.DocumentFaults.{Broken}
 use Rattle.rule_document_definitions.specs.Merging.{FieldsMerge, MergingBreaks}
 use Rattle.rule_document_definitions.specs.Limits.{PassesChainBound}
-use Rattle.rule_document_ground.specs.Broken.{brokens_of}
+use Rattle.rule_field_sets.specs.in_ground.Broken.{brokens_of}
 use Rattle.rule_document_definitions.specs.ReadFields.{ReadField, ReadSet, ReadStarts}
 use Rattle.rule_document_definitions.specs.Settled.{StartsStand}
 use Rattle.rule_merging.specs.Counted.{Account, IsCountedBy, IsPaidBy}
-use Rattle.rule_document_ground.specs.Fields.{meant_fragments}
+use Rattle.rule_field_sets.specs.in_ground.Fields.{meant_fragments}
 use Rattle.rule_field_sets.specs.Numbered.{tables_of}
 use Rattle.rule_field_sets.specs.Nodes.{AreSets, SetsGrow, schema_in}
 use Rattle.rule_field_sets.specs.declared.field_sets.FieldSets.{FieldSets}

@@ -2,11 +2,11 @@
 ghost use Rattle.std.specs.Prelude.{◌≡◌, ◌↔◌, ◌≤◌, ◌+◌, ◌++◌, ◌∷◌, min, map, take, drop, IfOk, IsTrue, OnOk};
 ghost use Rattle.schema_coordinates.specs.CoordinateView.{attribute_coordinate, argument_coordinate};
 ghost use Rattle.fault_document_data.specs.DocumentBreachView.{value_in_conflict};
-ghost use Rattle.rule_document_ground.specs.in_schema.SchemaOf.{schema_tree};
+ghost use Rattle.rule_field_sets.specs.in_ground.in_schema.SchemaOf.{schema_tree};
 ghost use Rattle.rule_definitions.specs.Judged.{judged};
 ghost use Rattle.rule_document_definitions.specs.Merging.{SameName};
 ghost use Rattle.rule_document_definitions.specs.SameValues.{plain_given};
-ghost use Rattle.rule_document_ground.specs.Broken.{broken_of};
+ghost use Rattle.rule_field_sets.specs.in_ground.Broken.{broken_of};
 ghost use Rattle.rule_merging.specs.Members.{field_of, fields_of};
 ghost use Rattle.rule_merging.specs.Passes.{AddsTwo, AddsGroup, AddsEach, coordinate_of, coordinate_of_argument, type_conflict, name_conflict, argument_conflict};
 ghost use Rattle.rule_merging.specs.Compared.{compared, compared_once, greatest_count, CountsUp};
@@ -20,7 +20,7 @@ use fault_document_data::{
     BuildError, ConflictingFieldArgument, ConflictingFieldName, ConflictingFieldType,
 };
 use graphql_names::{Name, SourceSpan};
-use rule_document_ground::tell_breach;
+use rule_field_sets::tell_breach;
 use rule_field_sets::{Member, Schema};
 use rule_same_values::differing_argument;
 use schema_coordinates::{FieldArgumentCoordinate, TypeAttributeCoordinate};

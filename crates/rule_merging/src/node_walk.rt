@@ -3,7 +3,7 @@ ghost use Rattle.std.specs.Prelude.{◌≡◌, OnOk, IfOk, IsTrue};
 ghost use Rattle.rule_field_sets.specs.Nodes.{AreSets, HasAllStarts};
 ghost use Rattle.rule_merging.specs.Members.{meant_sets, AreMembersOf};
 ghost use Rattle.rule_merging.specs.Below.{IsMerged, IsPartOfMerged};
-ghost use Rattle.rule_document_ground.specs.Fields.{meant_fragments};
+ghost use Rattle.rule_field_sets.specs.in_ground.Fields.{meant_fragments};
 ghost use Rattle.rule_merging.specs.NodeWalk.{state_of, with_paid, PassesMember, PassesMembers, PassesSpreads, PassesNode, WalksOn, WalksOver};
 
 use crate::nodes::{fragment_of, node_of};

@@ -1,10 +1,10 @@
 //! The examination of an operation, in both passes.
 ghost use Rattle.std.specs.Prelude.{◌≡◌, ◌||◌, List, IfOk, OnOk, IsTrue, []};
-ghost use Rattle.rule_document_ground.specs.in_schema.SchemaOf.{schema_tree};
+ghost use Rattle.rule_field_sets.specs.in_ground.in_schema.SchemaOf.{schema_tree};
 ghost use Rattle.rule_definitions.specs.Judged.{judged};
 ghost use Rattle.graphql_names.specs.Placed.{Place};
 ghost use Rattle.document_meaning.specs.MeantTree.{MeantOperation, MeantDocument, meant_of_set};
-ghost use Rattle.rule_document_ground.specs.in_meaning.DocumentView.{document_meant, operation_meant};
+ghost use Rattle.rule_field_sets.specs.in_ground.in_typed_operations.DocumentView.{document_meant, operation_meant};
 ghost use Rattle.rule_definitions.specs.Judged.{Judged};
 ghost use Rattle.document_typed_selections.specs.TypedTree.{typed_set_tree};
 ghost use Rattle.rule_field_sets.specs.Nodes.{AreSets, HasAllStarts};

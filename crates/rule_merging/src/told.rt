@@ -3,7 +3,7 @@ ghost use Rattle.std.specs.Prelude.{◌≡◌, ◌++◌, map, OnErr, OnOk};
 ghost use Rattle.rule_document_definitions.specs.DocumentFaults.{OfDocument};
 ghost use Rattle.graphql_faults.specs.DetailsTree.{of_document};
 ghost use Rattle.graphql_faults.specs.DetailsView.{diagnostics_of, BeginsAs};
-ghost use Rattle.rule_document_ground.specs.Broken.{brokens_of};
+ghost use Rattle.rule_field_sets.specs.in_ground.Broken.{brokens_of};
 
 use crate::conflicts::Breach;
 use graphql_faults::{Details, DiagnosticList};

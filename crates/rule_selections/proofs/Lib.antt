@@ -5,7 +5,6 @@ pub mod Members
 pub mod Takers
 pub mod Selecting
 pub mod Typing
-pub mod TypedReached
 pub mod NoArguments
 pub mod WithoutVariables
 pub mod Elsewhere

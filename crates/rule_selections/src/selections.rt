@@ -11,8 +11,8 @@ ghost use Rattle.tree_directives.specs.declared.directive_location.DirectiveLoca
 ghost use Rattle.document_meaning.specs.MeantTree.{MeantDocument, meant};
 ghost use Rattle.document_typed_selections.specs.TypedTree.{typed_selection_tree};
 ghost use Rattle.document_typed_operations.specs.TypedDocument.{typed_operation_tree};
-ghost use Rattle.rule_document_ground.specs.in_meaning.DocumentView.{meant_by_operation};
-ghost use Rattle.document_typing.specs.Meanings.{meanings};
+ghost use Rattle.rule_document_ground.specs.in_typed_operations.DocumentView.{meant_by_operation};
+ghost use Rattle.rule_typed_reach.specs.in_typing.Meanings.{meanings};
 ghost use Rattle.rule_document_definitions.specs.Selected.{selection_location};
 ghost use Rattle.rule_document_definitions.specs.Selections.{SelectionsBreak};
 ghost use Rattle.rule_document_definitions.specs.Told.{places_in};

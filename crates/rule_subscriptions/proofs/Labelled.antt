@@ -22,7 +22,7 @@ use Rattle.schema_components.specs.Lists.{each_place_after, each_place}
 use Rattle.schema_components.proofs.Places.{found_at, given_at, found_among, given_among}
 use Rattle.document_meaning.specs.MeantTree.{MeantSelection, MeantField, MeantSpread, MeantInline, MeantSet, meant_set, MeantSelections, no_meant, meant_then, MeantOperation, MeantFragment, MeantDocument}
 use Rattle.document_typed_operations.specs.declared.document.ExecutableDocument.{ExecutableDocument}
-use Rattle.rule_always.specs.in_ground.in_meaning.DocumentView.{document_meant}
+use Rattle.rule_always.specs.in_ground.in_typed_operations.DocumentView.{document_meant}
 use Rattle.fault_document_data.specs.DocumentBreaches.{DeferLabelMustNotBeVariable, DuplicateDeferLabel}
 use Rattle.rule_definitions.specs.Words.{Present, AtSomeIndex, FirstNamed, Repeats}
 use Rattle.rule_document_definitions.specs.DocumentFaults.{Broken, broken}

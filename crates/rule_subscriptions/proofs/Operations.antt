@@ -12,7 +12,7 @@ use Rattle.document_typed_operations.specs.TypedDocument.{TypedOperation, typed_
 use Rattle.document_typed_operations.specs.declared.operation.Operation.{Operation}
 use Rattle.document_typed_operations.specs.declared.document.ExecutableDocument.{ExecutableDocument}
 use Rattle.document_meaning.specs.MeantTree.{MeantOperation}
-use Rattle.rule_always.specs.in_ground.in_meaning.DocumentView.{meant_by_operation, document_meant, operation_meant}
+use Rattle.rule_always.specs.in_ground.in_typed_operations.DocumentView.{meant_by_operation, document_meant, operation_meant}
 use Rattle.rule_definitions.proofs.Lists.{Contains-first}
 use Rattle.rule_document_definitions.specs.Selected.{operations}
 

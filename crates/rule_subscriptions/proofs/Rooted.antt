@@ -13,7 +13,7 @@ use Rattle.rule_cycle_search.proofs.Lists.{not_in_nil, Contains-cons, only, foun
 use Rattle.document_typed_selections.specs.TypedTree.{TypedSelection, TypedField, TypedSpread, TypedInline, TypedSet, typed_set, TypedSelections, no_typed, typed_then}
 use Rattle.document_typed_operations.specs.TypedDocument.{TypedDocumentTree}
 use Rattle.document_meaning.specs.MeantTree.{MeantSelection, MeantSet, MeantOperation, MeantFragment, MeantDocument, meant, meant_of_set, meant_of_all}
-use Rattle.rule_always.specs.in_ground.in_meaning.DocumentView.{meant_document}
+use Rattle.rule_always.specs.in_ground.in_typed_operations.DocumentView.{meant_document}
 use Rattle.document_walks.specs.Reached.{NamedSet, Member, document_fragments, selections_of, selections_in, selections_along, members_in, spread_names, ReachedFragment, by_start, by_fragment, IsMemberWalk, fragment_named as named_set_of}
 use Rattle.document_walks.proofs.Passing.{bare_in}
 use Rattle.rule_document_definitions.specs.Selected.{Position, InOperation, InFragment, Standing, spread_name, operation_name, fragment_named, own}

@@ -15,7 +15,7 @@ use Rattle.document_typed_operations.specs.declared.operation.Operation.{Operati
 use Rattle.document_typed_operations.specs.declared.operation.Fragment.{Fragment}
 use Rattle.document_typed_operations.specs.declared.document.ExecutableDocument.{ExecutableDocument}
 use Rattle.document_meaning.specs.MeantTree.{MeantSet, MeantOperation, MeantFragment, meant_of_set, meant_of_all}
-use Rattle.rule_always.specs.in_ground.in_meaning.DocumentView.{meant_by_operation, meant_by_fragment, document_meant}
+use Rattle.rule_always.specs.in_ground.in_typed_operations.DocumentView.{meant_by_operation, meant_by_fragment, document_meant}
 use Rattle.rule_document_definitions.specs.Selected.{operations, fragments}
 use Rattle.rule_document_definitions.specs.Limits.{path_bound}
 use Rattle.rule_subscriptions.specs.Nested.{deeper_in, deeper_along, deeper_of, some_nests}

@@ -3,7 +3,7 @@
 ghost use Rattle.std.specs.Prelude.{◌≡◌, flat_map, OnOk};
 ghost use Rattle.graphql_names.specs.Placed.{node_tree};
 ghost use Rattle.tree_directives.specs.DirectiveTree.{directive_tree};
-ghost use Rattle.rule_always.specs.in_ground.in_meaning.DocumentView.{document_meant, operation_meant};
+ghost use Rattle.rule_always.specs.in_ground.in_typed_operations.DocumentView.{document_meant, operation_meant};
 ghost use Rattle.rule_document_definitions.specs.Defer.{DeferBreaks};
 ghost use Rattle.rule_subscriptions.specs.Broken.{AddsBroken, AddsThese};
 ghost use Rattle.rule_subscriptions.specs.Listed.{deferred_at_root, fragment_deferred, is_conditional, deferred_always, always_deferred};

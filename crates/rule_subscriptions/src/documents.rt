@@ -1,7 +1,7 @@
 //! What breaks the rules on subscriptions and on `@defer` in all operations of a document.
 ghost use Rattle.std.specs.Prelude.{◌↔◌, Contains, IfOk, OnOk};
 ghost use Rattle.graphql_names.specs.Placed.{Place};
-ghost use Rattle.rule_always.specs.in_ground.in_meaning.DocumentView.{document_meant};
+ghost use Rattle.rule_always.specs.in_ground.in_typed_operations.DocumentView.{document_meant};
 ghost use Rattle.rule_document_definitions.specs.Defer.{DeferBreaks};
 ghost use Rattle.rule_document_definitions.specs.DocumentFaults.{Broken};
 ghost use Rattle.rule_document_definitions.specs.DocumentRules.{DeferredBreaks};

@@ -7,7 +7,7 @@ ghost use Rattle.tree_literals.specs.ValueTree.{value_tree};
 ghost use Rattle.tree_directives.specs.DirectiveTree.{directive_tree};
 ghost use Rattle.document_meaning.specs.MeantTree.{meant_of_set};
 ghost use Rattle.document_typed_selections.specs.TypedTree.{typed_set_tree};
-ghost use Rattle.rule_always.specs.in_ground.in_meaning.DocumentView.{document_meant};
+ghost use Rattle.rule_always.specs.in_ground.in_typed_operations.DocumentView.{document_meant};
 ghost use Rattle.rule_document_definitions.specs.DeferUses.{labels};
 ghost use Rattle.rule_document_definitions.specs.Defer.{LabelsBreak};
 ghost use Rattle.indexmap.specs.IndexMap.{get_by_text};

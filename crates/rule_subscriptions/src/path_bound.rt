@@ -3,7 +3,7 @@ ghost use Rattle.std.specs.Prelude.{◌≡◌, IsTrue};
 ghost use Rattle.std.specs.List.{list_any};
 ghost use Rattle.document_meaning.specs.MeantTree.{meant_of_set};
 ghost use Rattle.document_typed_selections.specs.TypedTree.{typed_set_tree};
-ghost use Rattle.rule_always.specs.in_ground.in_meaning.DocumentView.{document_meant};
+ghost use Rattle.rule_always.specs.in_ground.in_typed_operations.DocumentView.{document_meant};
 ghost use Rattle.rule_document_definitions.specs.Limits.{path_bound, PassesPathBound};
 ghost use Rattle.rule_subscriptions.specs.Nested.{NestsTooDeep, deeper_in, deeper_of, some_nests};
 ghost use Rattle.rule_always.specs.Lent.{lent};

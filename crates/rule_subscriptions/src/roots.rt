@@ -1,6 +1,6 @@
 //! The selections at the root of an operation.
 ghost use Rattle.std.specs.Prelude.{IfOk};
-ghost use Rattle.rule_always.specs.in_ground.in_meaning.DocumentView.{document_meant, operation_meant};
+ghost use Rattle.rule_always.specs.in_ground.in_typed_operations.DocumentView.{document_meant, operation_meant};
 ghost use Rattle.rule_subscriptions.specs.Rooted.{AreRoots};
 ghost use Rattle.rule_always.specs.Lent.{lent_all};
 

@@ -4,7 +4,7 @@ ghost use Rattle.std.specs.List.{list_any};
 ghost use Rattle.std.specs.Str.{bytes_eq};
 ghost use Rattle.graphql_names.specs.Placed.{node_tree};
 ghost use Rattle.tree_directives.specs.DirectiveTree.{directive_tree};
-ghost use Rattle.rule_always.specs.in_ground.in_meaning.DocumentView.{document_meant, operation_meant};
+ghost use Rattle.rule_always.specs.in_ground.in_typed_operations.DocumentView.{document_meant, operation_meant};
 ghost use Rattle.rule_document_definitions.specs.RootFields.{meta_field_names};
 ghost use Rattle.rule_subscriptions.specs.Broken.{AddsThese};
 ghost use Rattle.rule_subscriptions.specs.Listed.{root_names, multiple_fields, introspection, conditional, at_root};

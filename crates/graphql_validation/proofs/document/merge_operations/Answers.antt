@@ -8,7 +8,7 @@ use Rattle.graphql_names.specs.Placed.{Place}
 use Rattle.rule_definitions.specs.Judged.{Judged, judged}
 use Rattle.rule_fragments.specs.in_schema.SchemaOf.{schema_tree}
 use Rattle.document_typed_operations.specs.OperationsByName.{left_operations}
-use Rattle.rule_fragments.specs.in_meaning.DocumentView.{document_meant, operation_meant}
+use Rattle.rule_fragments.specs.in_typed_operations.DocumentView.{document_meant, operation_meant}
 use Rattle.rule_merging.specs.Merged.{MergingTold}
 use Rattle.rule_merging.specs.Merger.{merger_of}
 use Rattle.graphql_validation.proofs.MergedOperations.{merging_none, merging_more, merging_begins, so_far_none, so_far_more}

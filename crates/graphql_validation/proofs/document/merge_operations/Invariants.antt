@@ -4,7 +4,7 @@ use Rattle.rule_merging.specs.in_faults.DetailsView.{diagnostics_of}
 use Rattle.rule_definitions.specs.Judged.{judged}
 use Rattle.rule_fragments.specs.in_schema.SchemaOf.{schema_tree}
 use Rattle.document_typed_operations.specs.OperationsByName.{left_operations}
-use Rattle.rule_fragments.specs.in_meaning.DocumentView.{document_meant, operation_meant}
+use Rattle.rule_fragments.specs.in_typed_operations.DocumentView.{document_meant, operation_meant}
 use Rattle.rule_merging.specs.Merged.{DocumentMergingTold}
 use Rattle.rule_merging.specs.Merger.{merger_of, IsReady}
 use Rattle.graphql_validation.proofs.MergedOperations.{MergeSoFar}

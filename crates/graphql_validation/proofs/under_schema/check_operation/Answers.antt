@@ -2,7 +2,7 @@ use Rattle.std.proofs.Common.{refl}
 use Rattle.std.proofs.lemmas.Result.{on_ok_weaker}
 use Rattle.fault_data.specs.FaultView.{faults_of}
 use Rattle.rule_fragments.specs.in_schema.SchemaOf.{schema_tree}
-use Rattle.rule_fragments.specs.in_meaning.DocumentView.{operation_meant}
+use Rattle.rule_fragments.specs.in_typed_operations.DocumentView.{operation_meant}
 use Rattle.rule_document_definitions.specs.Told.{place_or_built_in}
 use Rattle.rule_fragments.specs.in_ground.NotedNames.{noted_names}
 use Rattle.rule_definitions.proofs.Listing.{gains_both, gains_same}

@@ -2,7 +2,7 @@ use Rattle.std.proofs.Common.{◌≡◌, ◌++◌, map}
 use Rattle.fault_data.specs.Adds.{Adds}
 use Rattle.rule_fragments.specs.in_schema.SchemaOf.{schema_tree}
 use Rattle.document_typed_operations.specs.OperationsByName.{left_operations}
-use Rattle.rule_fragments.specs.in_meaning.DocumentView.{document_meant, operation_meant}
+use Rattle.rule_fragments.specs.in_typed_operations.DocumentView.{document_meant, operation_meant}
 use Rattle.rule_definitions.specs.Words.{AtSomeIndex}
 use Rattle.rule_definitions.specs.Judged.{judged}
 use Rattle.rule_document_definitions.specs.Selected.{operations}

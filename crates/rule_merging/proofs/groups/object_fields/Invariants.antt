@@ -1,5 +1,5 @@
 use Rattle.std.proofs.Common.{◌≡◌, not, filter, take}
-use Rattle.rule_document_ground.specs.in_schema.SchemaOf.{schema_tree}
+use Rattle.rule_field_sets.specs.in_ground.in_schema.SchemaOf.{schema_tree}
 use Rattle.rule_definitions.specs.Judged.{judged}
 use Rattle.rule_merging.specs.KeyGroups.{is_shared}
 use Rattle.rule_merging.proofs.groups.object_fields.Given as goal

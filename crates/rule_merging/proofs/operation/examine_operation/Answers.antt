@@ -1,7 +1,7 @@
-use Rattle.rule_document_ground.specs.in_schema.SchemaOf.{schema_tree}
-use Rattle.rule_document_ground.specs.in_meaning.DocumentView.{document_meant, operation_meant}
+use Rattle.rule_field_sets.specs.in_ground.in_schema.SchemaOf.{schema_tree}
+use Rattle.rule_field_sets.specs.in_ground.in_typed_operations.DocumentView.{document_meant, operation_meant}
 use Rattle.rule_definitions.specs.Judged.{judged}
-use Rattle.rule_document_ground.specs.Broken.{brokens_of}
+use Rattle.rule_field_sets.specs.in_ground.Broken.{brokens_of}
 use Rattle.rule_field_sets.specs.Read.{set_at}
 use Rattle.rule_merging.specs.Verdict.{account_in, ExaminesOperation}
 use Rattle.rule_merging.proofs.Counting.{starting_listed}

@@ -4,7 +4,7 @@ use Rattle.graphql_names.specs.Placed.{Place}
 use Rattle.fault_document_data.specs.declared.build_error.BuildError.{BuildError}
 use Rattle.rule_document_definitions.specs.DocumentFaults.{OfDocument}
 use Rattle.graphql_faults.proofs.Growing.{grown_more, grown_all, grown_kept}
-use Rattle.rule_document_ground.specs.Broken.{broken_of}
+use Rattle.rule_field_sets.specs.in_ground.Broken.{broken_of}
 use Rattle.graphql_faults.specs.DetailsTree.{of_document}
 use Rattle.rule_merging.proofs.told.append_breaches.Goals as goal
 

@@ -6,8 +6,8 @@ use Rattle.rule_document_ground.specs.in_schema.SchemaOf.{schema_tree}
 use Rattle.tree_type_members.specs.declared.field_definition.FieldDefinition.{FieldDefinition}
 use Rattle.document_typed_selections.specs.declared.selection.Field.{Field}
 use Rattle.schema_types.specs.Plain.{plain}
-use Rattle.document_typing.specs.Meanings.{meanings}
-use Rattle.document_typing.proofs.FieldsFound.{field-absent}
+use Rattle.rule_typed_reach.specs.in_typing.Meanings.{meanings}
+use Rattle.rule_typed_reach.proofs.in_typing.FieldsFound.{field-absent}
 use Rattle.fault_data.specs.Adds.{Adds}
 use Rattle.rule_definitions.specs.Judged.{judged}
 use Rattle.rule_definitions.specs.Uses.{Taker, TakerBreaks}

@@ -3,7 +3,7 @@ use Rattle.std.specs.List.{flat_map}
 use Rattle.std.proofs.lemmas.Result.{on_ok_weaker}
 use Rattle.tree_directives.specs.declared.operation_type.OperationType.TheVariants as operation
 use Rattle.document_typed_operations.specs.declared.operation.Operation.{Operation}
-use Rattle.rule_always.specs.in_ground.in_meaning.DocumentView.{document_meant, operation_meant}
+use Rattle.rule_always.specs.in_ground.in_typed_operations.DocumentView.{document_meant, operation_meant}
 use Rattle.rule_subscriptions.specs.Broken.{brokens_of}
 use Rattle.rule_always.specs.Always.{AreAlways}
 use Rattle.rule_subscriptions.specs.Listed.{fragment_deferred, always_deferred}

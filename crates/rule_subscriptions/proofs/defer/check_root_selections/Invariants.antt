@@ -1,6 +1,6 @@
 use Rattle.std.proofs.Common.{◌≡◌, ◌++◌, take}
 use Rattle.std.specs.List.{flat_map}
-use Rattle.rule_always.specs.in_ground.in_meaning.DocumentView.{operation_meant}
+use Rattle.rule_always.specs.in_ground.in_typed_operations.DocumentView.{operation_meant}
 use Rattle.rule_subscriptions.specs.Broken.{brokens_of}
 use Rattle.rule_subscriptions.specs.Listed.{fragment_deferred}
 use Rattle.rule_always.specs.Lent.{lent_all}

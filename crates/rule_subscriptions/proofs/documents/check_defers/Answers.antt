@@ -2,7 +2,7 @@ use Rattle.std.proofs.Common.{◌∙◌, ◌∷◌, [], ◌++◌, map, subst}
 use Rattle.graphql_names.specs.Placed.{Place}
 use Rattle.document_typed_operations.specs.OperationsByName.{left_operations}
 use Rattle.document_meaning.specs.MeantTree.{MeantOperation}
-use Rattle.rule_always.specs.in_ground.in_meaning.DocumentView.{document_meant, operation_meant}
+use Rattle.rule_always.specs.in_ground.in_typed_operations.DocumentView.{document_meant, operation_meant}
 use Rattle.rule_definitions.specs.Words.{AtSomeIndex}
 use Rattle.rule_document_definitions.specs.Selected.{operations}
 use Rattle.rule_document_definitions.specs.Reached.{AtOperation}

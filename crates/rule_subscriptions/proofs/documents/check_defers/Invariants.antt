@@ -1,7 +1,7 @@
 use Rattle.std.proofs.Common.{◌≡◌, ◌++◌, map}
 use Rattle.rule_document_definitions.specs.Defer.{DeferBreaks}
 use Rattle.document_typed_operations.specs.OperationsByName.{left_operations}
-use Rattle.rule_always.specs.in_ground.in_meaning.DocumentView.{document_meant, operation_meant}
+use Rattle.rule_always.specs.in_ground.in_typed_operations.DocumentView.{document_meant, operation_meant}
 use Rattle.rule_definitions.specs.Words.{AtSomeIndex}
 use Rattle.rule_document_definitions.specs.Selected.{operations}
 use Rattle.rule_always.specs.in_ground.Broken.{AddsBroken}

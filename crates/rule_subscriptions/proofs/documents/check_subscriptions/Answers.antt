@@ -1,6 +1,6 @@
 use Rattle.std.proofs.Common.{◌∙◌, ◌∷◌, [], ◌++◌, map, subst}
 use Rattle.document_typed_operations.specs.OperationsByName.{left_operations}
-use Rattle.rule_always.specs.in_ground.in_meaning.DocumentView.{document_meant, operation_meant}
+use Rattle.rule_always.specs.in_ground.in_typed_operations.DocumentView.{document_meant, operation_meant}
 use Rattle.rule_document_definitions.specs.Selected.{operations}
 use Rattle.rule_subscriptions.specs.Documents.{AddsSubscriptions}
 use Rattle.rule_subscriptions.proofs.Operations.{lent_operation, lent_operations, all_operations, one_behind, lent_more, lent_all}

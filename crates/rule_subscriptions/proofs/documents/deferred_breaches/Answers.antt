@@ -1,5 +1,5 @@
 use Rattle.std.proofs.Common.{◌↔◌, ◌∙◌, ◌++◌, map, sym, ap, subst, Contains}
-use Rattle.rule_always.specs.in_ground.in_meaning.DocumentView.{document_meant}
+use Rattle.rule_always.specs.in_ground.in_typed_operations.DocumentView.{document_meant}
 use Rattle.rule_document_definitions.specs.Defer.{DeferBreaks, LabelsBreak}
 use Rattle.rule_document_definitions.specs.DocumentRules.{DeferredBreaks}
 use Rattle.rule_document_definitions.specs.Reached.{AtOperation}

@@ -1,4 +1,4 @@
-use Rattle.rule_always.specs.in_ground.in_meaning.DocumentView.{document_meant}
+use Rattle.rule_always.specs.in_ground.in_typed_operations.DocumentView.{document_meant}
 use Rattle.rule_always.specs.in_ground.Broken.{brokens_of}
 use Rattle.rule_subscriptions.proofs.InDocuments.{tells_breaches}
 use Rattle.rule_subscriptions.proofs.documents.document_breaches.Goals as goal

@@ -1,7 +1,7 @@
 use Rattle.std.proofs.Common.{sym, subst, ◌≡◌}
 use Rattle.std.proofs.lemmas.Result.{on_ok_weaker}
 use Rattle.schema_components.specs.Lists.{each_place}
-use Rattle.rule_always.specs.in_ground.in_meaning.DocumentView.{document_meant}
+use Rattle.rule_always.specs.in_ground.in_typed_operations.DocumentView.{document_meant}
 use Rattle.rule_document_definitions.specs.DeferUses.{labels}
 use Rattle.rule_subscriptions.specs.Labels.{values_meant, label_breaks}
 use Rattle.rule_subscriptions.proofs.Labelled.{labels_told}

@@ -8,7 +8,7 @@ use Rattle.document_walks.specs.WalkView.{fragments_tree, lent_member}
 use Rattle.document_walks.specs.Lending.{selections_left, selections_are_over}
 use Rattle.document_walks.proofs.Gathering.{lent_ok}
 use Rattle.document_walks.proofs.WalkLaws.{fragments_tree-document}
-use Rattle.rule_always.specs.in_ground.in_meaning.DocumentView.{operation_meant}
+use Rattle.rule_always.specs.in_ground.in_typed_operations.DocumentView.{operation_meant}
 use Rattle.rule_always.specs.Lent.{lent_all}
 use Rattle.rule_subscriptions.proofs.Lent.{members_lent, taken, all_taken}
 use Rattle.rule_subscriptions.proofs.Rooted.{roots}

@@ -2,7 +2,7 @@ use Rattle.std.proofs.Common.{◌≡◌, ◌++◌, take, map}
 use Rattle.std.specs.List.{flat_map}
 use Rattle.graphql_names.specs.Placed.{node_tree}
 use Rattle.tree_directives.specs.DirectiveTree.{directive_tree}
-use Rattle.rule_always.specs.in_ground.in_meaning.DocumentView.{operation_meant}
+use Rattle.rule_always.specs.in_ground.in_typed_operations.DocumentView.{operation_meant}
 use Rattle.rule_subscriptions.specs.Broken.{brokens_of}
 use Rattle.rule_subscriptions.specs.Listed.{conditional}
 use Rattle.rule_subscriptions.proofs.subscriptions.check_root_selection.Given as goal

@@ -4,7 +4,7 @@ use Rattle.std.proofs.lemmas.Result.{on_ok_weaker}
 use Rattle.tree_directives.specs.declared.operation_type.OperationType.TheVariants as operation
 use Rattle.graphql_names.specs.NameValue.{NameValue}
 use Rattle.document_typed_operations.specs.declared.operation.Operation.{Operation}
-use Rattle.rule_always.specs.in_ground.in_meaning.DocumentView.{document_meant, operation_meant}
+use Rattle.rule_always.specs.in_ground.in_typed_operations.DocumentView.{document_meant, operation_meant}
 use Rattle.rule_subscriptions.specs.Broken.{brokens_of}
 use Rattle.rule_subscriptions.specs.Listed.{root_names, multiple_fields, at_root}
 use Rattle.rule_always.specs.Lent.{lent_all}

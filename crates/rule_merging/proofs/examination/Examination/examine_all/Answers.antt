@@ -6,7 +6,7 @@ use Rattle.graphql_names.specs.Placed.{Place}
 use Rattle.document_meaning.specs.MeantTree.{MeantOperation}
 use Rattle.rule_definitions.proofs.Lists.{not_in_nil}
 use Rattle.rule_document_definitions.specs.Limits.{chain_bound}
-use Rattle.rule_document_ground.specs.Broken.{brokens_of}
+use Rattle.rule_field_sets.specs.in_ground.Broken.{brokens_of}
 use Rattle.rule_merging.specs.Remembered.{account_of, kept_of}
 use Rattle.rule_merging.specs.Counted.{AreListed}
 use Rattle.rule_merging.specs.Examined.{ExaminesSets, HaveFields, schema_of, document_of, sets_of}

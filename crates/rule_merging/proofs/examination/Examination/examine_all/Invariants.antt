@@ -2,7 +2,7 @@ use Rattle.std.proofs.Common.{◌≡◌, ◌∷◌, [], ◌≤◌, ◌++◌, ◌
 use Rattle.graphql_names.specs.Placed.{Place}
 use Rattle.rule_document_definitions.specs.DocumentFaults.{Broken}
 use Rattle.document_meaning.specs.MeantTree.{MeantOperation}
-use Rattle.rule_document_ground.specs.Broken.{brokens_of}
+use Rattle.rule_field_sets.specs.in_ground.Broken.{brokens_of}
 use Rattle.rule_merging.specs.Counted.{AreListed}
 use Rattle.rule_merging.specs.Remembered.{kept_of}
 use Rattle.rule_field_sets.specs.Read.{set_at}

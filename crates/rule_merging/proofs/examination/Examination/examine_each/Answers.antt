@@ -4,7 +4,7 @@ use Rattle.std.proofs.lemmas.List.Elements.{Contains-append_left}
 use Rattle.std.proofs.Common.{List, drop, ◌<◌, ◌+◌, ◌∷◌, [], take, length, sym, ap, subst, arith, inl, inr}
 use Rattle.std.proofs.lemmas.List.{take_all}
 use Rattle.rule_definitions.proofs.Lists.{not_in_nil, only, Contains-first}
-use Rattle.rule_document_ground.specs.Broken.{brokens_of}
+use Rattle.rule_field_sets.specs.in_ground.Broken.{brokens_of}
 use Rattle.rule_merging.specs.Under.{sets_in}
 use Rattle.rule_merging.specs.Remembered.{account_of, kept_of}
 use Rattle.rule_merging.specs.Examined.{schema_of, document_of, sets_of}

@@ -3,7 +3,7 @@ use Rattle.std.specs.List.{sum, flat_map}
 use Rattle.std.proofs.lemmas.List.{take_all}
 use Rattle.graphql_names.specs.Placed.{Place}
 use Rattle.rule_document_definitions.specs.Selected.{StandingField}
-use Rattle.rule_document_ground.specs.Broken.{brokens_of}
+use Rattle.rule_field_sets.specs.in_ground.Broken.{brokens_of}
 use Rattle.rule_merging.specs.Members.{fields_of}
 use Rattle.rule_merging.specs.Compared.{compared}
 use Rattle.rule_merging.specs.Grouped.{ArePartsOf}

@@ -2,7 +2,7 @@ use Rattle.std.proofs.Common.{◌≡◌, ◌≤◌, ◌+◌, ◌++◌, List, map
 use Rattle.std.specs.List.{sum}
 use Rattle.graphql_names.specs.Placed.{Place}
 use Rattle.rule_document_definitions.specs.DocumentFaults.{Broken}
-use Rattle.rule_document_ground.specs.Broken.{brokens_of}
+use Rattle.rule_field_sets.specs.in_ground.Broken.{brokens_of}
 use Rattle.rule_merging.specs.Members.{fields_of}
 use Rattle.rule_merging.specs.Compared.{compared}
 use Rattle.rule_merging.specs.KeyGroups.{parts_in, compared_in}

@@ -1,5 +1,5 @@
 use Rattle.std.proofs.Common.{◌∙◌, ◌∷◌, [], true, false, map, ap, sym, subst}
-use Rattle.rule_document_ground.specs.Broken.{brokens_of}
+use Rattle.rule_field_sets.specs.in_ground.Broken.{brokens_of}
 use Rattle.rule_number_lists.specs.NumberLists.{lists_kept}
 use Rattle.rule_field_sets.specs.Read.{set_content_at}
 use Rattle.rule_merging.specs.Members.{meant_sets, read_sets}

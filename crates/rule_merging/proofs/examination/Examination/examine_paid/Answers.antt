@@ -1,7 +1,7 @@
 use Rattle.std.proofs.Common.{◌≡◌, ◌∙◌, ◌∷◌, ◌++◌, [], true, false, refl, ap, sym, subst, append-nil}
 use Rattle.std.specs.Prelude.{Some, is_some}
 use Rattle.std.proofs.lemmas.Result.{on_ok_weaker}
-use Rattle.rule_document_ground.specs.Broken.{brokens_of}
+use Rattle.rule_field_sets.specs.in_ground.Broken.{brokens_of}
 use Rattle.rule_merging.specs.Members.{contents_of, meant_sets, AreMembersOf}
 use Rattle.rule_merging.specs.Below.{IsMergedIn, IsPartOfMergedIn}
 use Rattle.rule_merging.specs.Counted.{Pays, IsPaidIf, AreLast, AreListed}

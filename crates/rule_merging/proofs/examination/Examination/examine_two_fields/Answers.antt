@@ -1,6 +1,6 @@
 use Rattle.std.proofs.Common.{◌≡◌, ◌∙◌, ◌++◌, Bool, true, false, List, refl, ap, sym, subst, arith, true≢false}
 use Rattle.std.proofs.lemmas.Result.{on_ok_weaker}
-use Rattle.rule_document_ground.specs.Broken.{brokens_of}
+use Rattle.rule_field_sets.specs.in_ground.Broken.{brokens_of}
 use Rattle.rule_document_definitions.specs.ReadFields.{ReadField}
 use Rattle.rule_field_sets.specs.declared.member.Member.{Member}
 use Rattle.rule_field_sets.specs.declared.field_sets.FieldSets.{FieldSets}

@@ -2,7 +2,7 @@ use Rattle.std.proofs.Common.{◌∷◌, [], List, Contains, ap, subst}
 use Rattle.std.proofs.lemmas.Result.{on_ok_weaker}
 use Rattle.graphql_names.specs.Placed.{Place}
 use Rattle.document_meaning.specs.MeantTree.{MeantOperation, MeantDocument}
-use Rattle.rule_document_ground.specs.Broken.{brokens_of}
+use Rattle.rule_field_sets.specs.in_ground.Broken.{brokens_of}
 use Rattle.rule_merging.specs.Under.{sets_in}
 use Rattle.rule_merging.specs.Members.{meant_sets}
 use Rattle.rule_merging.specs.Counted.{AreListed}

@@ -1,7 +1,7 @@
 use Rattle.std.proofs.Common.{ap, sym, subst}
 use Rattle.rule_definitions.specs.Judged.{judged}
-use Rattle.rule_document_ground.specs.in_schema.SchemaOf.{schema_tree}
-use Rattle.rule_document_ground.specs.Fields.{meant_fragments}
+use Rattle.rule_field_sets.specs.in_ground.in_schema.SchemaOf.{schema_tree}
+use Rattle.rule_field_sets.specs.in_ground.Fields.{meant_fragments}
 use Rattle.rule_merging.specs.Counted.{Account}
 use Rattle.rule_merging.specs.Verdict.{IsCountedIn}
 use Rattle.rule_merging.specs.Remembered.{kept_of}

@@ -1,16 +1,16 @@
 -- What is reached in a typed document, or in a typed field set, is typed by its place.
 use Rattle.std.proofs.Common.{◌≡◌, ◌∙◌, ℕ, suc, List, map, refl, sym, ap, subst, inl, inr, Option, Some, None, Contains, true≢false, is_some}
 use Rattle.std.specs.List.{cons_option}
+use Rattle.std.proofs.lemmas.Option.{same_Some}
 use Rattle.schema_components.proofs.Places.{not_in_nil, only, Contains-cons}
-use Rattle.document_walks.proofs.Finding.{some_is}
 use Rattle.rule_document_definitions.specs.in_document_meaning.MeantTree.{MeantSelection, MeantField, MeantSpread, MeantInline, MeantSet, meant_set, MeantSelections, no_meant, meant_then, MeantOperation, MeantFragment, MeantDocument}
-use Rattle.document_typing.specs.Meanings.{Meanings, inner_type}
-use Rattle.document_typing.specs.TypedByPlace.{IsTyped, IsSetOn, AreTyped, IsOnRoot, IsOnCondition, IsTypedDocument}
+use Rattle.rule_typed_reach.specs.in_typing.Meanings.{Meanings, inner_type}
+use Rattle.rule_typed_reach.specs.in_typing.TypedByPlace.{IsTyped, IsSetOn, AreTyped, IsOnRoot, IsOnCondition, IsTypedDocument}
 use Rattle.rule_document_definitions.specs.Selected.{Position, InFragment, SelectionAt, Standing, StandingField, stand, standing_in, operations, fragment_named, own}
 use Rattle.rule_document_definitions.specs.Reached.{Closed, first, next, LeadsInto, Reached}
 use Rattle.rule_document_definitions.specs.FieldSets.{document_of_set}
-use Rattle.rule_document_ground.specs.Reach.{Member, IsReach}
-use Rattle.rule_document_ground.proofs.Bridge.{from_map, find_stands}
+use Rattle.rule_definitions.proofs.Lookups.{under_given}
+use Rattle.rule_document_definitions.proofs.Unplaced.{contains_unmap}
 
 module _ {P : Type 0} (m : Meanings) where
   -- it is typed where it stands
@@ -32,7 +32,7 @@ module _ {P : Type 0} (m : Meanings) where
     typed_next : (q : Position) (n : List ℕ) (s : MeantSelection P) (y : Standing P) → IsTyped m n s → LeadsInto d (record { position = q; parent = n; it = s }) y → IsTypedThere y
     typed_next q n (MeantField p df h v) y typed (inl (f, (is, c))) =
         let field : StandingField P = record { position = q; parent = n; place = p; definition = df; head = h; set = v } in
-        typed_in_set q (inner_type df) v typed.1.0 y (subst (λ (g : StandingField P). Contains (standing_in g.position g.set) y) (sym (some_is field f is)) c)
+        typed_in_set q (inner_type df) v typed.1.0 y (subst (λ (g : StandingField P). Contains (standing_in g.position g.set) y) (sym (same_Some field f is)) c)
     typed_next q n (MeantField p df h v) y typed (inr (inl c)) = absurd (not_in_nil y c)
     typed_next q n (MeantField p df h v) y typed (inr (inr (k, (is, c)))) = absurd (true≢false (sym (ap is_some is)))
     typed_next q n (MeantSpread p k ds) y typed (inl (f, (is, c))) = absurd (true≢false (sym (ap is_some is)))
@@ -53,16 +53,13 @@ module _ {P : Type 0} (m : Meanings) where
   module _ (d : MeantDocument P) (typed : IsTypedDocument m d) where
     -- its fragments, under their own names
     pub typed_fragment : (n : List ℕ) (f : MeantFragment P) → fragment_named d n ≡ Some f → (f.name.it ≡ n) × IsOnCondition m f
-    typed_fragment n f is =
-        let e = find_stands n d.fragments f is in
-        let t = typed.fragments e.0 e.1.0 in
-        (subst (λ (g : MeantFragment P). g.name.it ≡ n) e.1.1.1 (sym t.0 ∙ e.1.1.0), subst (IsOnCondition m) e.1.1.1 t.1)
+    typed_fragment n f is = let t = typed.fragments (n, f) (under_given n d.fragments f is) in (sym t.0, t.1)
 
     on_root : (o : MeantOperation P) → Contains (operations d) o → IsOnRoot m o
     on_root o c = by d.anonymous refl c
       where
         named : Contains (map (λ e. e.1) d.named) o → IsOnRoot m o
-        named k = let e = from_map (λ e. e.1) d.named o k in subst (IsOnRoot m) e.1.1 (typed.named e.0 e.1.0).1.1
+        named k = let e = contains_unmap (λ e. e.1) d.named o k in subst (IsOnRoot m) e.1.1 (typed.named e.0 e.1.0).1.1
 
         by : (a : Option (MeantOperation P)) → d.anonymous ≡ a → Contains (cons_option a (map (λ e. e.1) d.named)) o → IsOnRoot m o
         by None is k = named k
@@ -76,11 +73,6 @@ module _ {P : Type 0} (m : Meanings) where
     typed_reached o c =
         let root = on_root o c in
         typed_from d (λ n f is. (typed_fragment n f is).1) (own o) (typed_in_set _ root.0 o.set root.1.1)
-
-    pub typed_member : (o : MeantOperation P) → Contains (operations d) o → (reached : List (Member P)) (spread : List (MeantFragment P)) → IsReach d (own o) reached spread → (e : Member P) → Contains reached e → IsTyped m e.0 e.1
-    typed_member o c reached spread reach e k =
-        let x = (reach.selections e).0 k in
-        subst (λ (e : Member P). IsTyped m e.0 e.1) x.1.1 (typed_reached o c x.0 x.1.0)
 
   -- ---- in a field set
 
