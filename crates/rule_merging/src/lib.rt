@@ -1,7 +1,7 @@
 //! Merging of fields: those that may be answered under one key agree (section 5.3.2, "Field Selection Merging").
 //!
-//! All goes by numbers: `rule_field_sets` has the selection sets of a document as nodes, in which equal numbers are equal contents of
-//! fields and of sets. So nothing that is nested is read here, and nothing is compared but numbers.
+//! Numbers are compared, not contents: `rule_field_sets` has the selection sets of a document as nodes, in which equal numbers are equal
+//! contents of fields and of sets. So nothing that is nested is read here.
 //!
 //! Fields are examined in lists: what the set of an operation selects, and then what the sets of each group of a list select, level by
 //! level. Two passes compare the fields of a list (`Pass`): fields of one response key in shape, and fields that one object may have in

@@ -3,7 +3,7 @@ ghost use Rattle.std.specs.Prelude.{◌≡◌, ℕ, ◌+◌, ◌-◌, ◌/◌, �
 
 use std::alloc::{AllocError, Global};
 
-/// How many numbers stand in one word.
+/// How many numbers one word has.
 const WORD: usize = 64;
 
 /// A set of numbers, a bit for each: the words begin near that of the least number, so few are kept where the numbers are close.
