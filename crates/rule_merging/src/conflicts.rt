@@ -20,8 +20,7 @@ use fault_document_data::{
     BuildError, ConflictingFieldArgument, ConflictingFieldName, ConflictingFieldType,
 };
 use graphql_names::{Name, SourceSpan};
-use rule_field_sets::tell_breach;
-use rule_field_sets::{Member, Schema};
+use rule_field_sets::{Member, Schema, tell_breach};
 use rule_same_values::differing_argument;
 use schema_coordinates::{FieldArgumentCoordinate, TypeAttributeCoordinate};
 use std::alloc::{AllocError, Global};
