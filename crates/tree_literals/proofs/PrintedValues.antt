@@ -1,5 +1,5 @@
 -- The texts of the members of lists and objects, one by one.
-use Rattle.std.proofs.Common.{◌≡◌, ◌≤◌, ◌<◌, ◌+◌, arith, codes, ℕ, List, [], ◌∷◌, length, take, map, true, refl, ap}
+use Rattle.std.proofs.Common.{◌≡◌, ◌≤◌, ℕ, List, [], ◌∷◌, length, take, map, refl, ap}
 use Rattle.std.proofs.lemmas.List.{take_all}
 use Rattle.tree_strings.specs.Joined.{joined, further_text, separated}
 use Rattle.tree_strings.specs.in_names.Node.{content}

@@ -1,6 +1,6 @@
 -- Types and values that the grammar can write (GraphQL, October 2021, appendix B): what it asks of a tree beside its
 -- form. Names and numbers are well formed by their types.
-use Rattle.std.specs.Prelude.{ℕ, Bool, true, false, not, ◌&&◌, List, codes, nat_eq, Option, None, Some}
+use Rattle.std.specs.Prelude.{ℕ, Bool, true, not, ◌&&◌, List, codes, nat_eq, Option, None, Some}
 use Rattle.std.specs.Cmp.Lexicographic.{pointwise}
 use Rattle.tree_strings.specs.in_names.Placed.{Placed}
 use Rattle.tree_literals.specs.TypeTree.{TypeTree, NamedTree, NonNullNamedTree, ListTree as ListTypeTree, NonNullListTree}

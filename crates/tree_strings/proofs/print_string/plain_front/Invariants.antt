@@ -1,4 +1,4 @@
-use Rattle.std.proofs.Common.{◌≡◌, ℕ, ◌+◌, ◌-◌, ◌<◌, ◌≤◌, length, get_or, false}
+use Rattle.std.proofs.Common.{◌≡◌, ℕ, ◌-◌, ◌<◌, ◌≤◌, length, get_or, false}
 use Rattle.tree_strings.specs.EscapeRuns.{must_escape}
 use Rattle.tree_strings.proofs.print_string.plain_front.Given as goal
 
