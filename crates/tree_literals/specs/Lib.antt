@@ -16,3 +16,4 @@ pub use Rattle.tree_strings.specs.LineLayout
 pub use Rattle.tree_strings.specs.StringLayout
 pub use Rattle.tree_strings.specs.EscapeRuns
 pub use Rattle.tree_strings.specs.in_names as in_names
+pub use Rattle.tree_strings.specs as in_strings

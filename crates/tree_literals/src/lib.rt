@@ -9,6 +9,7 @@
 #![tactic(auto)]
 
 mod copies;
+mod level;
 mod number;
 mod number_parts;
 mod print_value;
@@ -20,6 +21,7 @@ mod value;
 mod writable;
 
 pub use copies::{copies_of_five, copies_of_four, copies_of_three, copies_of_two};
+pub use level::Level;
 pub use number::{FloatValue, IntValue};
 pub use print_value::{put_default, put_named_value, put_type};
 pub use serialize::{Serialize, Tree};
@@ -29,6 +31,6 @@ pub use writable::{can_be_enum, default_is_writable, value_is_writable};
 
 // Of the crates beneath, for those above.
 pub use tree_strings::{
-    Cause, FileId, Level, Name, Node, NodeStr, Sink, SourceSpan, Spent, WriteFault, put_break,
+    Cause, FileId, Name, Node, NodeStr, Sink, SourceSpan, Spent, WriteFault, put_break,
     put_description, put_quoted, put_start,
 };
