@@ -7,7 +7,7 @@ use Rattle.std.proofs.lemmas.List.Concat.{flat_map-append}
 use Rattle.std.proofs.lemmas.List.Sums.{sum-map, sum_by-append}
 use Rattle.std.proofs.lemmas.List.Sorted.{sum_by-IsPermutation}
 use Rattle.std.proofs.Math.Seq.{drop-cons}
-use Rattle.rule_merging.proofs.Lists.{taken_more}
+use Rattle.rule_field_groups.proofs.Lists.{taken_more}
 
 pub sums : {X : Type 0} (f : X → ℕ) (xs ys : List X) → sum (map f (xs ++ ys)) ≡ sum (map f xs) + sum (map f ys)
 sums f xs ys = omega (arith, sum-map f (xs ++ ys), sum-map f xs, sum-map f ys, sum_by-append f xs ys)

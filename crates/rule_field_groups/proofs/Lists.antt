@@ -7,13 +7,13 @@ use Rattle.std.proofs.lemmas.List.{take_more, length_push, get_or_append_left}
 use Rattle.std.proofs.lemmas.List.Elements.{Contains-append_right, Contains-get_or}
 use Rattle.std.proofs.lemmas.Option.{slice_get_within, slice_get-get_or, get_or_from_slice_get}
 use Rattle.std.proofs.Math.Seq.{get_or-append_seam}
-use Rattle.schema_components.proofs.Places.{Contains-rest}
-use Rattle.rule_definitions.proofs.Lists.{not_in_nil, Contains-cons, Contains-first}
+use Rattle.rule_same_values.proofs.in_definitions.in_schema_types.in_components.Places.{Contains-rest}
+use Rattle.rule_same_values.proofs.in_definitions.Lists.{not_in_nil, Contains-cons, Contains-first}
 use Rattle.rule_cycle_search.specs.Paths.{HasNoRepeat}
-use Rattle.rule_document_definitions.specs.ReadFields.{ReadField, field_read}
-use Rattle.rule_document_definitions.proofs.Unplaced.{contains_map, contains_unmap}
+use Rattle.rule_same_values.specs.in_document_definitions.ReadFields.{ReadField, field_read}
+use Rattle.rule_same_values.proofs.in_document_definitions.Unplaced.{contains_map, contains_unmap}
 use Rattle.rule_field_sets.specs.declared.member.Member.{Member}
-use Rattle.rule_merging.specs.Members.{field_of, fields_of, content_of, contents_of}
+use Rattle.rule_field_groups.specs.Members.{field_of, fields_of, content_of, contents_of}
 
 pub in_last : {X : Type 0} (xs : List X) (x : X) → Contains (xs ++ x ∷ []) x
 in_last xs x = Contains-append_right xs (x ∷ []) x (Contains-first x [] x refl)

@@ -4,19 +4,20 @@ use Rattle.std.proofs.lemmas.List.{map-append, take_more}
 use Rattle.std.proofs.lemmas.List.Elements.{Contains-append_left, Contains-append_right, Contains-append_cases}
 use Rattle.std.proofs.lemmas.List.Sorted.{IsPermutation-sym, Contains-permutation}
 use Rattle.graphql_names.specs.Placed.{Place}
-use Rattle.document_meaning.specs.MeantTree.{MeantSet}
+use Rattle.rule_same_values.specs.in_meaning.MeantTree.{MeantSet}
 use Rattle.rule_cycle_search.proofs.Lists.{not_in_nil, only, Contains-cons, Contains-first}
 use Rattle.rule_number_lists.specs.NumberLists.{HaveSame}
 use Rattle.rule_number_lists.proofs.Standing.{in_map, of_map, same_order}
 use Rattle.rule_number_lists.proofs.Few.{in_rest}
 use Rattle.rule_number_lists.proofs.Rows.{exchanged_two}
-use Rattle.rule_document_definitions.specs.ReadFields.{ReadSet}
+use Rattle.rule_same_values.specs.in_document_definitions.ReadFields.{ReadSet}
 use Rattle.rule_field_sets.specs.declared.field_sets.FieldSets.{FieldSets}
-use Rattle.rule_merging.specs.declared.remembered.Pair.{Pair}
-use Rattle.rule_merging.specs.Members.{read_sets}
-use Rattle.rule_merging.specs.Remembered.{Kept, HasLooked, LooksAt, two_of}
-use Rattle.rule_merging.specs.Examined.{Sets, AreTwosOf}
-use Rattle.rule_merging.specs.Pairs.{Looks, each_with}
+use Rattle.rule_field_groups.specs.declared.remembered.Pair.{Pair}
+use Rattle.rule_field_groups.specs.Members.{read_sets}
+use Rattle.rule_field_groups.specs.Remembered.{Kept, HasLooked, LooksAt, two_of}
+use Rattle.rule_field_groups.specs.Under.{Sets}
+use Rattle.rule_field_groups.specs.Pairs.{AreTwosOf}
+use Rattle.rule_field_groups.specs.Pairs.{Looks, each_with}
 
 -- nothing is looked at
 pub looks_none : (old : Kept) → Looks [] old old

@@ -6,25 +6,25 @@ use Rattle.std.specs.Option.{option_map_or}
 use Rattle.std.specs.Str.{bytes_eq}
 use Rattle.std.proofs.lemmas.Option.{slice_get-get_or, slice_get_within}
 use Rattle.graphql_names.specs.NameValue.{NameValue}
+use Rattle.graphql_names.specs.Node.{content}
 use Rattle.graphql_names.specs.Placed.{Place, Placed, node_tree}
 use Rattle.graphql_names.specs.declared.node.Node.{Node}
 use Rattle.schema_types.specs.TypeView.{name_text}
-use Rattle.document_meaning.specs.MeantTree.{MeantSet, MeantFragment, MeantDocument, meant_of_set}
+use Rattle.rule_same_values.specs.in_meaning.MeantTree.{MeantSet, MeantFragment, MeantDocument, meant_of_set}
 use Rattle.rule_field_sets.specs.in_ground.in_typed_operations.DocumentView.{meant_by_fragment}
-use Rattle.document_typed_operations.specs.TypedDocument.{TypedFragment, typed_fragment_tree}
-use Rattle.document_typed_operations.specs.declared.operation.Fragment.{Fragment}
-use Rattle.document_walks.specs.Reached.{NamedSet, Fragments, fragment_named}
-use Rattle.document_walks.specs.WalkView.{fragment_set}
-use Rattle.rule_definitions.specs.in_schema_types.Addresses.{under}
-use Rattle.rule_definitions.proofs.Lists.{not_in_nil, Contains-first, only, mapped_some}
-use Rattle.rule_document_definitions.specs.Selected.{InOperation, StandingField}
-use Rattle.rule_document_definitions.specs.Reached.{Closed, first, next}
-use Rattle.rule_document_definitions.specs.Written.{fields_written, spreads_written, SpreadsSet, IsSetFrom, HasContent}
-use Rattle.rule_document_definitions.specs.PlainFields.{IsSelected}
-use Rattle.rule_document_definitions.specs.ReadFields.{ReadField, ReadSet, listed, fields_read, field_read, list_read}
-use Rattle.rule_document_definitions.proofs.Unplaced.{contains_map, contains_unmap, closed_map, closed_unmap}
-use Rattle.rule_document_definitions.proofs.ReadFacts.{read_written}
-use Rattle.rule_document_definitions.proofs.WrittenFacts.{written_from}
+use Rattle.rule_field_sets.specs.in_ground.in_typed_operations.TypedDocument.{TypedFragment, typed_fragment_tree}
+use Rattle.rule_field_sets.specs.in_ground.in_typed_operations.declared.operation.Fragment.{Fragment}
+use Rattle.document_typed_selections.specs.TypedTree.{TypedSet, typed_set_tree}
+use Rattle.rule_same_values.specs.in_definitions.in_schema_types.Addresses.{under}
+use Rattle.rule_same_values.proofs.in_definitions.Lists.{not_in_nil, Contains-first, only, mapped_some}
+use Rattle.rule_same_values.specs.in_document_definitions.Selected.{InOperation, StandingField}
+use Rattle.rule_same_values.specs.in_document_definitions.Reached.{Closed, first, next}
+use Rattle.rule_same_values.specs.in_document_definitions.Written.{fields_written, spreads_written, SpreadsSet, IsSetFrom, HasContent}
+use Rattle.rule_same_values.specs.in_document_definitions.PlainFields.{IsSelected}
+use Rattle.rule_same_values.specs.in_document_definitions.ReadFields.{ReadField, ReadSet, listed, fields_read, fields_in, spreads_in, field_read, list_read}
+use Rattle.rule_same_values.proofs.in_document_definitions.Unplaced.{contains_map, contains_unmap, closed_map, closed_unmap}
+use Rattle.rule_same_values.proofs.in_document_definitions.ReadFacts.{read_written}
+use Rattle.rule_same_values.proofs.in_document_definitions.WrittenFacts.{written_from}
 use Rattle.rule_field_sets.specs.in_ground.Fields.{meant_fragments}
 use Rattle.rule_field_sets.specs.declared.field_sets.FieldSets.{FieldSets}
 use Rattle.rule_field_sets.specs.declared.member.Member.{Member}
@@ -34,26 +34,35 @@ use Rattle.rule_field_sets.specs.Read.{set_at, no_selections}
 use Rattle.rule_field_sets.proofs.Meaning.{set_of_node}
 use Rattle.rule_field_sets.proofs.Once.{inside}
 use Rattle.rule_field_sets.proofs.Reading.{fields_as_written, spreads_as_written}
-use Rattle.rule_merging.specs.Members.{field_of, content_of}
-use Rattle.rule_merging.specs.Examined.{ReadOwn, ReadSpreads, SelectsAsMuch}
-use Rattle.rule_merging.specs.NodeWalk.{SpreadsNode, IsNodeFrom}
+use Rattle.rule_field_groups.specs.Members.{field_of, content_of}
+use Rattle.rule_field_groups.specs.NodeWalk.{SpreadsNode, IsNodeFrom}
 
 -- ---- fragments by name
+
+-- a fragment's name with its set, and the one of a name, as the nodes of fragments are told of
+abbrev NamedSet : Type 0
+NamedSet = List ℕ × TypedSet Place
+
+abbrev fragment_named : List NamedSet → List ℕ → Option NamedSet
+fragment_named fragments n = find (λ f. bytes_eq n f.0) fragments
+
+abbrev fragment_set : Node Fragment → TypedSet Place
+fragment_set n = typed_set_tree (content {A = Fragment} n).selection_set
 
 abbrev meant_in : List (NameValue × Node Fragment) → List (List ℕ × MeantFragment Place)
 meant_in es = map (λ (e : List ℕ × Placed Place (TypedFragment Place)). (e.0, meant_by_fragment e.1)) (map (λ (e : NameValue × Node Fragment). (name_text e.0, node_tree typed_fragment_tree e.1)) es)
 
-abbrev sets_in : List (NameValue × Node Fragment) → Fragments Place
+abbrev sets_in : List (NameValue × Node Fragment) → List NamedSet
 sets_in es = map (λ (e : NameValue × Node Fragment). (e.0.text, fragment_set e.1)) es
 
 -- the set that is meant by a fragment's name
-found_set : (n : List ℕ) (es : List (NameValue × Node Fragment)) → option_map (λ (f : MeantFragment Place). f.set) (under n (meant_in es)) ≡ option_map (λ (f : NamedSet Place). meant_of_set f.1) (fragment_named (sets_in es) n)
+found_set : (n : List ℕ) (es : List (NameValue × Node Fragment)) → option_map (λ (f : MeantFragment Place). f.set) (under n (meant_in es)) ≡ option_map (λ (f : NamedSet). meant_of_set f.1) (fragment_named (sets_in es) n)
 found_set n [] = refl
 found_set n (e ∷ es) = by (bytes_eq n e.0.text) (found_set n es)
   where
-    by : (b : Bool) → option_map (λ (f : MeantFragment Place). f.set) (under n (meant_in es)) ≡ option_map (λ (f : NamedSet Place). meant_of_set f.1) (fragment_named (sets_in es) n)
+    by : (b : Bool) → option_map (λ (f : MeantFragment Place). f.set) (under n (meant_in es)) ≡ option_map (λ (f : NamedSet). meant_of_set f.1) (fragment_named (sets_in es) n)
         → option_map (λ (f : MeantFragment Place). f.set) (option_map (λ (x : List ℕ × MeantFragment Place). x.1) (if b then Some (e.0.text, meant_by_fragment (node_tree typed_fragment_tree e.1)) else find (λ (x : List ℕ × MeantFragment Place). bytes_eq n x.0) (meant_in es)))
-        ≡ option_map (λ (f : NamedSet Place). meant_of_set f.1) (if b then Some (e.0.text, fragment_set e.1) else fragment_named (sets_in es) n)
+        ≡ option_map (λ (f : NamedSet). meant_of_set f.1) (if b then Some (e.0.text, fragment_set e.1) else fragment_named (sets_in es) n)
     by true rest = refl
     by false rest = rest
 
@@ -96,35 +105,35 @@ module _ (w : FieldSets) (are : AreSets w) (starts : HasAllStarts w) where
   -- ---- the fragments that it spreads
 
   -- the node of a fragment has its set
-  start_set : (p m : ℕ) → slice_get (fragment_nodes w) p ≡ Some m → (f : NamedSet Place) → slice_get (fragments_in w) p ≡ Some f → set_at w m ≡ meant_of_set f.1
+  start_set : (p m : ℕ) → slice_get (fragment_nodes w) p ≡ Some m → (f : NamedSet) → slice_get (fragments_in w) p ≡ Some f → set_at w m ≡ meant_of_set f.1
   start_set p m start f stands =
       let g = are.starts.each p m start in
       let same : g.0 ≡ f = inside g.0 f (sym g.1.0 ∙ stands) in
       let u = g.1.1 in
-      set_of_node w m u.0 u.1.0 ∙ ap meant_of_set (u.1.1 ∙ ap (λ (h : NamedSet Place). h.1) same)
+      set_of_node w m u.0 u.1.0 ∙ ap meant_of_set (u.1.1 ∙ ap (λ (h : NamedSet). h.1) same)
 
   -- each fragment has a node
-  has_start : (p : ℕ) (f : NamedSet Place) → slice_get (fragments_in w) p ≡ Some f → (m : ℕ) × (slice_get (fragment_nodes w) p ≡ Some m)
+  has_start : (p : ℕ) (f : NamedSet) → slice_get (fragments_in w) p ≡ Some f → (m : ℕ) × (slice_get (fragment_nodes w) p ≡ Some m)
   has_start p f stands =
       let within : p < length (fragments_in w) = slice_get_within (fragments_in w) p f stands in
       let here : p < length (fragment_nodes w) = omega (arith, within, starts) in
       (get_or (fragment_nodes w) p 0, slice_get-get_or (fragment_nodes w) p 0 here)
 
   module _ (d : MeantDocument Place) (same : meant_fragments w.fragments.now ≡ d.fragments) where
-    set_named : (n : List ℕ) (f : NamedSet Place) → fragment_named (fragments_in w) n ≡ Some f → option_map (λ (g : MeantFragment Place). g.set) (under n d.fragments) ≡ Some (meant_of_set f.1)
+    set_named : (n : List ℕ) (f : NamedSet) → fragment_named (fragments_in w) n ≡ Some f → option_map (λ (g : MeantFragment Place). g.set) (under n d.fragments) ≡ Some (meant_of_set f.1)
     set_named n f named =
         ap (λ es. option_map (λ (g : MeantFragment Place). g.set) (under n es)) (sym same)
-        ∙ (found_set n w.fragments.now.entries ∙ ap (option_map (λ (g : NamedSet Place). meant_of_set g.1)) named)
+        ∙ (found_set n w.fragments.now.entries ∙ ap (option_map (λ (g : NamedSet). meant_of_set g.1)) named)
 
-    named_set : (n : List ℕ) (t : MeantSet Place) → option_map (λ (g : MeantFragment Place). g.set) (under n d.fragments) ≡ Some t → (f : NamedSet Place) × ((fragment_named (fragments_in w) n ≡ Some f) × (meant_of_set f.1 ≡ t))
+    named_set : (n : List ℕ) (t : MeantSet Place) → option_map (λ (g : MeantFragment Place). g.set) (under n d.fragments) ≡ Some t → (f : NamedSet) × ((fragment_named (fragments_in w) n ≡ Some f) × (meant_of_set f.1 ≡ t))
     named_set n t is =
         let back = sym (ap (λ es. option_map (λ (g : MeantFragment Place). g.set) (under n es)) (sym same) ∙ found_set n w.fragments.now.entries) ∙ is in
-        let f = mapped_some (λ (g : NamedSet Place). meant_of_set g.1) (fragment_named (fragments_in w) n) t back in
+        let f = mapped_some (λ (g : NamedSet). meant_of_set g.1) (fragment_named (fragments_in w) n) t back in
         (f.0, (f.1.0, sym f.1.1))
 
     module _ (n : ℕ) (v : SetNode) (at : slice_get (set_nodes w) n ≡ Some v) where
       -- what is read of its own fields
-      pub read_own : (x : ReadField) → ReadOwn d (list_read (set_at w n)) x ↔ ((m : Member) × (Contains v.members.items m × (content_of m ≡ x)))
+      pub read_own : (x : ReadField) → Contains (fields_in (list_read (set_at w n))) x ↔ ((m : Member) × (Contains v.members.items m × (content_of m ≡ x)))
       read_own x =
           let all : listed (fields_read (set_at w n)) ≡ map field_read (fields_written (set_at w n)) = read_written (set_at w n) in (
             λ c.
@@ -156,10 +165,10 @@ module _ (w : FieldSets) (are : AreSets w) (starts : HasAllStarts w) where
           let its = p.1.1 in
           let g : its.fragment ≡ f.0 = inside its.fragment f.0 (sym its.named ∙ f.1.0) in
           let k = has_start p.0 its.fragment its.stands in
-          (p.0, (p.1.0, (k.0, (k.1, start_set p.0 k.0 k.1 its.fragment its.stands ∙ (ap (λ (h : NamedSet Place). meant_of_set h.1) g ∙ f.1.1)))))
+          (p.0, (p.1.0, (k.0, (k.1, start_set p.0 k.0 k.1 its.fragment its.stands ∙ (ap (λ (h : NamedSet). meant_of_set h.1) g ∙ f.1.1)))))
 
       -- what is read of the sets that it spreads
-      pub read_spreads : (b : ReadSet) → ReadSpreads d (list_read (set_at w n)) b
+      pub read_spreads : (b : ReadSet) → ((a : List ℕ) × (Contains (spreads_in (list_read (set_at w n))) a × (option_map (λ (g : MeantFragment Place). list_read g.set) (under a d.fragments) ≡ Some b)))
           ↔ ((p : ℕ) × (Contains v.spreads.items p × ((k : ℕ) × ((slice_get (fragment_nodes w) p ≡ Some k) × (list_read (set_at w k) ≡ b)))))
       read_spreads b = (
         λ h.
@@ -216,7 +225,7 @@ module _ (w : FieldSets) (are : AreSets w) (starts : HasAllStarts w) where
     member_selected n v at m c = selected_from n n v m (first refl) at c
 
     -- what the set of a fragment that it spreads selects, it selects
-    pub spread_selects : (n k : ℕ) → SpreadsNode w n k → SelectsAsMuch d (set_at w n ∷ []) (set_at w k ∷ [])
+    pub spread_selects : (n k : ℕ) → SpreadsNode w n k → (x : StandingField Place) → IsSelected d (set_at w k ∷ []) x → IsSelected d (set_at w n ∷ []) x
     spread_selects n k leads x (s, (c, has)) =
         let t = (written_from d (InOperation None) (set_at w k) x).0 (subst (λ z. HasContent d (InOperation None) z x) (only (set_at w k) s c) has) in
         let m = from_up k t.0 t.1.0 in

@@ -2,13 +2,13 @@
 use Rattle.std.proofs.Common.{◌≡◌, ◌⊎◌, ◌∙◌, List, [], ◌∷◌, ◌++◌, map, Contains, refl, sym, ap, inl, inr}
 use Rattle.std.proofs.lemmas.List.{map-append}
 use Rattle.std.proofs.lemmas.List.Elements.{Contains-append_left}
-use Rattle.schema_components.proofs.Places.{not_in_nil, only, Contains-first}
-use Rattle.rule_document_definitions.proofs.Unplaced.{contains_map, contains_unmap}
+use Rattle.rule_same_values.proofs.in_definitions.in_schema_types.in_components.Places.{not_in_nil, only, Contains-first}
+use Rattle.rule_same_values.proofs.in_document_definitions.Unplaced.{contains_map, contains_unmap}
 use Rattle.std.proofs.lemmas.Simd.{map-map}
-use Rattle.rule_merging.specs.Members.{field_of, fields_of}
+use Rattle.rule_field_groups.specs.Members.{field_of, fields_of}
 use Rattle.rule_field_sets.specs.declared.member.Member.{Member}
-use Rattle.rule_merging.specs.declared.groups.OwnFields.{OwnFields}
-use Rattle.rule_merging.specs.KeyGroups.{with_own}
+use Rattle.rule_field_groups.specs.declared.groups.OwnFields.{OwnFields}
+use Rattle.rule_field_groups.specs.KeyGroups.{with_own}
 
 module _ {X : Type 0} where
   -- one part has all that is shared

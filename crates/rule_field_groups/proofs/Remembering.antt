@@ -3,7 +3,7 @@ use Rattle.std.proofs.Common.{◌≡◌, ◌⊎◌, ◌∙◌, ℕ, ◌+◌, ◌
 use Rattle.std.specs.Prelude.{Result, Ok, Err, OnErr}
 use Rattle.std.proofs.lemmas.List.{length-map}
 use Rattle.graphql_names.specs.Placed.{Place}
-use Rattle.document_meaning.specs.MeantTree.{MeantSet}
+use Rattle.rule_same_values.specs.in_meaning.MeantTree.{MeantSet}
 use Rattle.rule_cycle_search.specs.Paths.{HasNoRepeat}
 use Rattle.rule_cycle_search.proofs.Lists.{Contains-first}
 use Rattle.rule_number_lists.specs.NumberLists.{Keeps, list_of, lists_kept}
@@ -15,18 +15,17 @@ use Rattle.rule_number_lists.proofs.Standing.{in_map, of_map}
 use Rattle.rule_number_lists.proofs.Few.{in_rest}
 use Rattle.rule_number_lists.proofs.Sets.{numbers_once, was_there}
 use Rattle.rule_number_lists.proofs.Said.{list_said, unlike_said, apart_said, say_both, pair_said}
-use Rattle.rule_document_definitions.specs.ReadFields.{ReadField, ReadSet, field_read, list_read}
+use Rattle.rule_same_values.specs.in_document_definitions.ReadFields.{ReadField, ReadSet, field_read, list_read}
 use Rattle.rule_field_sets.specs.Nodes.{AreSets, HasMember}
 use Rattle.rule_field_sets.specs.Read.{content_at, set_content_at}
 use Rattle.rule_field_sets.specs.declared.member.Member.{Member}
 use Rattle.rule_field_sets.specs.declared.field_sets.FieldSets.{FieldSets}
 use Rattle.rule_field_sets.proofs.Meaning.{content_of_member, content_injective}
-use Rattle.rule_merging.specs.Members.{field_of, fields_of, content_of, contents_of, read_sets, AreMembersOf}
-use Rattle.rule_merging.specs.Twos.{contents_of_two}
-use Rattle.rule_merging.specs.Counted.{Account, IsWithin, most_members, Meets, OnlyMeets, Pays}
-use Rattle.rule_merging.specs.Under.{sets_in}
-use Rattle.rule_merging.specs.Remembered.{Kept, kept_of, account_of, Remembers, LooksAt, Expands, IsKnown}
-use Rattle.rule_merging.specs.declared.remembered.Remembered.{Remembered}
+use Rattle.rule_field_groups.specs.Members.{field_of, fields_of, content_of, contents_of, read_sets, AreMembersOf, contents_of_two}
+use Rattle.rule_field_groups.specs.Paid.{Account, IsWithin, most_members, Meets, OnlyMeets, Pays}
+use Rattle.rule_field_groups.specs.Under.{sets_in}
+use Rattle.rule_field_groups.specs.Remembered.{Kept, kept_of, account_of, Remembers, LooksAt, Expands, IsKnown}
+use Rattle.rule_field_groups.specs.declared.remembered.Remembered.{Remembered}
 
 abbrev pub number_of : Member → ℕ
 number_of m = m.number

@@ -9,21 +9,21 @@ use Rattle.std.proofs.lemmas.Map.Views.{Contains-from_any, list_any-from_Contain
 use Rattle.std.proofs.lemmas.Cmp.{nat_eq_equiv}
 use Rattle.indexmap.specs.IndexSet.{insert_key}
 use Rattle.graphql_names.specs.Placed.{Place}
-use Rattle.document_meaning.specs.MeantTree.{MeantSet, meant_set, no_meant, meant_then, meant_of_set}
-use Rattle.rule_definitions.proofs.Lists.{not_in_nil, only}
-use Rattle.rule_document_definitions.specs.ReadFields.{ReadSet, list_read}
-use Rattle.rule_document_definitions.specs.Selected.{StandingField, HasNone}
-use Rattle.rule_document_definitions.proofs.Unplaced.{contains_map}
+use Rattle.rule_same_values.specs.in_meaning.MeantTree.{MeantSet, meant_set, no_meant, meant_then, meant_of_set}
+use Rattle.rule_same_values.proofs.in_definitions.Lists.{not_in_nil, only}
+use Rattle.rule_same_values.specs.in_document_definitions.ReadFields.{ReadSet, list_read}
+use Rattle.rule_same_values.specs.in_document_definitions.Selected.{StandingField, HasNone}
+use Rattle.rule_same_values.proofs.in_document_definitions.Unplaced.{contains_map}
 use Rattle.rule_field_sets.specs.Nodes.{AreSets, HasMember, IsNodeBelow, own_set, set_nodes}
 use Rattle.rule_field_sets.specs.Read.{set_at, set_content_at, node_read}
 use Rattle.rule_field_sets.specs.declared.field_sets.FieldSets.{FieldSets}
 use Rattle.rule_field_sets.specs.declared.member.Member.{Member}
 use Rattle.rule_field_sets.proofs.Meaning.{set_of_node}
-use Rattle.rule_merging.specs.Members.{field_of, fields_of, meant_sets, read_sets}
-use Rattle.rule_merging.specs.Below.{IsBare, AreSetsOf, NotesSet}
-use Rattle.rule_merging.specs.Under.{AreNumbered, AddsNode}
-use Rattle.rule_merging.specs.declared.below.SetsBelow.{SetsBelow}
-use Rattle.rule_merging.proofs.Lists.{in_last, taken_more, beside}
+use Rattle.rule_field_groups.specs.Members.{field_of, fields_of, meant_sets, read_sets}
+use Rattle.rule_field_groups.specs.Below.{IsBare, AreSetsOf, NotesSet}
+use Rattle.rule_field_groups.specs.Under.{AreNumbered, AddsNode}
+use Rattle.rule_field_groups.specs.declared.below.SetsBelow.{SetsBelow}
+use Rattle.rule_field_groups.proofs.Lists.{in_last, taken_more, beside}
 
 -- ---- the set of a member
 

@@ -5,12 +5,12 @@ use Rattle.graphql_names.specs.Node.{content}
 use Rattle.tree_literals.specs.TypeTree.{type_tree, unplaced_type}
 use Rattle.tree_literals.specs.declared.ty.«Type».{«Type»}
 use Rattle.document_typed_selections.specs.declared.selection.Field.{Field}
-use Rattle.rule_definitions.specs.Judged.{Judged}
-use Rattle.rule_document_definitions.specs.Merging.{SameShape}
-use Rattle.rule_merging.specs.Members.{field_of}
+use Rattle.rule_same_values.specs.in_definitions.Judged.{Judged}
+use Rattle.rule_same_values.specs.in_document_definitions.Merging.{SameShape}
+use Rattle.rule_field_groups.specs.Members.{field_of}
 use Rattle.rule_field_sets.specs.declared.member.Member.{Member}
-use Rattle.rule_merging.specs.Shapes.{same_type}
-use Rattle.rule_merging.proofs.Shaped.{same_type-Decides}
+use Rattle.rule_field_groups.specs.Shapes.{same_type}
+use Rattle.rule_field_groups.proofs.Shaped.{same_type-Decides}
 
 -- the type of a field is that of its definition
 type_of : (x : Member) (f : Field) (t : «Type») → f ≡ content x.selection.field.now → type_tree t ≡ type_tree (content f.definition).ty → unplaced_type (type_tree t) ≡ (field_of x).definition.ty

@@ -7,27 +7,27 @@ use Rattle.std.proofs.lemmas.List.Elements.{Contains-append_left, Contains-appen
 use Rattle.std.proofs.lemmas.List.Sums.{sum_by-cons}
 use Rattle.std.proofs.lemmas.Slice.Eq.{bytes_eq-Decides}
 use Rattle.graphql_names.specs.Placed.{Place}
-use Rattle.schema_components.proofs.Places.{not_in_nil, only, Contains-cons, Contains-first}
-use Rattle.rule_definitions.specs.Judged.{Judged}
-use Rattle.rule_document_definitions.specs.Groups.{AreGroups}
-use Rattle.rule_document_definitions.specs.Selected.{StandingField, response_key}
-use Rattle.rule_document_definitions.proofs.Unplaced.{contains_map, contains_unmap}
-use Rattle.rule_merging.specs.Members.{field_of, fields_of}
+use Rattle.rule_same_values.proofs.in_definitions.in_schema_types.in_components.Places.{not_in_nil, only, Contains-cons, Contains-first}
+use Rattle.rule_same_values.specs.in_definitions.Judged.{Judged}
+use Rattle.rule_same_values.specs.in_document_definitions.Groups.{AreGroups}
+use Rattle.rule_same_values.specs.in_document_definitions.Selected.{StandingField, response_key}
+use Rattle.rule_same_values.proofs.in_document_definitions.Unplaced.{contains_map, contains_unmap}
+use Rattle.rule_field_groups.specs.Members.{field_of, fields_of}
 use Rattle.rule_field_sets.specs.declared.member.Member.{Member}
-use Rattle.rule_document_definitions.specs.Sharing.{AreKeyGroups, AreShareGroups, IsOn}
-use Rattle.rule_document_definitions.proofs.SharingFacts.{key_groups, share_groups}
-use Rattle.rule_merging.specs.Compared.{compared}
-use Rattle.rule_merging.specs.Kinds.{is_abstract}
-use Rattle.rule_merging.specs.Passes.{Together}
-use Rattle.rule_merging.specs.declared.pass.Pass.{Pass}
-use Rattle.rule_merging.specs.declared.pass.Pass.TheVariants.{Shapes, Selections}
-use Rattle.rule_merging.specs.declared.groups.KeyGroup.{KeyGroup}
-use Rattle.rule_merging.specs.Grouped.{key_of, parent_of, has, IsPartOf, ArePartsOf, AreFiled, AreParentGroups, IsOnOne}
-use Rattle.rule_merging.specs.KeyGroups.{is_shared, own_lists, with_own, parts_of, parts_in, lists_in_group, compared_in, ArePartsFor}
-use Rattle.rule_merging.proofs.Counts.{sums, flat_push, split_length}
-use Rattle.rule_merging.proofs.Filing.{in_filter, of_filter, all_pass, part_of_part}
-use Rattle.rule_merging.proofs.Parts.{part_of_shared, part_of_own, of_parts}
-use Rattle.rule_merging.proofs.Shaped.{is_abstract_so, so_is_abstract}
+use Rattle.rule_same_values.specs.in_document_definitions.Sharing.{AreKeyGroups, AreShareGroups, IsOn}
+use Rattle.rule_same_values.proofs.in_document_definitions.SharingFacts.{key_groups, share_groups}
+use Rattle.rule_field_groups.specs.Compared.{compared}
+use Rattle.rule_field_groups.specs.Kinds.{is_abstract}
+use Rattle.rule_field_groups.specs.Passes.{Together}
+use Rattle.rule_field_groups.specs.declared.pass.Pass.{Pass}
+use Rattle.rule_field_groups.specs.declared.pass.Pass.TheVariants.{Shapes, Selections}
+use Rattle.rule_field_groups.specs.declared.groups.KeyGroup.{KeyGroup}
+use Rattle.rule_field_groups.specs.Grouped.{key_of, parent_of, has, IsPartOf, ArePartsOf, AreFiled, AreParentGroups, IsOnOne}
+use Rattle.rule_field_groups.specs.KeyGroups.{is_shared, own_lists, with_own, parts_of, parts_in, lists_in_group, compared_in, ArePartsFor}
+use Rattle.rule_field_groups.proofs.Counts.{sums, flat_push, split_length}
+use Rattle.rule_field_groups.proofs.Filing.{in_filter, of_filter, all_pass, part_of_part}
+use Rattle.rule_field_groups.proofs.Parts.{part_of_shared, part_of_own, of_parts}
+use Rattle.rule_field_groups.proofs.Shaped.{is_abstract_so, so_is_abstract}
 
 named_so : (n m : List ℕ) → bytes_eq n m ≡ true → n ≡ m
 named_so n m e = (bytes_eq-Decides n m).0 e

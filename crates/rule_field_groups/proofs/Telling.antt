@@ -6,25 +6,25 @@ use Rattle.std.proofs.lemmas.List.{map-append, take_more, take_all, take-append-
 use Rattle.std.proofs.lemmas.List.Elements.{Contains-append_left, Contains-append_right, Contains-append_cases, Contains-get_or}
 use Rattle.graphql_names.specs.Placed.{Place}
 use Rattle.fault_document_data.specs.declared.build_error.BuildError.{BuildError}
-use Rattle.schema_components.proofs.Places.{not_in_nil, only, Contains-cons, Contains-first, Contains-rest}
-use Rattle.rule_definitions.specs.Judged.{Judged}
-use Rattle.rule_document_definitions.specs.DocumentFaults.{Broken}
-use Rattle.rule_document_definitions.specs.Selected.{StandingField}
-use Rattle.rule_document_definitions.specs.Groups.{AgreeWithHead}
-use Rattle.rule_document_definitions.proofs.Equivalences.{shape_sym, shape_trans, selection_sym, selection_trans}
-use Rattle.rule_document_definitions.proofs.Unplaced.{contains_map, contains_unmap}
+use Rattle.rule_same_values.proofs.in_definitions.in_schema_types.in_components.Places.{not_in_nil, only, Contains-cons, Contains-first, Contains-rest}
+use Rattle.rule_same_values.specs.in_definitions.Judged.{Judged}
+use Rattle.rule_same_values.specs.in_document_definitions.DocumentFaults.{Broken}
+use Rattle.rule_same_values.specs.in_document_definitions.Selected.{StandingField}
+use Rattle.rule_same_values.specs.in_document_definitions.Groups.{AgreeWithHead}
+use Rattle.rule_same_values.proofs.in_document_definitions.Equivalences.{shape_sym, shape_trans, selection_sym, selection_trans}
+use Rattle.rule_same_values.proofs.in_document_definitions.Unplaced.{contains_map, contains_unmap}
 use Rattle.rule_same_values.proofs.Equivalences.{arguments_refl}
 use Rattle.rule_field_sets.specs.in_ground.Broken.{brokens_of}
-use Rattle.rule_merging.specs.Members.{field_of, fields_of}
+use Rattle.rule_field_groups.specs.Members.{field_of, fields_of}
 use Rattle.rule_field_sets.specs.declared.member.Member.{Member}
-use Rattle.rule_merging.specs.declared.pass.Pass.{Pass}
-use Rattle.rule_merging.specs.declared.pass.Pass.TheVariants.{Shapes, Selections}
-use Rattle.rule_merging.specs.Passes.{Agree, Conflict, AddsTwo, TellsGroup, AddsGroup, TellsEach, AddsEach}
-use Rattle.rule_merging.specs.declared.groups.OwnFields.{OwnFields}
-use Rattle.rule_merging.specs.KeyGroups.{with_own}
-use Rattle.rule_merging.proofs.Counts.{front_with}
-use Rattle.rule_merging.proofs.Parts.{part_of_shared, part_of_own, of_parts, own_fields_parts}
-use Rattle.rule_merging.specs.Compared.{compared, compared_once, greatest_count, CountsUp}
+use Rattle.rule_field_groups.specs.declared.pass.Pass.{Pass}
+use Rattle.rule_field_groups.specs.declared.pass.Pass.TheVariants.{Shapes, Selections}
+use Rattle.rule_field_groups.specs.Passes.{Agree, Conflict, AddsTwo, TellsGroup, AddsGroup, TellsEach, AddsEach}
+use Rattle.rule_field_groups.specs.declared.groups.OwnFields.{OwnFields}
+use Rattle.rule_field_groups.specs.KeyGroups.{with_own}
+use Rattle.rule_field_groups.proofs.Counts.{front_with}
+use Rattle.rule_field_groups.proofs.Parts.{part_of_shared, part_of_own, of_parts, own_fields_parts}
+use Rattle.rule_field_groups.specs.Compared.{compared, compared_once, greatest_count, CountsUp}
 
 -- a field agrees with itself
 agree_refl : {P : Type 0} (pass : Pass) (s : Judged) (f : StandingField P) → Agree pass s f f

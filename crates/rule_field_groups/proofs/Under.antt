@@ -5,27 +5,27 @@ use Rattle.std.proofs.lemmas.Bool.Decides.{Decides-eqb}
 use Rattle.std.proofs.lemmas.List.{map-append}
 use Rattle.std.proofs.lemmas.List.Elements.{Contains-append_left, Contains-append_right, Contains-append_cases}
 use Rattle.graphql_names.specs.Placed.{Place}
-use Rattle.schema_components.proofs.Places.{Contains-rest}
-use Rattle.rule_definitions.proofs.Lists.{not_in_nil, only, Contains-cons, Contains-first, given_in}
-use Rattle.document_meaning.specs.MeantTree.{MeantSet}
-use Rattle.rule_document_definitions.specs.ReadFields.{list_read}
-use Rattle.rule_document_definitions.specs.Selected.{StandingField}
-use Rattle.rule_document_definitions.proofs.Unplaced.{contains_map, contains_unmap}
+use Rattle.rule_same_values.proofs.in_definitions.in_schema_types.in_components.Places.{Contains-rest}
+use Rattle.rule_same_values.proofs.in_definitions.Lists.{not_in_nil, only, Contains-cons, Contains-first, given_in}
+use Rattle.rule_same_values.specs.in_meaning.MeantTree.{MeantSet}
+use Rattle.rule_same_values.specs.in_document_definitions.ReadFields.{list_read}
+use Rattle.rule_same_values.specs.in_document_definitions.Selected.{StandingField}
+use Rattle.rule_same_values.proofs.in_document_definitions.Unplaced.{contains_map, contains_unmap}
 use Rattle.rule_field_sets.specs.Read.{set_at}
 use Rattle.rule_field_sets.specs.declared.field_sets.FieldSets.{FieldSets}
 use Rattle.rule_field_sets.specs.declared.member.Member.{Member}
-use Rattle.rule_merging.specs.Members.{field_of, fields_of, meant_sets, read_sets, AreMembersOf}
-use Rattle.rule_merging.specs.declared.groups.KeyGroup.{KeyGroup}
-use Rattle.rule_merging.specs.declared.groups.OwnFields.{OwnFields}
-use Rattle.rule_merging.specs.Grouped.{ArePartsOf}
-use Rattle.rule_merging.specs.KeyGroups.{with_own, own_lists, lists_in_group}
-use Rattle.rule_merging.specs.Below.{IsBare, AreSetsOf, NotesSet}
-use Rattle.rule_merging.specs.Under.{Sets, all_sets, joined, each_with, twos_of, JoinsSets, JoinsTwos, HaveAnyTwo, PutsTogether, AreOf, IsAmong, AreFurther, AddsFurther, HaveBoth, BelowSoFar, JoinsEach, AreListsBelow, IsGroupOf}
-use Rattle.rule_merging.proofs.Counts.{front_with, flat_push}
-use Rattle.rule_merging.proofs.Filing.{of_filter}
-use Rattle.rule_merging.proofs.Lists.{taken_more}
-use Rattle.rule_merging.proofs.Sets.{among_more}
-use Rattle.rule_merging.proofs.Parts.{part_of_shared, part_of_own, of_parts, own_fields_parts}
+use Rattle.rule_field_groups.specs.Members.{field_of, fields_of, meant_sets, read_sets, AreMembersOf}
+use Rattle.rule_field_groups.specs.declared.groups.KeyGroup.{KeyGroup}
+use Rattle.rule_field_groups.specs.declared.groups.OwnFields.{OwnFields}
+use Rattle.rule_field_groups.specs.Grouped.{ArePartsOf}
+use Rattle.rule_field_groups.specs.KeyGroups.{with_own, own_lists, lists_in_group}
+use Rattle.rule_field_groups.specs.Below.{IsBare, AreSetsOf, NotesSet}
+use Rattle.rule_field_groups.specs.Under.{Sets, all_sets, joined, each_with, twos_of, JoinsSets, JoinsTwos, HaveAnyTwo, PutsTogether, AreOf, IsAmong, AreFurther, AddsFurther, HaveBoth, BelowSoFar, JoinsEach, AreListsBelow, IsGroupOf}
+use Rattle.rule_field_groups.proofs.Counts.{front_with, flat_push}
+use Rattle.rule_field_groups.proofs.Filing.{of_filter}
+use Rattle.rule_field_groups.proofs.Lists.{taken_more}
+use Rattle.rule_field_groups.proofs.Sets.{among_more}
+use Rattle.rule_field_groups.proofs.Parts.{part_of_shared, part_of_own, of_parts, own_fields_parts}
 
 -- ---- groups of members
 

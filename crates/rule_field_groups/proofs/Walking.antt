@@ -1,6 +1,6 @@
 -- A walk over the sets of nodes in which no fragment is walked twice: what it passes, and what it has found.
 use Rattle.std.proofs.Common.{◌≡◌, ◌∙◌, ◌++◌, ◌+◌, ◌<◌, ◌≤◌, ℕ, Bool, true, false, List, [], ◌∷◌, take, length, get_or, slice_get, Some, Contains, refl, sym, ap, subst, inl, inr, append-nil, append_assoc, arith, true≢false, if◌then◌else◌}
-use Rattle.std.specs.Prelude.{nat_eq, option_map}
+use Rattle.std.specs.Prelude.{nat_eq, option_map, Result, Ok, Err, OnOk}
 use Rattle.std.specs.List.{list_any}
 use Rattle.std.proofs.lemmas.List.{map-append, take-append-le, take_all, take_more}
 use Rattle.std.proofs.lemmas.List.Elements.{Contains-append_left, Contains-append_right, Contains-append_cases}
@@ -9,14 +9,14 @@ use Rattle.std.proofs.lemmas.Map.Views.{Contains-from_any, exact_unsigned_eq}
 use Rattle.std.proofs.lemmas.Option.{slice_get_within, get_or_from_slice_get}
 use Rattle.indexmap.specs.IndexSet.{insert_key}
 use Rattle.graphql_names.specs.Placed.{Place}
-use Rattle.document_meaning.specs.MeantTree.{MeantDocument}
-use Rattle.rule_definitions.proofs.Lists.{not_in_nil, Contains-first, Contains-cons, only, mapped_some, slice_get-map}
+use Rattle.rule_same_values.specs.in_meaning.MeantTree.{MeantDocument}
+use Rattle.rule_same_values.proofs.in_definitions.Lists.{not_in_nil, Contains-first, Contains-cons, only, mapped_some, slice_get-map}
 use Rattle.rule_cycle_search.specs.Paths.{HasNoRepeat}
-use Rattle.rule_document_definitions.specs.Selected.{StandingField}
-use Rattle.rule_document_definitions.specs.Reached.{first, next}
-use Rattle.rule_document_definitions.specs.PlainFields.{IsSelected}
-use Rattle.rule_document_definitions.specs.ReadFields.{ReadField, field_read}
-use Rattle.rule_document_definitions.proofs.Unplaced.{contains_map, contains_unmap}
+use Rattle.rule_same_values.specs.in_document_definitions.Selected.{StandingField}
+use Rattle.rule_same_values.specs.in_document_definitions.Reached.{first, next}
+use Rattle.rule_same_values.specs.in_document_definitions.PlainFields.{IsSelected}
+use Rattle.rule_same_values.specs.in_document_definitions.ReadFields.{ReadField, field_read}
+use Rattle.rule_same_values.proofs.in_document_definitions.Unplaced.{contains_map, contains_unmap}
 use Rattle.rule_field_sets.specs.in_ground.Fields.{meant_fragments}
 use Rattle.rule_number_lists.specs.NumberSet.{PutsIn}
 use Rattle.rule_field_sets.specs.declared.field_sets.FieldSets.{FieldSets}
@@ -28,10 +28,15 @@ use Rattle.rule_field_sets.proofs.Among.{one_number}
 use Rattle.rule_field_sets.proofs.Growing.{contains_at, none_twice, apart_more}
 use Rattle.rule_field_sets.proofs.Members.{in_last, taken_more}
 use Rattle.rule_field_sets.proofs.Once.{inside}
-use Rattle.rule_merging.specs.Members.{field_of, fields_of, content_of, contents_of, AreMembersOf, meant_sets}
-use Rattle.rule_merging.specs.Below.{IsMergedIn, IsPartOfMergedIn}
-use Rattle.rule_merging.specs.NodeWalk.{WalkState, numbers_of, AreNumbered, with_paid, Passes, PassesNode, IsPassed, IsStartOf, SpreadsNode, IsNodeFrom, IsReached, IsWalkOver, IsWalk, WalksOver}
-use Rattle.rule_merging.proofs.NodeFacts.{selected_from, selected_among, selects_from}
+use Rattle.rule_field_groups.specs.Members.{field_of, fields_of, content_of, contents_of, AreMembersOf, meant_sets}
+use Rattle.rule_field_groups.specs.Below.{IsMergedIn, IsPartOfMergedIn}
+use Rattle.rule_field_groups.specs.NodeWalk.{WalkState, numbers_of, AreNumbered, with_paid, Passes, PassesNode, IsPassed, IsStartOf, SpreadsNode, IsNodeFrom, IsReached, IsWalkOver, IsWalk, WalksOver}
+use Rattle.rule_field_groups.proofs.NodeFacts.{selected_from, selected_among, selects_from}
+
+-- what follows where a call went well
+pub ok_so : {T E A B : Type 0} (r : Result T E) → (A → B) → OnOk r A → OnOk r B
+ok_so (Ok t) f a = f a
+ok_so (Err e) f a = tt
 
 -- ---- nothing is passed, or one thing after the other
 

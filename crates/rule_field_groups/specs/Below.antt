@@ -1,14 +1,14 @@
 -- What selection sets select, each content once, and the sets of a group of fields (GraphQL, October 2021, section 5.3.2).
 use Rattle.std.specs.Prelude.{◌≡◌, ◌⊎◌, ◌++◌, List, Contains}
 use Rattle.graphql_names.specs.Placed.{Place}
-use Rattle.schema_components.specs.Names.{Entries}
-use Rattle.document_meaning.specs.MeantTree.{MeantSet, meant_set, no_meant, meant_then, MeantFragment, MeantDocument}
+use Rattle.rule_same_values.specs.in_definitions.in_components.Names.{Entries}
+use Rattle.rule_same_values.specs.in_meaning.MeantTree.{MeantSet, meant_set, no_meant, meant_then, MeantFragment, MeantDocument}
 use Rattle.rule_cycle_search.specs.Paths.{HasNoRepeat}
-use Rattle.rule_document_definitions.specs.Selected.{StandingField}
-use Rattle.rule_document_definitions.specs.PlainFields.{IsSelected}
-use Rattle.rule_document_definitions.specs.ReadFields.{field_read, list_read}
+use Rattle.rule_same_values.specs.in_document_definitions.Selected.{StandingField}
+use Rattle.rule_same_values.specs.in_document_definitions.PlainFields.{IsSelected}
+use Rattle.rule_same_values.specs.in_document_definitions.ReadFields.{field_read, list_read}
 use Rattle.rule_field_sets.specs.declared.member.Member.{Member}
-use Rattle.rule_merging.specs.Members.{fields_of, contents_of, read_sets}
+use Rattle.rule_field_groups.specs.Members.{fields_of, contents_of, read_sets}
 
 -- each is selected by one of the sets, what one of them selects is read as one of these, and no two are read as one
 pub record IsMergedIn (d : MeantDocument Place) (sets : List (MeantSet Place)) (list : List Member) : Type 0 where

@@ -1,7 +1,7 @@
 -- Private: leads to `IsCountedBy`. How often shapes are compared in a pass.
 use Rattle.std.specs.Prelude.{◌≡◌, ◌≤◌, ◌<◌, ◌+◌, ℕ, List, length}
-use Rattle.rule_merging.specs.declared.pass.Pass.{Pass}
-use Rattle.rule_merging.specs.declared.pass.Pass.TheVariants.{Shapes, Selections}
+use Rattle.rule_field_groups.specs.declared.pass.Pass.{Pass}
+use Rattle.rule_field_groups.specs.declared.pass.Pass.TheVariants.{Shapes, Selections}
 
 -- how often shapes are compared, at most, for two fields, and for a list of so many, in a pass
 abbrev pub compared_once : Pass → ℕ

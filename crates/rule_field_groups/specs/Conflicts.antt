@@ -4,12 +4,12 @@ use Rattle.std.specs.declared.alloc.Global.{Global}
 use Rattle.graphql_names.specs.Placed.{Place}
 use Rattle.rule_field_sets.specs.in_ground.in_schema.SchemaOf.{schema_tree}
 use Rattle.fault_document_data.specs.declared.build_error.BuildError.{BuildError}
-use Rattle.rule_definitions.specs.Judged.{Judged, judged}
-use Rattle.rule_document_definitions.specs.Merging.{SameShape, SameName}
-use Rattle.rule_document_definitions.specs.SameValues.{SameArguments}
-use Rattle.rule_document_definitions.specs.Selected.{StandingField}
-use Rattle.rule_merging.specs.Passes.{TypesConflict, NamesConflict, ArgumentsConflict, AddsUnless}
-use Rattle.rule_merging.specs.declared.pass.Comparing.{Comparing}
+use Rattle.rule_same_values.specs.in_definitions.Judged.{Judged, judged}
+use Rattle.rule_same_values.specs.in_document_definitions.Merging.{SameShape, SameName}
+use Rattle.rule_same_values.specs.in_document_definitions.SameValues.{SameArguments}
+use Rattle.rule_same_values.specs.in_document_definitions.Selected.{StandingField}
+use Rattle.rule_field_groups.specs.Passes.{TypesConflict, NamesConflict, ArgumentsConflict, AddsUnless}
+use Rattle.rule_field_groups.specs.declared.pass.Comparing.{Comparing}
 
 -- the schema that fields are typed under, as rules read it
 abbrev pub judged_by : Comparing → Judged

@@ -7,10 +7,10 @@ use Rattle.std.specs.Str.{bytes_eq}
 use Rattle.std.specs.declared.alloc.Global.{Global}
 use Rattle.indexmap.specs.IndexMap.{IndexMap, values}
 use Rattle.graphql_names.specs.NameValue.{NameValue}
-use Rattle.rule_definitions.specs.Judged.{Judged}
-use Rattle.rule_document_definitions.specs.Selected.{response_key}
-use Rattle.rule_document_definitions.specs.Merging.{IsAbstract}
-use Rattle.rule_merging.specs.Members.{field_of}
+use Rattle.rule_same_values.specs.in_definitions.Judged.{Judged}
+use Rattle.rule_same_values.specs.in_document_definitions.Selected.{response_key}
+use Rattle.rule_same_values.specs.in_document_definitions.Merging.{IsAbstract}
+use Rattle.rule_field_groups.specs.Members.{field_of}
 use Rattle.rule_field_sets.specs.declared.member.Member.{Member}
 
 -- what stands under a name, none if there is no entry

@@ -1,16 +1,16 @@
 -- Private: leads to `FieldsMerge`. The fields of a list under one response key, by the types that they are selected on.
 use Rattle.std.specs.Prelude.{◌≡◌, ◌+◌, ◌++◌, ℕ, Bool, not, List, [], ◌∷◌, map, filter, flat_map}
 use Rattle.std.specs.List.{sum}
-use Rattle.rule_definitions.specs.Judged.{Judged}
+use Rattle.rule_same_values.specs.in_definitions.Judged.{Judged}
 use Rattle.rule_field_sets.specs.declared.member.Member.{Member}
-use Rattle.rule_merging.specs.declared.groups.Filing.{Filing}
-use Rattle.rule_merging.specs.declared.groups.Filing.TheVariants.{Key, Parent}
-use Rattle.rule_merging.specs.declared.groups.KeyGroup.{KeyGroup}
-use Rattle.rule_merging.specs.declared.pass.Pass.{Pass}
-use Rattle.rule_merging.specs.declared.pass.Pass.TheVariants.{Shapes, Selections}
-use Rattle.rule_merging.specs.Compared.{compared}
-use Rattle.rule_merging.specs.Kinds.{is_abstract}
-use Rattle.rule_merging.specs.Grouped.{key_of, parent_of, AreFiled, AreParentGroups}
+use Rattle.rule_field_groups.specs.declared.groups.Filing.{Filing}
+use Rattle.rule_field_groups.specs.declared.groups.Filing.TheVariants.{Key, Parent}
+use Rattle.rule_field_groups.specs.declared.groups.KeyGroup.{KeyGroup}
+use Rattle.rule_field_groups.specs.declared.pass.Pass.{Pass}
+use Rattle.rule_field_groups.specs.declared.pass.Pass.TheVariants.{Shapes, Selections}
+use Rattle.rule_field_groups.specs.Compared.{compared}
+use Rattle.rule_field_groups.specs.Kinds.{is_abstract}
+use Rattle.rule_field_groups.specs.Grouped.{key_of, parent_of, AreFiled, AreParentGroups}
 
 abbrev pub filed_name : Filing → Member → List ℕ
 filed_name Key = key_of

@@ -1,10 +1,10 @@
 -- What contracts see of the members of lists and of nodes: fields and selection sets, with what merging reads of them (GraphQL,
 -- October 2021, section 5.3.2).
-use Rattle.std.specs.Prelude.{ℕ, List, map, Contains}
+use Rattle.std.specs.Prelude.{ℕ, ◌==◌, cond, List, [], ◌∷◌, map, Contains}
 use Rattle.graphql_names.specs.Placed.{Place}
-use Rattle.document_meaning.specs.MeantTree.{MeantSet}
-use Rattle.rule_document_definitions.specs.Selected.{StandingField}
-use Rattle.rule_document_definitions.specs.ReadFields.{ReadField, ReadSet, field_read, list_read}
+use Rattle.rule_same_values.specs.in_meaning.MeantTree.{MeantSet}
+use Rattle.rule_same_values.specs.in_document_definitions.Selected.{StandingField}
+use Rattle.rule_same_values.specs.in_document_definitions.ReadFields.{ReadField, ReadSet, field_read, list_read}
 use Rattle.rule_field_sets.specs.in_ground.Fields.{field_of as selected_field}
 use Rattle.rule_field_sets.specs.declared.member.Member.{Member}
 use Rattle.rule_field_sets.specs.declared.field_sets.FieldSets.{FieldSets}
@@ -24,6 +24,10 @@ content_of m = field_read (field_of m)
 
 abbrev pub contents_of : List Member → List ReadField
 contents_of ms = map field_read (fields_of ms)
+
+-- what is read of two, once where their numbers are one
+abbrev pub contents_of_two : Member → Member → List ReadField
+contents_of_two one other = cond (one.number == other.number) (content_of one ∷ []) (content_of one ∷ content_of other ∷ [])
 
 -- each is a member of one of the nodes
 abbrev pub AreMembersOf : FieldSets → List Member → Type 0

@@ -1,13 +1,13 @@
 -- Private: leads to `IsMerged`. A walk over the sets of nodes for the fields that they select, in which no fragment is walked twice.
 use Rattle.std.specs.Prelude.{◌≡◌, ◌⊎◌, ◌++◌, ◌∷◌, ℕ, Bool, IsTrue, true, false, List, [], map, take, Some, slice_get, Contains}
 use Rattle.rule_cycle_search.specs.Paths.{HasNoRepeat}
-use Rattle.rule_document_definitions.specs.Reached.{Closed}
+use Rattle.rule_same_values.specs.in_document_definitions.Reached.{Closed}
 use Rattle.rule_number_lists.specs.NumberSet.{numbers_in}
 use Rattle.rule_field_sets.specs.Nodes.{set_nodes, fragment_nodes}
 use Rattle.rule_field_sets.specs.declared.field_sets.FieldSets.{FieldSets}
 use Rattle.rule_field_sets.specs.declared.member.Member.{Member}
 use Rattle.rule_field_sets.specs.declared.member.SetNode.{SetNode}
-use Rattle.rule_merging.specs.declared.node_walk.NodeWalk.{NodeWalk}
+use Rattle.rule_field_groups.specs.declared.node_walk.NodeWalk.{NodeWalk}
 
 -- ---- what a walk has found
 

@@ -6,15 +6,15 @@ use Rattle.graphql_names.specs.Placed.{Place}
 use Rattle.schema_coordinates.specs.Coordinate.{Coordinate, OfAttribute, OfArgument}
 use Rattle.fault_document_data.specs.DocumentBreaches.{ConflictingFieldName, ConflictingFieldArgument, ConflictingFieldType}
 use Rattle.fault_document_data.specs.declared.build_error.BuildError.{BuildError}
-use Rattle.rule_definitions.specs.Judged.{Judged}
-use Rattle.rule_document_definitions.specs.DocumentFaults.{Broken, broken}
-use Rattle.rule_document_definitions.specs.Selected.{StandingField, field_name, response_key}
-use Rattle.rule_document_definitions.specs.Groups.{AgreeWithHead}
-use Rattle.rule_document_definitions.specs.ReadFields.{ReadField, ReadSameKey, ReadMayShare, ReadSameShape, ReadSameNameAndArguments}
-use Rattle.rule_document_definitions.specs.Merging.{SameKey, MayShare, SameShape, SameName, SameArgument, SameNameAndArguments, telling, telling_argument}
+use Rattle.rule_same_values.specs.in_definitions.Judged.{Judged}
+use Rattle.rule_same_values.specs.in_document_definitions.DocumentFaults.{Broken, broken}
+use Rattle.rule_same_values.specs.in_document_definitions.Selected.{StandingField, field_name, response_key}
+use Rattle.rule_same_values.specs.in_document_definitions.Groups.{AgreeWithHead}
+use Rattle.rule_same_values.specs.in_document_definitions.ReadFields.{ReadField, ReadSameKey, ReadMayShare, ReadSameShape, ReadSameNameAndArguments}
+use Rattle.rule_same_values.specs.in_document_definitions.Merging.{SameKey, MayShare, SameShape, SameName, SameArgument, SameNameAndArguments, telling, telling_argument}
 use Rattle.rule_field_sets.specs.in_ground.Broken.{brokens_of}
-use Rattle.rule_merging.specs.declared.pass.Pass.{Pass}
-use Rattle.rule_merging.specs.declared.pass.Pass.TheVariants.{Shapes, Selections}
+use Rattle.rule_field_groups.specs.declared.pass.Pass.{Pass}
+use Rattle.rule_field_groups.specs.declared.pass.Pass.TheVariants.{Shapes, Selections}
 
 module _ {P : Type 0} where
   -- ---- what is told of two fields

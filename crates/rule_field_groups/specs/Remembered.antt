@@ -6,13 +6,13 @@ use Rattle.rule_cycle_search.specs.Paths.{HasNoRepeat}
 use Rattle.rule_number_lists.specs.NumberLists.{HaveSame, lists_kept}
 use Rattle.rule_number_lists.specs.NumberPairs.{pairs_kept}
 use Rattle.rule_number_lists.specs.NumberSet.{numbers_in}
-use Rattle.rule_document_definitions.specs.ReadFields.{ReadField, ReadSet}
+use Rattle.rule_same_values.specs.in_document_definitions.ReadFields.{ReadField, ReadSet}
 use Rattle.rule_field_sets.specs.Read.{content_at, set_content_at, set_at}
 use Rattle.rule_field_sets.specs.declared.field_sets.FieldSets.{FieldSets}
-use Rattle.rule_merging.specs.Under.{Sets, sets_in}
-use Rattle.rule_merging.specs.Counted.{Account}
-use Rattle.rule_merging.specs.declared.remembered.Pair.{Pair}
-use Rattle.rule_merging.specs.declared.remembered.Remembered.{Remembered}
+use Rattle.rule_field_groups.specs.Under.{Sets, sets_in}
+use Rattle.rule_field_groups.specs.Paid.{Account}
+use Rattle.rule_field_groups.specs.declared.remembered.Pair.{Pair}
+use Rattle.rule_field_groups.specs.declared.remembered.Remembered.{Remembered}
 
 -- the lists of fields that were examined, and the lists of sets that were looked at: what these select stands in lists of fields; the
 -- pairs of sets that were looked at, each a list of the two, and those of them that are left

@@ -3,17 +3,17 @@ use Rattle.std.specs.Prelude.{◌≡◌, ℕ, ◌⊎◌, ◌++◌, ◌∷◌, []
 use Rattle.std.specs.List.{AllZip}
 use Rattle.std.specs.declared.alloc.Global.{Global}
 use Rattle.graphql_names.specs.Placed.{Place}
-use Rattle.document_meaning.specs.MeantTree.{MeantSet}
-use Rattle.rule_document_definitions.specs.ReadFields.{list_read}
-use Rattle.rule_document_definitions.specs.Selected.{StandingField}
-use Rattle.rule_merging.specs.Grouped.{lists_of}
+use Rattle.rule_same_values.specs.in_meaning.MeantTree.{MeantSet}
+use Rattle.rule_same_values.specs.in_document_definitions.ReadFields.{list_read}
+use Rattle.rule_same_values.specs.in_document_definitions.Selected.{StandingField}
+use Rattle.rule_field_groups.specs.Grouped.{lists_of}
 use Rattle.rule_field_sets.specs.Read.{set_content_at, node_read}
 use Rattle.rule_field_sets.specs.declared.member.Member.{Member}
-use Rattle.rule_merging.specs.Members.{meant_sets, read_sets, AreMembersOf}
-use Rattle.rule_merging.specs.KeyGroups.{lists_in_group}
-use Rattle.rule_merging.specs.declared.below.SetsBelow.{SetsBelow}
-use Rattle.rule_merging.specs.declared.groups.KeyGroup.{KeyGroup}
-use Rattle.rule_merging.specs.Below.{IsBare, AreSetsOf}
+use Rattle.rule_field_groups.specs.Members.{meant_sets, read_sets, AreMembersOf}
+use Rattle.rule_field_groups.specs.KeyGroups.{lists_in_group}
+use Rattle.rule_field_groups.specs.declared.below.SetsBelow.{SetsBelow}
+use Rattle.rule_field_groups.specs.declared.groups.KeyGroup.{KeyGroup}
+use Rattle.rule_field_groups.specs.Below.{IsBare, AreSetsOf}
 use Rattle.rule_field_sets.specs.declared.field_sets.FieldSets.{FieldSets}
 
 -- sets whose fields are examined together; such lists, as nodes

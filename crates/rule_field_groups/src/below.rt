@@ -1,11 +1,11 @@
 //! The sets below a group of fields.
 ghost use Rattle.std.specs.Prelude.{◌≡◌, ◌++◌, ◌∷◌, [], map, Contains, IfOk, OnOk};
 ghost use Rattle.rule_field_sets.specs.Nodes.{AreSets, HasMember};
-ghost use Rattle.rule_merging.specs.Members.{field_of, fields_of, meant_sets, AreMembersOf};
-ghost use Rattle.rule_merging.specs.Below.{AreSetsOf, NotesSet};
-ghost use Rattle.rule_merging.specs.Grouped.{lists_of};
-ghost use Rattle.rule_merging.specs.Under.{sets_in, each_with, AreFurther, AddsFurther, JoinsSets, JoinsTwos, PutsTogether, JoinsEach, AreListsBelow, AreNumbered, AddsNode, IsGroupOf};
-ghost use Rattle.rule_merging.specs.KeyGroups.{parts_of};
+ghost use Rattle.rule_field_groups.specs.Members.{field_of, fields_of, meant_sets, AreMembersOf};
+ghost use Rattle.rule_field_groups.specs.Below.{AreSetsOf, NotesSet};
+ghost use Rattle.rule_field_groups.specs.Grouped.{lists_of};
+ghost use Rattle.rule_field_groups.specs.Under.{sets_in, each_with, AreFurther, AddsFurther, JoinsSets, JoinsTwos, PutsTogether, JoinsEach, AreListsBelow, AreNumbered, AddsNode, IsGroupOf};
+ghost use Rattle.rule_field_groups.specs.KeyGroups.{parts_of};
 
 use crate::groups::{KeyGroup, OwnFields};
 use crate::nodes::number_of;
@@ -225,7 +225,7 @@ fn push_own_lists(
 
 /// The lists of nodes below the fields of one key: those of the shared sets, and for each object type these and its own, in one list or
 /// in lists of two. For any two fields that go together, one of the lists has the sets of both.
-pub(crate) fn lists_below(
+pub fn lists_below(
     alloc: Global,
     sets: &FieldSets<'_>,
     group: &KeyGroup<'_>,

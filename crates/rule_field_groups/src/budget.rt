@@ -1,7 +1,7 @@
 //! What lists of sets may cost. What is not paid is examined in pairs of sets: in lists of different sets members would never
 //! come to an end, and pairs are no more than sets times sets.
 ghost use Rattle.std.specs.Prelude.{◌≡◌, ◌≤◌, ◌+◌, IsTrue, IfSome};
-ghost use Rattle.rule_merging.specs.Counted.{most_members};
+ghost use Rattle.rule_field_groups.specs.Paid.{most_members};
 
 /// So many steps of walks are paid by each field that was met.
 pub(crate) const FOR_EACH_FIELD: usize = 4;

@@ -3,15 +3,15 @@ ghost use Rattle.std.specs.Prelude.{◌≡◌, ◌↔◌, ◌≤◌, ◌+◌, �
 ghost use Rattle.schema_coordinates.specs.CoordinateView.{attribute_coordinate, argument_coordinate};
 ghost use Rattle.fault_document_data.specs.DocumentBreachView.{value_in_conflict};
 ghost use Rattle.rule_field_sets.specs.in_ground.in_schema.SchemaOf.{schema_tree};
-ghost use Rattle.rule_definitions.specs.Judged.{judged};
-ghost use Rattle.rule_document_definitions.specs.Merging.{SameName};
-ghost use Rattle.rule_document_definitions.specs.SameValues.{plain_given};
+ghost use Rattle.rule_same_values.specs.in_definitions.Judged.{judged};
+ghost use Rattle.rule_same_values.specs.in_document_definitions.Merging.{SameName};
+ghost use Rattle.rule_same_values.specs.in_document_definitions.SameValues.{plain_given};
 ghost use Rattle.rule_field_sets.specs.in_ground.Broken.{broken_of};
-ghost use Rattle.rule_merging.specs.Members.{field_of, fields_of};
-ghost use Rattle.rule_merging.specs.Passes.{AddsTwo, AddsGroup, AddsEach, coordinate_of, coordinate_of_argument, type_conflict, name_conflict, argument_conflict};
-ghost use Rattle.rule_merging.specs.Compared.{compared, compared_once, greatest_count, CountsUp};
-ghost use Rattle.rule_merging.specs.KeyGroups.{parts_of, compared_in};
-ghost use Rattle.rule_merging.specs.Conflicts.{judged_by, AddsTypes, AddsNames, AddsArguments};
+ghost use Rattle.rule_field_groups.specs.Members.{field_of, fields_of};
+ghost use Rattle.rule_field_groups.specs.Passes.{AddsTwo, AddsGroup, AddsEach, coordinate_of, coordinate_of_argument, type_conflict, name_conflict, argument_conflict};
+ghost use Rattle.rule_field_groups.specs.Compared.{compared, compared_once, greatest_count, CountsUp};
+ghost use Rattle.rule_field_groups.specs.KeyGroups.{parts_of, compared_in};
+ghost use Rattle.rule_field_groups.specs.Conflicts.{judged_by, AddsTypes, AddsNames, AddsArguments};
 
 use crate::groups::{KeyGroup, OwnFields};
 use crate::pass::{Comparing, Pass};
@@ -283,7 +283,7 @@ fn check_others(
 }
 
 /// Tells each further field of a list that does not agree with the first one.
-pub(crate) fn check_group(
+fn check_group(
     pass: Pass,
     schema: &Schema,
     group: &[Member<'_>],
@@ -354,7 +354,7 @@ fn check_own(
 }
 
 /// Tells the fields under one key that do not agree, part by part.
-pub(crate) fn check_key_group(
+pub fn check_key_group(
     pass: Pass,
     schema: &Schema,
     group: &KeyGroup<'_>,

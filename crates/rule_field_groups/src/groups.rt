@@ -3,16 +3,16 @@ ghost use Rattle.std.specs.Prelude.{◌≡◌, ◌≤◌, ◌+◌, ℕ, ◌++◌
 ghost use Rattle.std.specs.List.{sum};
 ghost use Rattle.std.specs.Str.{bytes_eq};
 ghost use Rattle.indexmap.specs.IndexMap.{get, IsUnique};
-ghost use Rattle.schema_components.specs.Names.{same_text};
+ghost use Rattle.rule_same_values.specs.in_definitions.in_components.Names.{same_text};
 ghost use Rattle.schema_types.specs.TypeView.{name_text};
 ghost use Rattle.rule_field_sets.specs.in_ground.in_schema.SchemaOf.{schema_tree};
-ghost use Rattle.rule_definitions.specs.Judged.{judged};
-ghost use Rattle.rule_document_definitions.specs.Groups.{AreGroups};
-ghost use Rattle.rule_merging.specs.Members.{fields_of};
-ghost use Rattle.rule_merging.specs.Compared.{compared};
-ghost use Rattle.rule_merging.specs.Passes.{Together};
-ghost use Rattle.rule_merging.specs.Grouped.{items_under, count_in, has, lists_in, lists_of, AreFiled, ArePartsOf};
-ghost use Rattle.rule_merging.specs.KeyGroups.{filed_name, is_shared, own_lists, parts_of, parts_in, lists_in_group, compared_in, IsByParents, ArePartsFor};
+ghost use Rattle.rule_same_values.specs.in_definitions.Judged.{judged};
+ghost use Rattle.rule_same_values.specs.in_document_definitions.Groups.{AreGroups};
+ghost use Rattle.rule_field_groups.specs.Members.{fields_of};
+ghost use Rattle.rule_field_groups.specs.Compared.{compared};
+ghost use Rattle.rule_field_groups.specs.Passes.{Together};
+ghost use Rattle.rule_field_groups.specs.Grouped.{items_under, count_in, has, lists_in, lists_of, AreFiled, ArePartsOf};
+ghost use Rattle.rule_field_groups.specs.KeyGroups.{filed_name, is_shared, own_lists, parts_of, parts_in, lists_in_group, compared_in, IsByParents, ArePartsFor};
 
 use crate::kinds::is_abstract;
 use crate::pass::Pass;
@@ -121,18 +121,32 @@ fn filed<'doc>(
 
 /// The fields of a list under one response key ("fieldsForName"): those on abstract types, which are shared by all objects, and
 /// those on each object type. One object may have the shared ones and those of one type.
-#[derive(Drop)]
-pub(crate) struct KeyGroup<'doc> {
+pub struct KeyGroup<'doc> {
     pub(crate) shared: Vec<Member<'doc>>,
     pub(crate) own: Vec<OwnFields<'doc>>,
 }
 
 /// The fields on one object type.
-#[derive(Drop)]
-pub(crate) struct OwnFields<'doc> {
+pub struct OwnFields<'doc> {
     pub(crate) fields: Vec<Member<'doc>>,
     /// How many of them are before the first shared one, in the order of the list.
     pub(crate) early: usize,
+}
+
+// Not derived: a derived drop is proved again in each crate that drops one.
+impl Drop for KeyGroup<'_> {
+    fn drop(self) {
+        let KeyGroup { shared: _, own: _ } = self;
+    }
+}
+
+impl Drop for OwnFields<'_> {
+    fn drop(self) {
+        let OwnFields {
+            fields: _,
+            early: _,
+        } = self;
+    }
 }
 
 /// A group in which all fields are shared: shapes are compared whatever the types that fields are selected on.
@@ -256,7 +270,7 @@ fn key_group<'doc>(
 
 /// The fields of the list by response keys, as a pass compares them. Each field is in one part, once, and each part is in the
 /// order of the list.
-pub(crate) fn groups_of<'doc>(
+pub fn groups_of<'doc>(
     alloc: Global,
     pass: Pass,
     schema: &Schema,

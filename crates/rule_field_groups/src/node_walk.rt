@@ -1,10 +1,10 @@
 //! A walk over selection sets by their nodes.
 ghost use Rattle.std.specs.Prelude.{◌≡◌, OnOk, IfOk, IsTrue};
 ghost use Rattle.rule_field_sets.specs.Nodes.{AreSets, HasAllStarts};
-ghost use Rattle.rule_merging.specs.Members.{meant_sets, AreMembersOf};
-ghost use Rattle.rule_merging.specs.Below.{IsMerged, IsPartOfMerged};
+ghost use Rattle.rule_field_groups.specs.Members.{meant_sets, AreMembersOf};
+ghost use Rattle.rule_field_groups.specs.Below.{IsMerged, IsPartOfMerged};
 ghost use Rattle.rule_field_sets.specs.in_ground.Fields.{meant_fragments};
-ghost use Rattle.rule_merging.specs.NodeWalk.{state_of, with_paid, PassesMember, PassesMembers, PassesSpreads, PassesNode, WalksOn, WalksOver};
+ghost use Rattle.rule_field_groups.specs.NodeWalk.{state_of, with_paid, PassesMember, PassesMembers, PassesSpreads, PassesNode, WalksOn, WalksOver};
 
 use crate::nodes::{fragment_of, node_of};
 use indexmap::IndexSet;
@@ -14,22 +14,32 @@ use std::alloc::{AllocError, Global};
 
 /// What a walk may cost: a step for each field and each spread that it passes. Fields that were not met before pay for more.
 #[derive(Clone, Copy)]
-pub(crate) struct Toll<'a> {
+pub struct Toll<'a> {
     /// The numbers of the fields that were met.
-    pub(crate) met: &'a NumberSet,
+    pub met: &'a NumberSet,
     /// How many steps are paid.
-    pub(crate) paid: usize,
+    pub paid: usize,
     /// How many steps a field pays that was not met.
-    pub(crate) each: usize,
+    pub each: usize,
 }
 
 /// What sets select, through fragments: all of it, or of a walk that was not paid to its end the first part; each number once.
-#[derive(Drop)]
-pub(crate) struct MergedList<'doc> {
-    pub(crate) members: Vec<Member<'doc>>,
-    pub(crate) is_whole: bool,
+pub struct MergedList<'doc> {
+    pub members: Vec<Member<'doc>>,
+    pub is_whole: bool,
     /// How many steps the walk took.
-    pub(crate) steps: usize,
+    pub steps: usize,
+}
+
+// Not derived: a derived drop is proved again in each crate that drops one.
+impl Drop for MergedList<'_> {
+    fn drop(self) {
+        let MergedList {
+            members: _,
+            is_whole: _,
+            steps: _,
+        } = self;
+    }
 }
 
 /// A walk over the sets of nodes, one after the other, for the fields that they select. A fragment is walked once for all of them: what
@@ -154,7 +164,7 @@ impl<'doc> NodeWalk<'doc> {
 
 /// The merged list of the sets of these nodes: what they select, through fragments, each content once ("mergedSet"), as far as that is
 /// paid.
-pub(crate) fn merged_list<'doc>(
+pub fn merged_list<'doc>(
     alloc: Global,
     sets: &FieldSets<'doc>,
     toll: Toll<'_>,

@@ -2,16 +2,16 @@
 // The prover is not told everywhere that there is one: so lists of nodes need no clause that says it.
 ghost use Rattle.std.specs.Prelude.{◌≡◌, Some, slice_get, IfOk};
 ghost use Rattle.std.specs.List.{AllZip};
-ghost use Rattle.rule_document_definitions.specs.ReadFields.{list_read};
+ghost use Rattle.rule_same_values.specs.in_document_definitions.ReadFields.{list_read};
 ghost use Rattle.rule_field_sets.specs.Nodes.{AreSets, set_nodes, fragment_nodes};
 ghost use Rattle.rule_field_sets.specs.Read.{set_at, set_content_at};
-ghost use Rattle.rule_merging.specs.NodeWalk.{IsStartOf};
+ghost use Rattle.rule_field_groups.specs.NodeWalk.{IsStartOf};
 
 use rule_field_sets::{FieldSets, SetNode};
 use std::alloc::{AllocError, Global};
 
 /// The node of that number.
-pub(crate) fn node_of<'a, 'doc>(
+pub fn node_of<'a, 'doc>(
     sets: &'a FieldSets<'doc>,
     node: usize,
 ) -> Result<&'a SetNode<'doc>, AllocError>
@@ -42,7 +42,7 @@ pub(crate) fn start_of(sets: &FieldSets<'_>, fragment: usize) -> Result<usize, A
 }
 
 /// The nodes of the sets of these fragments.
-pub(crate) fn starts_of(
+pub fn starts_of(
     alloc: Global,
     sets: &FieldSets<'_>,
     fragments: &[usize],

@@ -2,10 +2,10 @@
 ghost use Rattle.std.specs.Prelude.{◌≡◌, ◌∷◌, [], OnOk};
 ghost use Rattle.rule_field_sets.specs.Nodes.{AreSets};
 ghost use Rattle.rule_field_sets.specs.Read.{set_at};
-ghost use Rattle.rule_merging.specs.Members.{meant_sets};
-ghost use Rattle.rule_merging.specs.Remembered.{kept_of, beside_of};
-ghost use Rattle.rule_merging.specs.Examined.{with_each};
-ghost use Rattle.rule_merging.specs.Pairs.{Looks, LooksAtTwos, each_with};
+ghost use Rattle.rule_field_groups.specs.Members.{meant_sets};
+ghost use Rattle.rule_field_groups.specs.Remembered.{kept_of, beside_of};
+ghost use Rattle.rule_field_groups.specs.Pairs.{with_each};
+ghost use Rattle.rule_field_groups.specs.Pairs.{Looks, LooksAtTwos, each_with};
 
 use crate::remembered::{Pair, Remembered};
 use rule_field_sets::FieldSets;
@@ -31,7 +31,7 @@ impl Remembered {
     }
 
     /// Looks at each of these with the other, which comes after them.
-    pub(crate) fn look_at_each(
+    pub fn look_at_each(
         &mut self,
         sets: &FieldSets<'_>,
         nodes: &[usize],
@@ -48,7 +48,7 @@ impl Remembered {
     }
 
     /// Looks at one with each of these, which come after it.
-    pub(crate) fn look_before_each(
+    pub fn look_before_each(
         &mut self,
         sets: &FieldSets<'_>,
         one: usize,
@@ -65,11 +65,7 @@ impl Remembered {
     }
 
     /// Looks at each two of the sets, and at each with itself.
-    pub(crate) fn look_at_twos(
-        &mut self,
-        sets: &FieldSets<'_>,
-        nodes: &[usize],
-    ) -> Result<(), AllocError>
+    pub fn look_at_twos(&mut self, sets: &FieldSets<'_>, nodes: &[usize]) -> Result<(), AllocError>
         requires { AreSets sets.now }
         ensures looks { OnOk result (LooksAtTwos (meant_sets sets.now nodes.now) (kept_of sets.now self.old) (kept_of sets.now self.new)) }
         ensures beside { beside_of sets.now self.new ≡ beside_of sets.now self.old }

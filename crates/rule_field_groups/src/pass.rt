@@ -4,7 +4,7 @@ use rule_field_sets::Schema;
 
 /// What a pass compares.
 #[derive(Clone, Copy)]
-pub(crate) enum Pass {
+pub enum Pass {
     /// The shapes of fields of one response key.
     Shapes,
     /// The names and arguments of fields that one object may have.

@@ -1,15 +1,14 @@
 //! What was examined.
 ghost use Rattle.std.specs.Prelude.{◌≡◌, ◌∷◌, [], map, is_some, IsTrue, IfOk, OnErr};
-ghost use Rattle.rule_document_definitions.specs.ReadFields.{list_read};
+ghost use Rattle.rule_same_values.specs.in_document_definitions.ReadFields.{list_read};
 ghost use Rattle.rule_field_sets.specs.Nodes.{AreSets, HasMember};
 ghost use Rattle.rule_number_lists.specs.NumberLists.{lists_kept};
 ghost use Rattle.rule_field_sets.specs.Read.{set_at, set_content_at};
 ghost use Rattle.rule_field_sets.specs.declared.field_sets.FieldSets.{FieldSets};
-ghost use Rattle.rule_merging.specs.Members.{contents_of, meant_sets, read_sets, AreMembersOf};
-ghost use Rattle.rule_merging.specs.Under.{sets_in};
-ghost use Rattle.rule_merging.specs.Twos.{contents_of_two};
-ghost use Rattle.rule_merging.specs.Counted.{OnlyMeets, Pays, IsPaidIf, no_account};
-ghost use Rattle.rule_merging.specs.Remembered.{remembered, kept_of, account_of, beside_of, nothing_kept, Remembers, RemembersPaid, LooksAt, Expands, IsKnown};
+ghost use Rattle.rule_field_groups.specs.Members.{contents_of, meant_sets, read_sets, AreMembersOf, contents_of_two};
+ghost use Rattle.rule_field_groups.specs.Under.{sets_in};
+ghost use Rattle.rule_field_groups.specs.Paid.{OnlyMeets, Pays, IsPaidIf, no_account};
+ghost use Rattle.rule_field_groups.specs.Remembered.{remembered, kept_of, account_of, beside_of, nothing_kept, Remembers, RemembersPaid, LooksAt, Expands, IsKnown};
 
 use crate::budget::{FOR_EACH_FIELD, left_of, spent_with};
 use crate::node_walk::{MergedList, Toll};
@@ -20,32 +19,48 @@ use std::alloc::{AllocError, Global};
 
 /// Two sets that are looked at together, by their nodes: the fields of the one with those of the other.
 #[derive(Clone, Copy)]
-pub(crate) struct Pair {
-    pub(crate) one: usize,
-    pub(crate) other: usize,
+pub struct Pair {
+    pub one: usize,
+    pub other: usize,
 }
 
 /// The lists of fields that were examined, each once, and the lists of sets that were looked at: fields that these select and that go
 /// together are in lists that were examined. All are known by numbers, and a list by which it has, in whatever order; so is a pair.
-#[derive(Drop)]
-pub(crate) struct Remembered {
+pub struct Remembered {
     lists: NumberLists,
     /// The fields that were met in lists of sets.
     met: NumberSet,
     /// The lists of sets that were looked at.
-    pub(crate) expanded: NumberLists,
+    pub expanded: NumberLists,
     /// The pairs that were looked at, or are left.
     looked: NumberPairs,
     /// Of these the ones that came last, in turn.
-    pub(crate) pairs: Vec<Pair>,
+    pub pairs: Vec<Pair>,
     /// The lists of sets that are left for the next level, by their nodes.
-    pub(crate) next: Vec<Vec<usize>>,
+    pub next: Vec<Vec<usize>>,
     /// How many steps the walks over sets took that were paid.
     spent: usize,
     /// Whether a list was not paid.
     is_spent: bool,
     /// How often shapes were compared.
-    pub(crate) comparisons: u128,
+    pub comparisons: u128,
+}
+
+// Not derived: a derived drop is proved again in each crate that drops one.
+impl Drop for Remembered {
+    fn drop(self) {
+        let Remembered {
+            lists: _,
+            met: _,
+            expanded: _,
+            looked: _,
+            pairs: _,
+            next: _,
+            spent: _,
+            is_spent: _,
+            comparisons: _,
+        } = self;
+    }
 }
 
 /// The numbers of these fields.
@@ -77,7 +92,7 @@ fn numbers_of_nodes(
 
 impl Remembered {
     /// None.
-    pub(crate) fn new(alloc: Global) -> Remembered
+    pub fn new(alloc: Global) -> Remembered
         ensures kept { (w : FieldSets) → kept_of w result ≡ nothing_kept }
         ensures account { (w : FieldSets) → account_of w result ≡ no_account }
     {
@@ -95,7 +110,7 @@ impl Remembered {
     }
 
     /// Whether all numbers that stand here are below these: those of fields, and those of sets.
-    pub(crate) fn is_known(&self, fields: usize, sets: usize) -> bool
+    pub fn is_known(&self, fields: usize, sets: usize) -> bool
         ensures { IsTrue result → IsKnown fields sets self.now }
     {
         self.lists.bound() <= fields
@@ -105,11 +120,7 @@ impl Remembered {
     }
 
     /// Remembers two fields as a list: one, where both say the same. Whether it was not remembered before is given.
-    pub(crate) fn remember_two(
-        &mut self,
-        one: Member<'_>,
-        other: Member<'_>,
-    ) -> Result<bool, AllocError>
+    pub fn remember_two(&mut self, one: Member<'_>, other: Member<'_>) -> Result<bool, AllocError>
         ensures remembers { IfOk result (λ is_new. (w : FieldSets) → AreSets w → HasMember w one.entry → HasMember w other.entry → Remembers (kept_of w self.old) (contents_of_two one.entry other.entry) is_new (kept_of w self.new)) }
         ensures refused { OnErr result ((w : FieldSets) → kept_of w self.new ≡ kept_of w self.old) }
         ensures account { (w : FieldSets) → account_of w self.new ≡ record (account_of w self.old) { lists = remembered w self.new } }
@@ -143,12 +154,12 @@ impl Remembered {
 
     /// Whether sets are looked at in pairs before they are expanded: they are two, and a list was not paid. There may be as many
     /// lists of two sets as sets times sets.
-    pub(crate) fn skips(&self, nodes: &[usize]) -> bool {
+    pub fn skips(&self, nodes: &[usize]) -> bool {
         self.is_spent && nodes.len() == 2
     }
 
     /// What the walk over the next list of sets may cost.
-    pub(crate) fn toll(&self) -> Toll<'_> {
+    pub fn toll(&self) -> Toll<'_> {
         Toll {
             met: &self.met,
             paid: left_of(self.spent, self.met.len()),
@@ -169,7 +180,7 @@ impl Remembered {
 
     /// Remembers the merged list of some sets, if it is whole and may be examined: what it costs is paid by fields that are new. Whether it
     /// was not remembered before is given: one with the same contents; or nothing, where it is not paid.
-    pub(crate) fn remember_paid(
+    pub fn remember_paid(
         &mut self,
         alloc: Global,
         list: &MergedList<'_>,
@@ -200,7 +211,7 @@ impl Remembered {
     }
 
     /// Notes that a list of sets is looked at. Whether it was not noted before is given: one with the same contents.
-    pub(crate) fn expand(
+    pub fn expand(
         expanded: &mut NumberLists,
         alloc: Global,
         sets: &FieldSets<'_>,

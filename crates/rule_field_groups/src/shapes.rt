@@ -2,8 +2,8 @@
 ghost use Rattle.std.specs.Prelude.{◌≡◌};
 ghost use Rattle.tree_literals.specs.TypeTree.{type_tree, unplaced_type};
 ghost use Rattle.rule_field_sets.specs.in_ground.in_schema.SchemaOf.{schema_tree};
-ghost use Rattle.rule_definitions.specs.Judged.{judged};
-ghost use Rattle.rule_merging.specs.Shapes.{same_marks, same_inner, same_type};
+ghost use Rattle.rule_same_values.specs.in_definitions.Judged.{judged};
+ghost use Rattle.rule_field_groups.specs.Shapes.{same_marks, same_inner, same_type};
 
 use crate::kinds::is_composite;
 use graphql_names::Name;

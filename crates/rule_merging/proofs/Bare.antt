@@ -1,13 +1,13 @@
 -- Sets without selections select nothing.
 use Rattle.std.proofs.Common.{◌≡◌, None, [], Contains, refl, subst}
-use Rattle.rule_definitions.proofs.Lists.{not_in_nil}
-use Rattle.document_meaning.specs.MeantTree.{MeantSet, meant_set, no_meant, meant_then, MeantDocument}
-use Rattle.document_meaning.specs.in_components.Names.{Entries}
-use Rattle.rule_document_definitions.specs.Selected.{InOperation, StandingField}
-use Rattle.rule_document_definitions.specs.Reached.{first, next, IsFieldOf}
-use Rattle.rule_document_definitions.specs.Contents.{content}
-use Rattle.rule_document_definitions.specs.ReadFields.{ReadField, ReadSet, nothing_read, fields_in, spreads_in, set_read, IsReadFrom, SelectsRead}
-use Rattle.rule_merging.specs.Below.{IsBare}
+use Rattle.rule_field_groups.proofs.in_definitions.Lists.{not_in_nil}
+use Rattle.rule_field_groups.specs.in_meaning.MeantTree.{MeantSet, meant_set, no_meant, meant_then, MeantDocument}
+use Rattle.rule_field_groups.specs.in_meaning.in_components.Names.{Entries}
+use Rattle.rule_field_groups.specs.in_document_definitions.Selected.{InOperation, StandingField}
+use Rattle.rule_field_groups.specs.in_document_definitions.Reached.{first, next, IsFieldOf}
+use Rattle.rule_field_groups.specs.in_document_definitions.Contents.{content}
+use Rattle.rule_field_groups.specs.in_document_definitions.ReadFields.{ReadField, ReadSet, nothing_read, fields_in, spreads_in, set_read, IsReadFrom, SelectsRead}
+use Rattle.rule_field_groups.specs.Below.{IsBare}
 
 -- a content that a set selects
 abbrev pub IsIn : {P : Type 0} → MeantDocument P → MeantSet P → StandingField P → Type 0

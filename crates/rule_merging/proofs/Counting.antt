@@ -7,41 +7,42 @@ use Rattle.std.proofs.lemmas.List.Sorted.{length_permutation, IsPermutation-refl
 use Rattle.std.proofs.lemmas.Option.{slice_get_within}
 use Rattle.std.proofs.lemmas.List.Elements.{Contains-append_right, Contains-append_cases}
 use Rattle.graphql_names.specs.Placed.{Place}
-use Rattle.rule_definitions.proofs.Lists.{not_in_nil, only, Contains-cons, Contains-first}
+use Rattle.rule_field_groups.proofs.in_definitions.Lists.{not_in_nil, only, Contains-cons, Contains-first}
 use Rattle.rule_cycle_search.specs.Paths.{HasNoRepeat}
-use Rattle.document_meaning.specs.MeantTree.{MeantSet, MeantOperation, MeantDocument}
-use Rattle.rule_definitions.specs.Judged.{Judged}
-use Rattle.rule_document_definitions.specs.DocumentFaults.{Broken}
-use Rattle.rule_document_definitions.specs.Selected.{StandingField, InOperation}
-use Rattle.rule_document_definitions.specs.Reached.{IsFieldOf}
-use Rattle.rule_document_definitions.specs.Chains.{Chain}
-use Rattle.rule_document_definitions.specs.Contents.{content, ContentBelow}
-use Rattle.rule_document_definitions.specs.Merging.{Below, Starts}
-use Rattle.rule_document_definitions.specs.ReadFields.{ReadField, ReadSet, field_read, ReadBelow}
-use Rattle.rule_document_definitions.proofs.Unplaced.{contains_unmap}
-use Rattle.rule_document_definitions.proofs.Elsewhere.{content_below, content_starts}
-use Rattle.rule_document_definitions.proofs.ReadFacts.{read_below, below_read}
+use Rattle.rule_field_groups.specs.in_meaning.MeantTree.{MeantSet, MeantOperation, MeantDocument}
+use Rattle.rule_field_groups.specs.in_definitions.Judged.{Judged}
+use Rattle.rule_field_groups.specs.in_document_definitions.DocumentFaults.{Broken}
+use Rattle.rule_field_groups.specs.in_document_definitions.Selected.{StandingField, InOperation}
+use Rattle.rule_field_groups.specs.in_document_definitions.Reached.{IsFieldOf}
+use Rattle.rule_field_groups.specs.in_document_definitions.Chains.{Chain}
+use Rattle.rule_field_groups.specs.in_document_definitions.Contents.{content, ContentBelow}
+use Rattle.rule_field_groups.specs.in_document_definitions.Merging.{Below, Starts}
+use Rattle.rule_field_groups.specs.in_document_definitions.ReadFields.{ReadField, ReadSet, field_read, ReadBelow}
+use Rattle.rule_field_groups.proofs.in_document_definitions.Unplaced.{contains_unmap}
+use Rattle.rule_field_groups.proofs.in_document_definitions.Elsewhere.{content_below, content_starts}
+use Rattle.rule_field_groups.proofs.in_document_definitions.ReadFacts.{read_below, below_read}
 use Rattle.rule_number_lists.specs.NumberLists.{HaveSame, length_above_two}
 use Rattle.rule_number_lists.specs.NumberPairs.{pairs_kept}
 use Rattle.rule_number_lists.specs.declared.pairs.NumberPairs.{NumberPairs}
 use Rattle.rule_number_lists.proofs.Standing.{same_order, same_trans, same_sym, no_repeat_order}
 use Rattle.rule_number_lists.proofs.Few.{no_longer, few, above_two_length, above_two_le, differ_cons, differ_order, from_apart}
 use Rattle.rule_number_lists.proofs.Rows.{kept_few}
-use Rattle.rule_field_sets.specs.declared.member.Member.{Member}
-use Rattle.rule_field_sets.specs.declared.field_sets.FieldSets.{FieldSets}
-use Rattle.rule_merging.specs.Members.{field_of, fields_of, content_of, contents_of}
-use Rattle.rule_merging.specs.declared.pass.Pass.{Pass}
-use Rattle.rule_merging.specs.declared.pass.Pass.TheVariants.{Shapes, Selections}
-use Rattle.rule_merging.specs.Below.{IsMergedIn, IsPartOfMergedIn}
-use Rattle.rule_merging.specs.declared.remembered.Remembered.{Remembered}
-use Rattle.rule_merging.specs.Remembered.{Kept, looked_in, both_in, IsKnown}
-use Rattle.rule_field_sets.specs.Read.{set_content_at}
+use Rattle.rule_field_groups.specs.in_sets.declared.member.Member.{Member}
+use Rattle.rule_field_groups.specs.in_sets.declared.field_sets.FieldSets.{FieldSets}
+use Rattle.rule_field_groups.specs.Members.{field_of, fields_of, content_of, contents_of}
+use Rattle.rule_field_groups.specs.declared.pass.Pass.{Pass}
+use Rattle.rule_field_groups.specs.declared.pass.Pass.TheVariants.{Shapes, Selections}
+use Rattle.rule_field_groups.specs.Below.{IsMergedIn, IsPartOfMergedIn}
+use Rattle.rule_field_groups.specs.declared.remembered.Remembered.{Remembered}
+use Rattle.rule_field_groups.specs.Remembered.{Kept, looked_in, both_in, IsKnown}
+use Rattle.rule_field_groups.specs.in_sets.Read.{set_content_at}
 use Rattle.rule_merging.specs.Examined.{SelectsAsMuch, SetsExamined}
 use Rattle.rule_merging.specs.Twos.{IsListOf, are_two}
 use Rattle.rule_merging.specs.Verdict.{OnlyGrow, IsCountedIn}
-use Rattle.rule_merging.specs.Compared.{compared}
-use Rattle.rule_merging.specs.Counted.{Account, no_account, most_members, most_comparisons, IsWithin, Meets, Pays, DifferInMembers, AreApart, IsLast, AreLast, AreListed, Grows, IsCountedBy, IsPaidBy}
-use Rattle.rule_merging.proofs.Counts.{sums, sums_order}
+use Rattle.rule_field_groups.specs.Compared.{compared}
+use Rattle.rule_field_groups.specs.Paid.{Account, no_account, most_members, IsWithin, Meets, Pays}
+use Rattle.rule_merging.specs.Counted.{most_comparisons, DifferInMembers, AreApart, IsLast, AreLast, AreListed, Grows, IsCountedBy, IsPaidBy}
+use Rattle.rule_field_groups.proofs.Counts.{sums, sums_order}
 
 -- ---- sums
 

@@ -7,44 +7,44 @@ use Rattle.std.proofs.lemmas.Bool.Decides.{Decides-eqb}
 use Rattle.std.proofs.lemmas.List.{map-append}
 use Rattle.std.proofs.lemmas.List.Elements.{Contains-append_left, Contains-append_right, Contains-append_cases}
 use Rattle.graphql_names.specs.Placed.{Place}
-use Rattle.schema_components.proofs.Places.{Contains-rest}
-use Rattle.document_meaning.specs.MeantTree.{MeantSet, MeantOperation, MeantDocument}
-use Rattle.rule_definitions.specs.Judged.{Judged}
-use Rattle.rule_definitions.proofs.Lists.{not_in_nil, only, Contains-cons, Contains-first, given_in}
-use Rattle.rule_document_definitions.specs.DocumentFaults.{Broken}
-use Rattle.rule_document_definitions.specs.Selected.{StandingField}
-use Rattle.rule_document_definitions.specs.Contents.{ContentBelow, ContentStarts}
-use Rattle.rule_document_definitions.specs.Merging.{MergingBreaks}
-use Rattle.rule_document_definitions.specs.Limits.{chain_bound}
-use Rattle.rule_document_definitions.specs.PlainFields.{IsSelected}
-use Rattle.rule_document_definitions.specs.ReadFields.{ReadField, ReadSet, list_read, field_read, fragments_read, ReadBelow, ReadStarts}
-use Rattle.rule_document_definitions.specs.Settled.{StandIn, StartsStand, IsUnderWay}
-use Rattle.rule_document_definitions.specs.Going.{IsEndOf, IsGoing}
-use Rattle.rule_document_definitions.proofs.Equivalences.{shape_sym, shape_trans, selection_sym, selection_trans}
-use Rattle.rule_document_definitions.proofs.Unplaced.{contains_map, contains_unmap}
-use Rattle.rule_document_definitions.proofs.SettledFacts.{by_head, begun, moved, ended}
-use Rattle.rule_document_definitions.proofs.GoingFacts.{going_start, going_below, end_start, end_below}
-use Rattle.rule_document_definitions.proofs.Merges.{going_breaks, bound_passed}
+use Rattle.rule_field_groups.proofs.in_components.Places.{Contains-rest}
+use Rattle.rule_field_groups.specs.in_meaning.MeantTree.{MeantSet, MeantOperation, MeantDocument}
+use Rattle.rule_field_groups.specs.in_definitions.Judged.{Judged}
+use Rattle.rule_field_groups.proofs.in_definitions.Lists.{not_in_nil, only, Contains-cons, Contains-first, given_in}
+use Rattle.rule_field_groups.specs.in_document_definitions.DocumentFaults.{Broken}
+use Rattle.rule_field_groups.specs.in_document_definitions.Selected.{StandingField}
+use Rattle.rule_field_groups.specs.in_document_definitions.Contents.{ContentBelow, ContentStarts}
+use Rattle.rule_field_groups.specs.in_document_definitions.Merging.{MergingBreaks}
+use Rattle.rule_field_groups.specs.in_document_definitions.Limits.{chain_bound}
+use Rattle.rule_field_groups.specs.in_document_definitions.PlainFields.{IsSelected}
+use Rattle.rule_field_groups.specs.in_document_definitions.ReadFields.{ReadField, ReadSet, list_read, field_read, fragments_read, ReadBelow, ReadStarts}
+use Rattle.rule_field_groups.specs.in_document_definitions.Settled.{StandIn, StartsStand, IsUnderWay}
+use Rattle.rule_field_groups.specs.in_document_definitions.Going.{IsEndOf, IsGoing}
+use Rattle.rule_field_groups.proofs.in_document_definitions.Equivalences.{shape_sym, shape_trans, selection_sym, selection_trans}
+use Rattle.rule_field_groups.proofs.in_document_definitions.Unplaced.{contains_map, contains_unmap}
+use Rattle.rule_field_groups.proofs.in_document_definitions.SettledFacts.{by_head, begun, moved, ended}
+use Rattle.rule_field_groups.proofs.in_document_definitions.GoingFacts.{going_start, going_below, end_start, end_below}
+use Rattle.rule_field_groups.proofs.in_document_definitions.Merges.{going_breaks, bound_passed}
 use Rattle.rule_number_lists.specs.NumberLists.{HaveSame}
 use Rattle.rule_number_lists.proofs.Standing.{same_sym, same_order}
-use Rattle.rule_field_sets.specs.declared.member.Member.{Member}
-use Rattle.rule_field_sets.specs.declared.field_sets.FieldSets.{FieldSets}
-use Rattle.rule_merging.specs.declared.pass.Pass.{Pass}
-use Rattle.rule_merging.specs.declared.pass.Pass.TheVariants.{Shapes, Selections}
-use Rattle.rule_merging.specs.Members.{field_of, fields_of, contents_of, meant_sets, read_sets, AreMembersOf}
-use Rattle.rule_merging.specs.Passes.{Together, Agree, Conflict, ReadTogether, ReadAgree, TellsEach}
+use Rattle.rule_field_groups.specs.in_sets.declared.member.Member.{Member}
+use Rattle.rule_field_groups.specs.in_sets.declared.field_sets.FieldSets.{FieldSets}
+use Rattle.rule_field_groups.specs.declared.pass.Pass.{Pass}
+use Rattle.rule_field_groups.specs.declared.pass.Pass.TheVariants.{Shapes, Selections}
+use Rattle.rule_field_groups.specs.Members.{field_of, fields_of, contents_of, meant_sets, read_sets, AreMembersOf}
+use Rattle.rule_field_groups.specs.Passes.{Together, Agree, Conflict, ReadTogether, ReadAgree, TellsEach}
 use Rattle.rule_merging.specs.Paired.{IsPairDone}
-use Rattle.rule_merging.specs.Under.{Sets, all_sets, AreOf, HaveBoth, AreListsBelow, IsGroupOf}
-use Rattle.rule_merging.specs.Below.{IsMergedIn, IsPartOfMergedIn}
-use Rattle.rule_merging.specs.declared.groups.KeyGroup.{KeyGroup}
-use Rattle.rule_merging.specs.Grouped.{ArePartsOf}
-use Rattle.rule_merging.specs.KeyGroups.{parts_of, parts_in, lists_in_group}
-use Rattle.rule_merging.specs.Remembered.{Kept, nothing_kept, HasLooked, Remembers, Expands}
-use Rattle.rule_merging.specs.Pairs.{each_with}
-use Rattle.rule_merging.specs.Examined.{all_read, StandTogether, ReadOwn, ReadSelected, ReadSpreads, AreLookedAt, IsLeft, AllStand, PairsAreDone, AreSettled, AreUnderWay, HaveFields, IsFresh, GroupsExamined, ListExamined, SetsExamined, AreTwosOf, AllExamined}
-use Rattle.rule_merging.proofs.Counts.{flat_push}
-use Rattle.rule_merging.proofs.Filing.{of_filter}
-use Rattle.rule_merging.proofs.Lists.{taken_more}
+use Rattle.rule_field_groups.specs.Under.{Sets, all_sets, AreOf, HaveBoth, AreListsBelow, IsGroupOf}
+use Rattle.rule_field_groups.specs.Below.{IsMergedIn, IsPartOfMergedIn}
+use Rattle.rule_field_groups.specs.declared.groups.KeyGroup.{KeyGroup}
+use Rattle.rule_field_groups.specs.Grouped.{ArePartsOf}
+use Rattle.rule_field_groups.specs.KeyGroups.{parts_of, parts_in, lists_in_group}
+use Rattle.rule_field_groups.specs.Remembered.{Kept, nothing_kept, HasLooked, Remembers, Expands}
+use Rattle.rule_field_groups.specs.Pairs.{each_with, AreTwosOf}
+use Rattle.rule_merging.specs.Examined.{all_read, StandTogether, ReadOwn, ReadSelected, ReadSpreads, AreLookedAt, IsLeft, AllStand, PairsAreDone, AreSettled, AreUnderWay, HaveFields, IsFresh, GroupsExamined, ListExamined, SetsExamined, AllExamined}
+use Rattle.rule_field_groups.proofs.Counts.{flat_push}
+use Rattle.rule_field_groups.proofs.Filing.{of_filter}
+use Rattle.rule_field_groups.proofs.Lists.{taken_more}
 use Rattle.rule_merging.proofs.Bare.{IsIn, bare_reads}
 use Rattle.rule_merging.proofs.Passing.{together_read, agree_read, selects_listed, reads_selected}
 

@@ -5,13 +5,13 @@ use Rattle.rule_number_lists.specs.NumberLists.{lists_kept}
 use Rattle.rule_number_lists.specs.NumberPairs.{pairs_kept}
 use Rattle.rule_number_lists.specs.NumberSet.{numbers_in}
 use Rattle.rule_number_lists.proofs.Few.{in_rest}
-use Rattle.rule_field_sets.specs.Numbered.{tables_of}
-use Rattle.rule_field_sets.specs.Nodes.{SetsGrow}
-use Rattle.rule_field_sets.specs.Read.{content_at, set_content_at}
-use Rattle.rule_field_sets.specs.declared.field_sets.FieldSets.{FieldSets}
-use Rattle.rule_field_sets.proofs.Meaning.{content_stays, set_content_stays}
-use Rattle.rule_merging.specs.Remembered.{both_in, remembered, expanded_in, looked_in, kept_of, account_of, IsKnown}
-use Rattle.rule_merging.specs.declared.remembered.Remembered.{Remembered}
+use Rattle.rule_field_groups.specs.in_sets.Numbered.{tables_of}
+use Rattle.rule_field_groups.specs.in_sets.Nodes.{SetsGrow}
+use Rattle.rule_field_groups.specs.in_sets.Read.{content_at, set_content_at}
+use Rattle.rule_field_groups.specs.in_sets.declared.field_sets.FieldSets.{FieldSets}
+use Rattle.rule_field_groups.proofs.in_sets.Meaning.{content_stays, set_content_stays}
+use Rattle.rule_field_groups.specs.Remembered.{both_in, remembered, expanded_in, looked_in, kept_of, account_of, IsKnown}
+use Rattle.rule_field_groups.specs.declared.remembered.Remembered.{Remembered}
 
 each_same : {A B : Type 0} (f g : A → B) (xs : List A) → ((x : A) → Contains xs x → f x ≡ g x) → map f xs ≡ map g xs
 each_same f g [] all = refl

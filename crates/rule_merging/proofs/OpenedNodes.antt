@@ -3,19 +3,19 @@ use Rattle.std.proofs.Common.{◌≡◌, ℕ, List, [], ◌∷◌, slice_get, Co
 use Rattle.std.specs.Prelude.{Some}
 use Rattle.std.specs.List.{AllZip}
 use Rattle.graphql_names.specs.Placed.{Place}
-use Rattle.schema_components.proofs.Places.{Contains-rest}
-use Rattle.document_meaning.specs.MeantTree.{MeantDocument}
-use Rattle.rule_definitions.proofs.Lists.{not_in_nil, Contains-cons, Contains-first}
-use Rattle.rule_document_definitions.specs.ReadFields.{list_read}
-use Rattle.rule_document_definitions.proofs.Unplaced.{contains_map, contains_unmap}
-use Rattle.rule_field_sets.specs.in_ground.Fields.{meant_fragments}
-use Rattle.rule_field_sets.specs.declared.field_sets.FieldSets.{FieldSets}
-use Rattle.rule_field_sets.specs.declared.member.SetNode.{SetNode}
-use Rattle.rule_field_sets.specs.Nodes.{AreSets, HasAllStarts, set_nodes, fragment_nodes}
-use Rattle.rule_field_sets.specs.Read.{set_at}
-use Rattle.rule_merging.specs.Members.{meant_sets}
+use Rattle.rule_field_groups.proofs.in_components.Places.{Contains-rest}
+use Rattle.rule_field_groups.specs.in_meaning.MeantTree.{MeantDocument}
+use Rattle.rule_field_groups.proofs.in_definitions.Lists.{not_in_nil, Contains-cons, Contains-first}
+use Rattle.rule_field_groups.specs.in_document_definitions.ReadFields.{list_read}
+use Rattle.rule_field_groups.proofs.in_document_definitions.Unplaced.{contains_map, contains_unmap}
+use Rattle.rule_field_groups.specs.in_sets.in_ground.Fields.{meant_fragments}
+use Rattle.rule_field_groups.specs.in_sets.declared.field_sets.FieldSets.{FieldSets}
+use Rattle.rule_field_groups.specs.in_sets.declared.member.SetNode.{SetNode}
+use Rattle.rule_field_groups.specs.in_sets.Nodes.{AreSets, HasAllStarts, set_nodes, fragment_nodes}
+use Rattle.rule_field_groups.specs.in_sets.Read.{set_at}
+use Rattle.rule_field_groups.specs.Members.{meant_sets}
 use Rattle.rule_merging.specs.Examined.{SelectsAsMuch}
-use Rattle.rule_merging.proofs.NodeFacts.{read_own, read_spreads, member_selected, spread_selects}
+use Rattle.rule_field_groups.proofs.NodeFacts.{read_own, read_spreads, member_selected, spread_selects}
 use Rattle.rule_merging.proofs.PairStep.{IsOpened}
 
 -- what stands on the one side has one beside it on the other

@@ -6,28 +6,29 @@ use Rattle.std.specs.Result.{OnOk, IfOk}
 use Rattle.graphql_names.specs.Placed.{Place}
 use Rattle.graphql_names.specs.Node.{content}
 use Rattle.graphql_names.specs.declared.node.Node.{Node}
-use Rattle.document_typed_selections.specs.TypedTree.{TypedSet, typed_set_tree}
+use Rattle.rule_field_groups.specs.in_typed_selections.TypedTree.{TypedSet, typed_set_tree}
 use Rattle.document_typed_operations.specs.declared.operation.Operation.{Operation}
-use Rattle.document_meaning.specs.MeantTree.{MeantSet, MeantOperation, MeantDocument, meant_of_set}
-use Rattle.rule_field_sets.specs.in_ground.in_schema.SchemaOf.{schema_tree}
-use Rattle.rule_field_sets.specs.in_ground.in_typed_operations.DocumentView.{operation_meant}
-use Rattle.rule_field_sets.specs.in_ground.Fields.{meant_fragments}
-use Rattle.rule_definitions.specs.Judged.{Judged, judged}
-use Rattle.rule_document_definitions.specs.DocumentFaults.{Broken}
-use Rattle.rule_document_definitions.proofs.ReadFacts.{read_fields_merge}
-use Rattle.rule_field_sets.specs.Nodes.{AreSets, SetsGrow, HasAllStarts, IsNodeOf, set_nodes}
+use Rattle.rule_field_groups.specs.in_meaning.MeantTree.{MeantSet, MeantOperation, MeantDocument, meant_of_set}
+use Rattle.rule_field_groups.specs.in_sets.in_ground.in_schema.SchemaOf.{schema_tree}
+use Rattle.rule_field_groups.specs.in_sets.in_ground.in_typed_operations.DocumentView.{operation_meant}
+use Rattle.rule_field_groups.specs.in_sets.in_ground.Fields.{meant_fragments}
+use Rattle.rule_field_groups.specs.in_definitions.Judged.{Judged, judged}
+use Rattle.rule_field_groups.specs.in_document_definitions.DocumentFaults.{Broken}
+use Rattle.rule_field_groups.proofs.in_document_definitions.ReadFacts.{read_fields_merge}
+use Rattle.rule_field_groups.specs.in_sets.Nodes.{AreSets, SetsGrow, HasAllStarts, IsNodeOf, set_nodes}
 use Rattle.rule_number_lists.specs.NumberPairs.{pairs_kept}
-use Rattle.rule_field_sets.specs.Read.{set_at, set_content_at}
-use Rattle.rule_field_sets.specs.declared.field_sets.FieldSets.{FieldSets}
-use Rattle.rule_field_sets.proofs.Kept.{sets_grow_same}
-use Rattle.rule_field_sets.proofs.Meaning.{set_of_node}
-use Rattle.rule_merging.specs.declared.pass.Pass.{Pass}
-use Rattle.rule_merging.specs.declared.pass.Pass.TheVariants.{Shapes, Selections}
+use Rattle.rule_field_groups.specs.in_sets.Read.{set_at, set_content_at}
+use Rattle.rule_field_groups.specs.in_sets.declared.field_sets.FieldSets.{FieldSets}
+use Rattle.rule_field_groups.proofs.in_sets.Kept.{sets_grow_same}
+use Rattle.rule_field_groups.proofs.in_sets.Meaning.{set_of_node}
+use Rattle.rule_field_groups.specs.declared.pass.Pass.{Pass}
+use Rattle.rule_field_groups.specs.declared.pass.Pass.TheVariants.{Shapes, Selections}
 use Rattle.rule_merging.specs.declared.examination.Examination.{Examination}
 use Rattle.rule_merging.specs.declared.operation.Examined.{Examined}
-use Rattle.rule_merging.specs.declared.remembered.Remembered.{Remembered}
-use Rattle.rule_merging.specs.Counted.{Account, AreListed, Grows}
-use Rattle.rule_merging.specs.Remembered.{Kept, both_in, remembered, looked_in, account_of, kept_of}
+use Rattle.rule_field_groups.specs.declared.remembered.Remembered.{Remembered}
+use Rattle.rule_field_groups.specs.Paid.{Account}
+use Rattle.rule_merging.specs.Counted.{AreListed, Grows}
+use Rattle.rule_field_groups.specs.Remembered.{Kept, both_in, remembered, looked_in, account_of, kept_of}
 use Rattle.rule_merging.specs.Examined.{AreSettled, AllExamined, HasSets, schema_of, document_of, sets_of}
 use Rattle.rule_merging.specs.Verdict.{AreSetsFor, Begins, OnlyGrow, OperationExamined, IsCounted, IsCountedIn, AreKnown, LooksAtFew, sets_numbered, account_in, without_pairs}
 use Rattle.rule_merging.proofs.Counting.{only_grow, shapes_counted, few_pairs}

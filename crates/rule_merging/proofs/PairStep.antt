@@ -4,33 +4,34 @@ use Rattle.std.specs.Prelude.{option_map}
 use Rattle.std.proofs.lemmas.List.{map-append, drop-append-le, drop_all}
 use Rattle.std.proofs.lemmas.List.Elements.{Contains-append_left, Contains-append_right, Contains-append_cases}
 use Rattle.graphql_names.specs.Placed.{Place}
-use Rattle.schema_components.proofs.Places.{Contains-rest}
-use Rattle.rule_definitions.proofs.Lists.{not_in_nil, only, Contains-cons, Contains-first, mapped_some}
-use Rattle.document_meaning.specs.MeantTree.{MeantSet, meant_set, no_meant, meant_then, MeantFragment, MeantOperation, MeantDocument}
-use Rattle.rule_definitions.specs.Judged.{Judged}
-use Rattle.rule_definitions.specs.in_schema_types.Addresses.{under}
-use Rattle.rule_document_definitions.specs.DocumentFaults.{Broken}
-use Rattle.rule_document_definitions.specs.Selected.{StandingField}
-use Rattle.rule_document_definitions.specs.Reached.{first as starts_here, next as leads_on}
-use Rattle.rule_document_definitions.specs.ReadFields.{ReadField, ReadSet, fields_in, spreads_in, set_read, list_read, fragments_read, IsReadFrom, SelectsRead, ReadBelow, ReadStarts}
-use Rattle.rule_document_definitions.specs.PlainFields.{IsSelected}
-use Rattle.rule_document_definitions.specs.Settled.{StandIn, IsUnderWay}
-use Rattle.rule_document_definitions.proofs.Unplaced.{contains_map, contains_unmap, under_same}
+use Rattle.rule_field_groups.proofs.in_components.Places.{Contains-rest}
+use Rattle.rule_field_groups.proofs.in_definitions.Lists.{not_in_nil, only, Contains-cons, Contains-first, mapped_some}
+use Rattle.rule_field_groups.specs.in_meaning.MeantTree.{MeantSet, meant_set, no_meant, meant_then, MeantFragment, MeantOperation, MeantDocument}
+use Rattle.rule_field_groups.specs.in_definitions.Judged.{Judged}
+use Rattle.rule_field_groups.specs.in_definitions.in_schema_types.Addresses.{under}
+use Rattle.rule_field_groups.specs.in_document_definitions.DocumentFaults.{Broken}
+use Rattle.rule_field_groups.specs.in_document_definitions.Selected.{StandingField}
+use Rattle.rule_field_groups.specs.in_document_definitions.Reached.{first as starts_here, next as leads_on}
+use Rattle.rule_field_groups.specs.in_document_definitions.ReadFields.{ReadField, ReadSet, fields_in, spreads_in, set_read, list_read, fragments_read, IsReadFrom, SelectsRead, ReadBelow, ReadStarts}
+use Rattle.rule_field_groups.specs.in_document_definitions.PlainFields.{IsSelected}
+use Rattle.rule_field_groups.specs.in_document_definitions.Settled.{StandIn, IsUnderWay}
+use Rattle.rule_field_groups.proofs.in_document_definitions.Unplaced.{contains_map, contains_unmap, under_same}
 use Rattle.rule_number_lists.specs.NumberLists.{HaveSame}
 use Rattle.rule_number_lists.proofs.Standing.{same_trans, same_sym}
-use Rattle.rule_field_sets.specs.declared.member.Member.{Member}
-use Rattle.rule_merging.specs.declared.pass.Pass.{Pass}
-use Rattle.rule_merging.specs.declared.pass.Pass.TheVariants.{Shapes, Selections}
-use Rattle.rule_merging.specs.Members.{field_of, content_of, read_sets}
+use Rattle.rule_field_groups.specs.in_sets.declared.member.Member.{Member}
+use Rattle.rule_field_groups.specs.declared.pass.Pass.{Pass}
+use Rattle.rule_field_groups.specs.declared.pass.Pass.TheVariants.{Shapes, Selections}
+use Rattle.rule_field_groups.specs.Members.{field_of, content_of, read_sets}
 use Rattle.rule_merging.specs.Paired.{LeadsTo, Selects}
-use Rattle.rule_merging.specs.Passes.{ReadTogether, ReadAgree}
-use Rattle.rule_merging.specs.Remembered.{Kept}
-use Rattle.rule_merging.specs.Examined.{Sets, all_read, with_each, StandTogether, ReadOwn, ReadSelected, ReadSpreads, AreLookedAt, IsLeft, PairsAreDone, AreUnderWay, TellsIn, ComeFrom, SelectsAsMuch, SetsExamined, PairExamined, PairsExamined, AreTwosOf}
+use Rattle.rule_field_groups.specs.Passes.{ReadTogether, ReadAgree}
+use Rattle.rule_field_groups.specs.Remembered.{Kept}
+use Rattle.rule_field_groups.specs.Pairs.{with_each, AreTwosOf}
+use Rattle.rule_merging.specs.Examined.{Sets, all_read, StandTogether, ReadOwn, ReadSelected, ReadSpreads, AreLookedAt, IsLeft, PairsAreDone, AreUnderWay, TellsIn, ComeFrom, SelectsAsMuch, SetsExamined, PairExamined, PairsExamined}
 use Rattle.rule_merging.specs.Counted.{IsLast, AreListed}
-use Rattle.rule_merging.specs.Pairs.{Looks, LooksAtTwos, each_with}
+use Rattle.rule_field_groups.specs.Pairs.{Looks, LooksAtTwos, each_with}
 use Rattle.rule_merging.specs.Twos.{are_of, both_of, FieldsPaired}
 use Rattle.rule_merging.proofs.Passing.{together_read}
-use Rattle.rule_merging.proofs.Counts.{drop_first}
+use Rattle.rule_field_groups.proofs.Counts.{drop_first}
 use Rattle.rule_merging.proofs.PairedFacts.{pairs_stand}
 use Rattle.rule_merging.proofs.Examining.{left_empty, right_empty, together_more, moved_lists, left_wider, dropped, all_of_one, looked_more, HasMore, DoneIn, SetsStand, done_more, swapped, same_read}
 

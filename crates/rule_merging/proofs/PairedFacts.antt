@@ -1,6 +1,6 @@
 -- Whatever two sets select that are looked at stands together, or a pair that is left selects it.
 use Rattle.std.proofs.Common.{◌⊎◌, refl, sym, subst, inl, inr}
-use Rattle.rule_document_definitions.specs.Reached.{first, next}
+use Rattle.rule_field_groups.specs.in_document_definitions.Reached.{first, next}
 use Rattle.rule_merging.specs.Paired.{LeadsTo, Selects, SelectEach, ArePairsDone}
 
 module _ {F S : Type 0} (Own : S → F → Type 0) (Spreads : S → S → Type 0) (Together Stand : F → F → Type 0) (Looked Left : S → S → Type 0)

@@ -4,29 +4,29 @@ use Rattle.std.proofs.lemmas.Bool.Decides.{Decides-eqb}
 use Rattle.std.proofs.lemmas.List.{length-append, length-map, map-append}
 use Rattle.std.proofs.lemmas.List.Elements.{Contains-append_left, Contains-append_right, Contains-append_cases}
 use Rattle.graphql_names.specs.Placed.{Place}
-use Rattle.schema_components.proofs.Places.{Contains-rest}
-use Rattle.rule_definitions.proofs.Lists.{not_in_nil, only, Contains-cons, Contains-first}
-use Rattle.document_meaning.specs.MeantTree.{MeantDocument}
-use Rattle.rule_definitions.specs.Judged.{Judged}
-use Rattle.rule_document_definitions.specs.DocumentFaults.{Broken}
-use Rattle.rule_document_definitions.specs.Selected.{StandingField}
-use Rattle.rule_document_definitions.specs.Merging.{SameKey}
-use Rattle.rule_field_sets.specs.in_ground.Broken.{broken_of, brokens_of}
-use Rattle.rule_merging.specs.Members.{field_of, fields_of, content_of}
-use Rattle.rule_field_sets.specs.declared.member.Member.{Member}
-use Rattle.rule_field_sets.specs.declared.field_sets.FieldSets.{FieldSets}
-use Rattle.rule_field_sets.specs.Nodes.{HasMember}
-use Rattle.rule_merging.specs.declared.pass.Pass.{Pass}
-use Rattle.rule_merging.specs.declared.pass.Pass.TheVariants.{Shapes, Selections}
-use Rattle.rule_merging.specs.Passes.{Together}
-use Rattle.rule_merging.specs.Members.{contents_of, read_sets, AreMembersOf}
-use Rattle.rule_merging.proofs.Lists.{taken_more}
+use Rattle.rule_field_groups.proofs.in_components.Places.{Contains-rest}
+use Rattle.rule_field_groups.proofs.in_definitions.Lists.{not_in_nil, only, Contains-cons, Contains-first}
+use Rattle.rule_field_groups.specs.in_meaning.MeantTree.{MeantDocument}
+use Rattle.rule_field_groups.specs.in_definitions.Judged.{Judged}
+use Rattle.rule_field_groups.specs.in_document_definitions.DocumentFaults.{Broken}
+use Rattle.rule_field_groups.specs.in_document_definitions.Selected.{StandingField}
+use Rattle.rule_field_groups.specs.in_document_definitions.Merging.{SameKey}
+use Rattle.rule_field_groups.specs.in_sets.in_ground.Broken.{broken_of, brokens_of}
+use Rattle.rule_field_groups.specs.Members.{field_of, fields_of, content_of, contents_of_two}
+use Rattle.rule_field_groups.specs.in_sets.declared.member.Member.{Member}
+use Rattle.rule_field_groups.specs.in_sets.declared.field_sets.FieldSets.{FieldSets}
+use Rattle.rule_field_groups.specs.in_sets.Nodes.{HasMember}
+use Rattle.rule_field_groups.specs.declared.pass.Pass.{Pass}
+use Rattle.rule_field_groups.specs.declared.pass.Pass.TheVariants.{Shapes, Selections}
+use Rattle.rule_field_groups.specs.Passes.{Together}
+use Rattle.rule_field_groups.specs.Members.{contents_of, read_sets, AreMembersOf}
+use Rattle.rule_field_groups.proofs.Lists.{taken_more}
 use Rattle.rule_number_lists.specs.NumberLists.{HaveSame}
-use Rattle.rule_document_definitions.specs.ReadFields.{ReadField, ReadSet}
-use Rattle.rule_document_definitions.specs.Settled.{StandIn}
-use Rattle.rule_merging.specs.Remembered.{Kept, Remembers}
+use Rattle.rule_field_groups.specs.in_document_definitions.ReadFields.{ReadField, ReadSet}
+use Rattle.rule_field_groups.specs.in_document_definitions.Settled.{StandIn}
+use Rattle.rule_field_groups.specs.Remembered.{Kept, Remembers}
 use Rattle.rule_merging.specs.Examined.{Sets, Breaches, all_read, IsFresh, ListExamined}
-use Rattle.rule_merging.specs.Twos.{TwoFields, are_two, IsListOf, IsListOfTwo, contents_of_two, both_of, GoTogether, FieldsPaired}
+use Rattle.rule_merging.specs.Twos.{TwoFields, are_two, IsListOf, IsListOfTwo, both_of, GoTogether, FieldsPaired}
 use Rattle.rule_merging.proofs.Examining.{left_empty, right_empty, more_there, one_there, there_before, stand_more, left_wider, list_fresh, HasMore}
 
 -- where more is told, something is added

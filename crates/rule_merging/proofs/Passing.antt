@@ -1,19 +1,19 @@
 -- Fields and what is read of them: both go together and agree alike in each pass, and sets select alike.
 use Rattle.std.proofs.Common.{◌≡◌, ◌↔◌, None, List, [], refl, sym, subst}
 use Rattle.graphql_names.specs.Placed.{Place}
-use Rattle.document_meaning.specs.MeantTree.{MeantSet, meant_set, no_meant, meant_then, MeantDocument}
-use Rattle.document_meaning.specs.in_components.Names.{Entries}
-use Rattle.rule_definitions.specs.Judged.{Judged}
-use Rattle.rule_document_definitions.specs.Selected.{InOperation, StandingField}
-use Rattle.rule_document_definitions.specs.Contents.{content}
-use Rattle.rule_document_definitions.specs.PlainFields.{IsSelected}
-use Rattle.rule_document_definitions.specs.ReadFields.{ReadField, ReadSet, nothing_read, read_set, no_reads, list_read, set_read, field_read, fragments_read, SelectsRead}
-use Rattle.rule_document_definitions.proofs.Unplaced.{contains_map, contains_unmap}
-use Rattle.rule_document_definitions.proofs.ReadFacts.{key_read, may_share_read, shape_read, selections_read, selects_read, read_selects}
-use Rattle.rule_merging.specs.declared.pass.Pass.{Pass}
-use Rattle.rule_merging.specs.declared.pass.Pass.TheVariants.{Shapes, Selections}
-use Rattle.rule_merging.specs.Passes.{Together, Agree, ReadTogether, ReadAgree}
-use Rattle.rule_merging.specs.Members.{read_sets}
+use Rattle.rule_field_groups.specs.in_meaning.MeantTree.{MeantSet, meant_set, no_meant, meant_then, MeantDocument}
+use Rattle.rule_field_groups.specs.in_meaning.in_components.Names.{Entries}
+use Rattle.rule_field_groups.specs.in_definitions.Judged.{Judged}
+use Rattle.rule_field_groups.specs.in_document_definitions.Selected.{InOperation, StandingField}
+use Rattle.rule_field_groups.specs.in_document_definitions.Contents.{content}
+use Rattle.rule_field_groups.specs.in_document_definitions.PlainFields.{IsSelected}
+use Rattle.rule_field_groups.specs.in_document_definitions.ReadFields.{ReadField, ReadSet, nothing_read, read_set, no_reads, list_read, set_read, field_read, fragments_read, SelectsRead}
+use Rattle.rule_field_groups.proofs.in_document_definitions.Unplaced.{contains_map, contains_unmap}
+use Rattle.rule_field_groups.proofs.in_document_definitions.ReadFacts.{key_read, may_share_read, shape_read, selections_read, selects_read, read_selects}
+use Rattle.rule_field_groups.specs.declared.pass.Pass.{Pass}
+use Rattle.rule_field_groups.specs.declared.pass.Pass.TheVariants.{Shapes, Selections}
+use Rattle.rule_field_groups.specs.Passes.{Together, Agree, ReadTogether, ReadAgree}
+use Rattle.rule_field_groups.specs.Members.{read_sets}
 use Rattle.rule_merging.specs.Examined.{ReadSelected}
 use Rattle.rule_merging.proofs.Bare.{nothing_listed}
 

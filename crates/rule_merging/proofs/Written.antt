@@ -4,18 +4,18 @@ use Rattle.std.specs.List.{cons_option}
 use Rattle.std.specs.Option.{option_map}
 use Rattle.std.proofs.lemmas.List.Elements.{Contains-append_left, Contains-append_right}
 use Rattle.graphql_names.specs.Placed.{Place}
-use Rattle.document_meaning.specs.MeantTree.{MeantOperation, MeantFragment, MeantDocument}
-use Rattle.rule_definitions.proofs.Lists.{Contains-first}
-use Rattle.rule_definitions.proofs.Lookups.{under_given}
+use Rattle.rule_field_groups.specs.in_meaning.MeantTree.{MeantOperation, MeantFragment, MeantDocument}
+use Rattle.rule_field_groups.proofs.in_definitions.Lists.{Contains-first}
+use Rattle.rule_field_groups.proofs.in_definitions.Lookups.{under_given}
 use Rattle.rule_cycle_search.proofs.Lists.{given_in}
-use Rattle.rule_document_definitions.specs.Selected.{InOperation, Standing, StandingField, as_field, standing_in, all_in, operations, operation_name, fragments, all_selections}
-use Rattle.rule_document_definitions.specs.Reached.{Closed, first, next, InFragmentOf, Reached}
-use Rattle.rule_document_definitions.specs.Chains.{Chain}
-use Rattle.rule_document_definitions.specs.ReadFields.{field_read}
-use Rattle.rule_document_definitions.specs.ReadFields.{ReadField}
-use Rattle.rule_document_definitions.specs.Merging.{Below, Starts}
-use Rattle.rule_document_definitions.proofs.Unplaced.{contains_map}
-use Rattle.rule_document_definitions.proofs.Spreading.{StandsThere, body, stands}
+use Rattle.rule_field_groups.specs.in_document_definitions.Selected.{InOperation, Standing, StandingField, as_field, standing_in, all_in, operations, operation_name, fragments, all_selections}
+use Rattle.rule_field_groups.specs.in_document_definitions.Reached.{Closed, first, next, InFragmentOf, Reached}
+use Rattle.rule_field_groups.specs.in_document_definitions.Chains.{Chain}
+use Rattle.rule_field_groups.specs.in_document_definitions.ReadFields.{field_read}
+use Rattle.rule_field_groups.specs.in_document_definitions.ReadFields.{ReadField}
+use Rattle.rule_field_groups.specs.in_document_definitions.Merging.{Below, Starts}
+use Rattle.rule_field_groups.proofs.in_document_definitions.Unplaced.{contains_map}
+use Rattle.rule_field_groups.proofs.in_document_definitions.Spreading.{StandsThere, body, stands}
 use Rattle.rule_merging.specs.Counted.{IsLast}
 use Rattle.rule_merging.specs.Merger.{written, fields_written}
 

@@ -1,19 +1,20 @@
 -- How often shapes were compared, and the lists that were examined for it.
-use Rattle.std.specs.Prelude.{◌≡◌, ◌≤◌, ◌+◌, ◌*◌, ◌++◌, ◌∷◌, ◌⊎◌, ℕ, Bool, List, [], map, length, slice_get, Some, IsTrue, Contains}
+use Rattle.std.specs.Prelude.{◌≡◌, ◌≤◌, ◌+◌, ◌*◌, ◌++◌, ◌∷◌, ◌⊎◌, ℕ, List, [], map, length, slice_get, Some, Contains}
 use Rattle.std.specs.List.{sum}
 use Rattle.std.specs.List.Sorted.{IsPermutation}
 use Rattle.graphql_names.specs.Placed.{Place}
 use Rattle.rule_cycle_search.specs.Paths.{HasNoRepeat}
 use Rattle.rule_number_lists.specs.NumberLists.{HaveSame, length_above_two}
-use Rattle.document_meaning.specs.MeantTree.{MeantSet, MeantOperation, MeantDocument}
-use Rattle.rule_document_definitions.specs.Selected.{StandingField}
-use Rattle.rule_document_definitions.specs.Chains.{Chain}
-use Rattle.rule_document_definitions.specs.Merging.{Below, Starts}
-use Rattle.rule_document_definitions.specs.ReadFields.{field_read}
-use Rattle.rule_document_definitions.specs.ReadFields.{ReadField}
-use Rattle.rule_document_definitions.specs.PlainFields.{IsSelected}
-use Rattle.rule_merging.specs.Compared.{compared}
-use Rattle.rule_merging.specs.declared.pass.Pass.{Pass}
+use Rattle.rule_field_groups.specs.in_meaning.MeantTree.{MeantSet, MeantOperation, MeantDocument}
+use Rattle.rule_field_groups.specs.in_document_definitions.Selected.{StandingField}
+use Rattle.rule_field_groups.specs.in_document_definitions.Chains.{Chain}
+use Rattle.rule_field_groups.specs.in_document_definitions.Merging.{Below, Starts}
+use Rattle.rule_field_groups.specs.in_document_definitions.ReadFields.{field_read}
+use Rattle.rule_field_groups.specs.in_document_definitions.ReadFields.{ReadField}
+use Rattle.rule_field_groups.specs.in_document_definitions.PlainFields.{IsSelected}
+use Rattle.rule_field_groups.specs.Compared.{compared}
+use Rattle.rule_field_groups.specs.Paid.{Account, most_members, IsWithin}
+use Rattle.rule_field_groups.specs.declared.pass.Pass.{Pass}
 
 -- no two of these lists have the same members
 abbrev pub DifferInMembers : List (List ReadField) → Type 0
@@ -23,48 +24,9 @@ DifferInMembers lists = (i j : ℕ) (a b : List ReadField) → slice_get lists i
 abbrev pub AreApart : List (List ReadField) → Type 0
 AreApart lists = (list : List ReadField) → Contains lists list → HasNoRepeat list
 
--- what is counted: the lists that were examined, the fields that were met, how many members of lists these were asked to pay for, and how
--- often shapes were compared
-pub record Account : Type 0 where
-  pub lists : List (List ReadField)
-  pub met : List ReadField
-  pub spent : ℕ
-  pub comparisons : ℕ
-
-abbrev pub no_account : Account
-no_account = record { lists = []; met = []; spent = 0; comparisons = 0 }
-
--- so many members the lists of more than two have in all, at most, for so many fields
-abbrev pub most_members : ℕ → ℕ
-most_members n = 200 + 4 * n
-
--- and so often shapes are compared
+-- so often shapes are compared, at most, for so many fields
 abbrev pub most_comparisons : ℕ → ℕ
 most_comparisons n = n * n + most_members n
-
-abbrev pub IsWithin : Account → Type 0
-IsWithin a = a.spent ≤ most_members (length a.met)
-
--- fields of a list are met, each content once; nothing is compared
-pub record Meets (list : List ReadField) (old new : Account) : Type 0 where
-  pub only : (x : ReadField) → Contains new.met x → Contains old.met x ⊎ Contains list x
-  pub once : HasNoRepeat new.met
-  pub more : length old.met ≤ length new.met
-  pub same : new.comparisons ≡ old.comparisons
-
--- and nothing is spent
-abbrev pub OnlyMeets : List ReadField → Account → Account → Type 0
-OnlyMeets list old new = Meets list old new × (new.spent ≡ old.spent)
-
--- a list is asked to pay, whether it is paid or not
-pub record Pays (list : List ReadField) (old new : Account) : Type 0 where
-  pub meets : Meets list old new
-  pub spends : old.spent ≤ new.spent
-  pub within : IsWithin old → IsWithin new
-
--- it is paid
-abbrev pub IsPaidIf : Bool → List ReadField → Account → Account → Type 0
-IsPaidIf is_paid list old new = IsTrue is_paid → old.spent + length list ≤ new.spent
 
 module _ (d : MeantDocument Place) where
   module _ (os : List (MeantOperation Place)) where

@@ -2,35 +2,35 @@
 use Rattle.std.specs.Prelude.{◌≡◌, ◌++◌, ◌∷◌, ◌≤◌, ℕ, Bool, true, false, List, [], map, length, drop, Some, option_map, Vec, Contains}
 use Rattle.std.specs.declared.alloc.Global.{Global}
 use Rattle.graphql_names.specs.Placed.{Place}
-use Rattle.fault_document_data.specs.declared.build_error.BuildError.{BuildError}
-use Rattle.rule_field_sets.specs.in_ground.in_schema.SchemaOf.{schema_tree}
-use Rattle.document_meaning.specs.MeantTree.{MeantSet, MeantOperation, MeantDocument}
-use Rattle.rule_definitions.specs.in_schema_types.Addresses.{under}
-use Rattle.rule_field_sets.specs.in_ground.in_typed_operations.DocumentView.{document_meant}
-use Rattle.rule_definitions.specs.Judged.{Judged, judged}
-use Rattle.rule_document_definitions.specs.DocumentFaults.{Broken}
-use Rattle.rule_document_definitions.specs.Selected.{StandingField}
-use Rattle.rule_document_definitions.specs.Groups.{AgreeWithHead, AreGroups}
-use Rattle.rule_document_definitions.specs.Merging.{MergingBreaks}
-use Rattle.rule_document_definitions.specs.Limits.{PassesChainBound}
-use Rattle.rule_field_sets.specs.in_ground.Broken.{brokens_of}
-use Rattle.rule_merging.specs.Members.{fields_of}
-use Rattle.rule_field_sets.specs.declared.member.Member.{Member}
-use Rattle.rule_document_definitions.specs.ReadFields.{ReadField, ReadSet, list_read, fields_in, spreads_in, fragments_read, SelectsRead, ReadBelow, ReadStarts}
-use Rattle.rule_document_definitions.specs.PlainFields.{IsSelected}
-use Rattle.rule_document_definitions.specs.Settled.{StandIn, StandWhere, StartsStand, IsSettledIn, IsUnderWay}
+use Rattle.graphql_faults.specs.in_document_data.declared.build_error.BuildError.{BuildError}
+use Rattle.rule_field_groups.specs.in_sets.in_ground.in_schema.SchemaOf.{schema_tree}
+use Rattle.rule_field_groups.specs.in_meaning.MeantTree.{MeantSet, MeantOperation, MeantDocument}
+use Rattle.rule_field_groups.specs.in_definitions.in_schema_types.Addresses.{under}
+use Rattle.rule_field_groups.specs.in_sets.in_ground.in_typed_operations.DocumentView.{document_meant}
+use Rattle.rule_field_groups.specs.in_definitions.Judged.{Judged, judged}
+use Rattle.rule_field_groups.specs.in_document_definitions.DocumentFaults.{Broken}
+use Rattle.rule_field_groups.specs.in_document_definitions.Selected.{StandingField}
+use Rattle.rule_field_groups.specs.in_document_definitions.Groups.{AgreeWithHead, AreGroups}
+use Rattle.rule_field_groups.specs.in_document_definitions.Merging.{MergingBreaks}
+use Rattle.rule_field_groups.specs.in_document_definitions.Limits.{PassesChainBound}
+use Rattle.rule_field_groups.specs.in_sets.in_ground.Broken.{brokens_of}
+use Rattle.rule_field_groups.specs.Members.{fields_of}
+use Rattle.rule_field_groups.specs.in_sets.declared.member.Member.{Member}
+use Rattle.rule_field_groups.specs.in_document_definitions.ReadFields.{ReadField, ReadSet, list_read, fields_in, spreads_in, fragments_read, SelectsRead, ReadBelow, ReadStarts}
+use Rattle.rule_field_groups.specs.in_document_definitions.PlainFields.{IsSelected}
+use Rattle.rule_field_groups.specs.in_document_definitions.Settled.{StandIn, StandWhere, StartsStand, IsSettledIn, IsUnderWay}
 use Rattle.rule_merging.specs.Paired.{ArePairsDone}
-use Rattle.rule_merging.specs.Passes.{Together, Agree, Conflict, ReadTogether, ReadAgree}
-pub use Rattle.rule_merging.specs.Under.{Sets, all_sets, sets_in, AreOf, IsAmong, HaveBoth}
-use Rattle.rule_merging.specs.Members.{read_sets}
-use Rattle.rule_merging.specs.declared.pass.Pass.{Pass}
+use Rattle.rule_field_groups.specs.Passes.{Together, Agree, Conflict, ReadTogether, ReadAgree}
+pub use Rattle.rule_field_groups.specs.Under.{Sets, all_sets, sets_in, AreOf, IsAmong, HaveBoth}
+use Rattle.rule_field_groups.specs.Members.{read_sets}
+use Rattle.rule_field_groups.specs.declared.pass.Pass.{Pass}
 use Rattle.rule_number_lists.specs.NumberLists.{HaveSame}
-use Rattle.rule_merging.specs.Remembered.{Kept, HasLooked, account_of, kept_of}
+use Rattle.rule_field_groups.specs.Remembered.{Kept, HasLooked, account_of, kept_of}
 use Rattle.rule_merging.specs.Counted.{AreListed, Grows}
-use Rattle.rule_field_sets.specs.in_ground.Fields.{meant_fragments}
-use Rattle.rule_field_sets.specs.Nodes.{AreSets, HasAllStarts, schema_in}
-use Rattle.rule_field_sets.specs.declared.field_sets.FieldSets.{FieldSets}
-use Rattle.rule_merging.specs.declared.remembered.Remembered.{Remembered}
+use Rattle.rule_field_groups.specs.in_sets.in_ground.Fields.{meant_fragments}
+use Rattle.rule_field_groups.specs.in_sets.Nodes.{AreSets, HasAllStarts, schema_in}
+use Rattle.rule_field_groups.specs.in_sets.declared.field_sets.FieldSets.{FieldSets}
+use Rattle.rule_field_groups.specs.declared.remembered.Remembered.{Remembered}
 use Rattle.rule_merging.specs.declared.examination.Examination.{Examination}
 
 abbrev pub schema_of : Examination → Judged
@@ -57,10 +57,6 @@ Breaches = Vec (Place × BuildError) Global
 -- what merging reads of them
 abbrev pub all_read : List Sets → List (List ReadSet)
 all_read lists = map read_sets lists
-
--- a set with each of the others
-abbrev pub with_each : MeantSet Place → Sets → List Sets
-with_each v xs = map (λ w. v ∷ w ∷ []) xs
 
 -- fields that go together stand in one of the lists
 abbrev pub StandTogether : Pass → Judged → List (List ReadField) → ReadField → ReadField → Type 0
@@ -221,11 +217,6 @@ ExaminesList e list old new next next' = (added : List (Broken Place)) × ((belo
 abbrev pub ExaminesSets : Examination → List Sets → Kept → Kept → Breaches → Breaches → List Sets → List Sets → Type 0
 ExaminesSets e lists examined examined' old new next next' = (added : List (Broken Place)) × ((below : List Sets) × ((brokens_of new ≡ brokens_of old ++ added) × ((next' ≡ next ++ below)
     × SetsExamined e.pass (schema_of e) (document_of e) lists examined examined' added below)))
-
--- lists of two of these sets, and any two of them are one of the lists
-pub record AreTwosOf (xs : Sets) (twos : List Sets) : Type 0 where
-  pub within : (two : Sets) → Contains twos two → (v : MeantSet Place) → Contains two v → Contains xs v
-  pub covers : (v w : MeantSet Place) → Contains xs v → Contains xs w → (two : Sets) × (Contains twos two × HaveSame two (v ∷ w ∷ []))
 
 abbrev pub ExaminesPair : Examination → Sets → Kept → Kept → Breaches → Breaches → List Sets → List Sets → Type 0
 ExaminesPair e two examined examined' old new next next' = (added : List (Broken Place)) × ((below : List Sets) × ((brokens_of new ≡ brokens_of old ++ added) × ((next' ≡ next ++ below)

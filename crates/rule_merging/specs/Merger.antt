@@ -3,16 +3,17 @@ use Rattle.std.specs.Prelude.{◌≡◌, ◌≤◌, ◌↔◌, ℕ, Bool, List, 
 use Rattle.std.specs.List.{sum, cons_option}
 use Rattle.std.specs.Option.{option_map}
 use Rattle.graphql_names.specs.Placed.{Place}
-use Rattle.rule_field_sets.specs.in_ground.in_schema.SchemaOf.{schema_tree}
-use Rattle.document_meaning.specs.MeantTree.{MeantOperation, MeantDocument}
-use Rattle.rule_field_sets.specs.in_ground.in_typed_operations.DocumentView.{document_meant}
-use Rattle.rule_definitions.specs.Judged.{Judged, judged}
-use Rattle.rule_document_definitions.specs.Merging.{FieldsMerge}
-use Rattle.rule_document_definitions.specs.Selected.{Standing, as_field, all_selections, operations}
-use Rattle.rule_document_definitions.specs.ReadFields.{ReadField, ReadSet, field_read, ReadSameKey, ReadStarts, AreReadShapesStanding}
-use Rattle.rule_document_definitions.specs.Settled.{StandWhere, StartsStand}
+use Rattle.rule_field_groups.specs.in_sets.in_ground.in_schema.SchemaOf.{schema_tree}
+use Rattle.rule_field_groups.specs.in_meaning.MeantTree.{MeantOperation, MeantDocument}
+use Rattle.rule_field_groups.specs.in_sets.in_ground.in_typed_operations.DocumentView.{document_meant}
+use Rattle.rule_field_groups.specs.in_definitions.Judged.{Judged, judged}
+use Rattle.rule_field_groups.specs.in_document_definitions.Merging.{FieldsMerge}
+use Rattle.rule_field_groups.specs.in_document_definitions.Selected.{Standing, as_field, all_selections, operations}
+use Rattle.rule_field_groups.specs.in_document_definitions.ReadFields.{ReadField, ReadSet, field_read, ReadSameKey, ReadStarts, AreReadShapesStanding}
+use Rattle.rule_field_groups.specs.in_document_definitions.Settled.{StandWhere, StartsStand}
 use Rattle.rule_number_lists.specs.NumberLists.{length_above_two}
-use Rattle.rule_merging.specs.Counted.{IsLast, IsCountedBy, IsPaidBy, most_members, most_comparisons}
+use Rattle.rule_field_groups.specs.Paid.{most_members}
+use Rattle.rule_merging.specs.Counted.{IsLast, IsCountedBy, IsPaidBy, most_comparisons}
 use Rattle.rule_merging.specs.Verdict.{AreSetsFor, account_in, lists_examined, comparisons_of, pairs_looked, sets_numbered, AreFewPairs, OnlyGrow}
 use Rattle.graphql_faults.specs.DetailsTree.{Telling}
 use Rattle.graphql_faults.specs.DetailsView.{diagnostics_of}

@@ -4,16 +4,16 @@ use Rattle.std.specs.declared.alloc.Global.{Global}
 use Rattle.graphql_faults.specs.DetailsTree.{of_document}
 use Rattle.graphql_faults.specs.DetailsView.{diagnostics_of}
 use Rattle.graphql_faults.specs.declared.diagnostic_list.DiagnosticList.{DiagnosticList}
-use Rattle.rule_document_definitions.specs.Told.{PlacedDocumentFault}
-use Rattle.rule_merging.specs.Members.{meant_sets}
-use Rattle.rule_merging.specs.Under.{Sets, sets_in}
-use Rattle.rule_field_sets.specs.Read.{set_at}
-use Rattle.rule_field_sets.specs.declared.field_sets.FieldSets.{FieldSets}
+use Rattle.rule_field_groups.specs.in_document_definitions.Told.{PlacedDocumentFault}
+use Rattle.rule_field_groups.specs.Members.{meant_sets}
+use Rattle.rule_field_groups.specs.Under.{Sets, sets_in}
+use Rattle.rule_field_groups.specs.in_sets.Read.{set_at}
+use Rattle.rule_field_groups.specs.in_sets.declared.field_sets.FieldSets.{FieldSets}
 use Rattle.rule_merging.specs.Examined.{Breaches, sets_of, ExaminesSets, ExaminesAll}
-use Rattle.rule_merging.specs.Remembered.{Kept, kept_of}
+use Rattle.rule_field_groups.specs.Remembered.{Kept, kept_of}
 use Rattle.rule_merging.specs.Twos.{TwoFields, PairsFields}
 use Rattle.rule_merging.specs.declared.examination.Examination.{Examination}
-use Rattle.rule_merging.specs.declared.remembered.Remembered.{Remembered}
+use Rattle.rule_field_groups.specs.declared.remembered.Remembered.{Remembered}
 
 -- lists of nodes
 abbrev pub Lists : Type 0

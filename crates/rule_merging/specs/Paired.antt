@@ -1,7 +1,7 @@
 -- Fields by pairs of sets that are looked at: the one is selected by the one set, the other by the other, each through what its set
 -- spreads (GraphQL, October 2021, section 5.3.2). A spread is a step in one of the two alone.
 use Rattle.std.specs.Prelude.{◌≡◌, ◌⊎◌}
-use Rattle.rule_document_definitions.specs.Reached.{Closed}
+use Rattle.rule_field_groups.specs.in_document_definitions.Reached.{Closed}
 
 module _ {F S : Type 0} (Own : S → F → Type 0) (Spreads : S → S → Type 0) where
   -- spreads lead from the one set to the other

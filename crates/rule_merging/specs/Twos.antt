@@ -1,21 +1,21 @@
 -- Private: leads to `FieldsMerge`. What the examination of two fields comes to, each an own one of one of two sets that are looked at together.
-use Rattle.std.specs.Prelude.{◌≡◌, ◌++◌, ◌∷◌, ◌⊎◌, ◌==◌, cond, List, [], Contains}
+use Rattle.std.specs.Prelude.{◌≡◌, ◌++◌, ◌∷◌, ◌⊎◌, List, [], Contains}
 use Rattle.graphql_names.specs.Placed.{Place}
-use Rattle.document_meaning.specs.MeantTree.{MeantDocument}
-use Rattle.rule_definitions.specs.Judged.{Judged}
-use Rattle.rule_document_definitions.specs.DocumentFaults.{Broken}
-use Rattle.rule_document_definitions.specs.Selected.{StandingField}
-use Rattle.rule_document_definitions.specs.ReadFields.{ReadField}
-use Rattle.rule_document_definitions.specs.Settled.{StandIn}
-use Rattle.rule_field_sets.specs.in_ground.Broken.{brokens_of}
-use Rattle.rule_merging.specs.Members.{field_of, content_of}
-use Rattle.rule_field_sets.specs.declared.member.Member.{Member}
-use Rattle.rule_merging.specs.Passes.{Together, Conflict}
-use Rattle.rule_merging.specs.declared.pass.Pass.{Pass}
-use Rattle.rule_merging.specs.Remembered.{Kept, account_of}
+use Rattle.rule_field_groups.specs.in_meaning.MeantTree.{MeantDocument}
+use Rattle.rule_field_groups.specs.in_definitions.Judged.{Judged}
+use Rattle.rule_field_groups.specs.in_document_definitions.DocumentFaults.{Broken}
+use Rattle.rule_field_groups.specs.in_document_definitions.Selected.{StandingField}
+use Rattle.rule_field_groups.specs.in_document_definitions.ReadFields.{ReadField}
+use Rattle.rule_field_groups.specs.in_document_definitions.Settled.{StandIn}
+use Rattle.rule_field_groups.specs.in_sets.in_ground.Broken.{brokens_of}
+use Rattle.rule_field_groups.specs.Members.{field_of, content_of}
+use Rattle.rule_field_groups.specs.in_sets.declared.member.Member.{Member}
+use Rattle.rule_field_groups.specs.Passes.{Together, Conflict}
+use Rattle.rule_field_groups.specs.declared.pass.Pass.{Pass}
+use Rattle.rule_field_groups.specs.Remembered.{Kept, account_of}
 use Rattle.rule_merging.specs.Counted.{IsLast, Grows}
 use Rattle.rule_merging.specs.Examined.{Sets, Breaches, AreOf, IsFresh, all_read, schema_of, document_of, sets_of}
-use Rattle.rule_merging.specs.declared.remembered.Remembered.{Remembered}
+use Rattle.rule_field_groups.specs.declared.remembered.Remembered.{Remembered}
 use Rattle.rule_merging.specs.declared.examination.Examination.{Examination}
 
 -- two fields
@@ -37,10 +37,6 @@ IsListOf one other list = ((content_of one ≡ content_of other) × (list ≡ on
 -- the same by their numbers
 abbrev pub IsListOfTwo : Member → Member → List Member → Type 0
 IsListOfTwo one other list = ((one.number ≡ other.number) × (list ≡ one ∷ [])) ⊎ ((one.number ≡ other.number → ⊥) × (list ≡ one ∷ other ∷ []))
-
--- what is read of the two, once where their numbers are one
-abbrev pub contents_of_two : Member → Member → List ReadField
-contents_of_two one other = cond (one.number == other.number) (content_of one ∷ []) (content_of one ∷ content_of other ∷ [])
 
 abbrev pub both_of : Member → Member → List (StandingField Place)
 both_of p q = field_of p ∷ field_of q ∷ []

@@ -1,24 +1,25 @@
 -- What the examination of an operation comes to.
 use Rattle.std.specs.Prelude.{◌≡◌, ◌≤◌, ◌+◌, ◌*◌, ◌++◌, ℕ, Bool, true, false, List, [], length, Contains}
 use Rattle.graphql_names.specs.Placed.{Place}
-use Rattle.document_meaning.specs.MeantTree.{MeantOperation, MeantDocument}
-use Rattle.rule_definitions.specs.Judged.{Judged}
-use Rattle.rule_document_definitions.specs.DocumentFaults.{Broken}
-use Rattle.rule_document_definitions.specs.Merging.{FieldsMerge, MergingBreaks}
-use Rattle.rule_document_definitions.specs.Limits.{PassesChainBound}
-use Rattle.rule_field_sets.specs.in_ground.Broken.{brokens_of}
-use Rattle.rule_document_definitions.specs.ReadFields.{ReadField, ReadSet, ReadStarts}
-use Rattle.rule_document_definitions.specs.Settled.{StartsStand}
-use Rattle.rule_merging.specs.Counted.{Account, IsCountedBy, IsPaidBy}
-use Rattle.rule_field_sets.specs.in_ground.Fields.{meant_fragments}
-use Rattle.rule_field_sets.specs.Numbered.{tables_of}
-use Rattle.rule_field_sets.specs.Nodes.{AreSets, SetsGrow, schema_in}
-use Rattle.rule_field_sets.specs.declared.field_sets.FieldSets.{FieldSets}
-use Rattle.rule_merging.specs.Remembered.{Kept, remembered, looked_in, account_of, kept_of, IsKnown}
+use Rattle.rule_field_groups.specs.in_meaning.MeantTree.{MeantOperation, MeantDocument}
+use Rattle.rule_field_groups.specs.in_definitions.Judged.{Judged}
+use Rattle.rule_field_groups.specs.in_document_definitions.DocumentFaults.{Broken}
+use Rattle.rule_field_groups.specs.in_document_definitions.Merging.{FieldsMerge, MergingBreaks}
+use Rattle.rule_field_groups.specs.in_document_definitions.Limits.{PassesChainBound}
+use Rattle.rule_field_groups.specs.in_sets.in_ground.Broken.{brokens_of}
+use Rattle.rule_field_groups.specs.in_document_definitions.ReadFields.{ReadField, ReadSet, ReadStarts}
+use Rattle.rule_field_groups.specs.in_document_definitions.Settled.{StartsStand}
+use Rattle.rule_field_groups.specs.Paid.{Account}
+use Rattle.rule_merging.specs.Counted.{IsCountedBy, IsPaidBy}
+use Rattle.rule_field_groups.specs.in_sets.in_ground.Fields.{meant_fragments}
+use Rattle.rule_field_groups.specs.in_sets.Numbered.{tables_of}
+use Rattle.rule_field_groups.specs.in_sets.Nodes.{AreSets, SetsGrow, schema_in}
+use Rattle.rule_field_groups.specs.in_sets.declared.field_sets.FieldSets.{FieldSets}
+use Rattle.rule_field_groups.specs.Remembered.{Kept, remembered, looked_in, account_of, kept_of, IsKnown}
 use Rattle.rule_merging.specs.Examined.{Breaches, StandTogether, AreSettled}
 use Rattle.rule_merging.specs.declared.operation.Examined.{Examined}
-use Rattle.rule_merging.specs.declared.remembered.Remembered.{Remembered}
-use Rattle.rule_merging.specs.declared.pass.Pass.TheVariants.{Shapes, Selections}
+use Rattle.rule_field_groups.specs.declared.remembered.Remembered.{Remembered}
+use Rattle.rule_field_groups.specs.declared.pass.Pass.TheVariants.{Shapes, Selections}
 
 module _ (s : Judged) (d : MeantDocument Place) where
   -- what was examined is settled, in both passes

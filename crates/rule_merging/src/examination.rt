@@ -1,23 +1,19 @@
 //! The examination of lists, level by level.
 ghost use Rattle.std.specs.Prelude.{◌≡◌, ◌≤◌, ◌+◌, ◌∷◌, [], map, IfOk, OnOk};
-ghost use Rattle.rule_field_sets.specs.Read.{set_at};
-ghost use Rattle.rule_merging.specs.Members.{fields_of, meant_sets, AreMembersOf};
-ghost use Rattle.rule_merging.specs.Compared.{compared};
-ghost use Rattle.rule_merging.specs.Grouped.{lists_of};
-ghost use Rattle.rule_merging.specs.KeyGroups.{parts_of, compared_in};
-ghost use Rattle.rule_merging.specs.Under.{sets_in, IsGroupOf};
+ghost use Rattle.rule_field_groups.specs.in_sets.Read.{set_at};
+ghost use Rattle.rule_field_groups.specs.Members.{fields_of, meant_sets, AreMembersOf};
+ghost use Rattle.rule_field_groups.specs.Compared.{compared};
+ghost use Rattle.rule_field_groups.specs.Grouped.{lists_of};
+ghost use Rattle.rule_field_groups.specs.KeyGroups.{parts_of, compared_in};
+ghost use Rattle.rule_field_groups.specs.Under.{sets_in, IsGroupOf};
 ghost use Rattle.rule_merging.specs.Examined.{HasSets, sets_of, document_of, HaveFields, ExaminesGroups, ExaminesList, GrowsOver};
 ghost use Rattle.rule_merging.specs.OfProgram.{Comes, ExaminesLevel, ExaminesFrom, ExaminesThese};
 
-use crate::below::lists_below;
-use crate::conflicts::{Breach, check_key_group};
-use crate::groups::{KeyGroup, groups_of};
-use crate::node_walk::{Toll, merged_list};
-use crate::pass::Pass;
-use crate::remembered::Remembered;
 use document_typed_operations::ExecutableDocument;
-use rule_field_sets::{FieldSets, Member, Schema};
-use rule_number_lists::{NumberLists, NumberSet};
+use rule_field_groups::{
+    Breach, FieldSets, KeyGroup, Member, NumberLists, NumberSet, Pass, Remembered, Schema, Toll,
+    check_key_group, groups_of, lists_below, merged_list,
+};
 use std::alloc::{AllocError, Global};
 use std::mem::replace;
 

@@ -2,20 +2,19 @@
 ghost use Rattle.std.specs.Prelude.{◌≡◌, ◌↔◌, ◌++◌, [], false, map, IsTrue, OnOk, OnErr};
 ghost use Rattle.graphql_faults.specs.DetailsTree.{of_document};
 ghost use Rattle.graphql_faults.specs.DetailsView.{diagnostics_of, BeginsAs};
-ghost use Rattle.rule_field_sets.specs.in_ground.Broken.{brokens_of};
-ghost use Rattle.rule_definitions.specs.Judged.{judged};
-ghost use Rattle.rule_field_sets.specs.in_ground.in_schema.SchemaOf.{schema_tree};
-ghost use Rattle.rule_field_sets.specs.in_ground.in_typed_operations.DocumentView.{document_meant, operation_meant};
+ghost use Rattle.rule_field_groups.specs.in_sets.in_ground.Broken.{brokens_of};
+ghost use Rattle.rule_field_groups.specs.in_definitions.Judged.{judged};
+ghost use Rattle.rule_field_groups.specs.in_sets.in_ground.in_schema.SchemaOf.{schema_tree};
+ghost use Rattle.rule_field_groups.specs.in_sets.in_ground.in_typed_operations.DocumentView.{document_meant, operation_meant};
 ghost use Rattle.rule_merging.specs.Merged.{AreSettledIf, limit_told, conflicts_told};
 ghost use Rattle.rule_merging.specs.OfProgram.{AddsDetails};
 
-use crate::conflicts::Breach;
 use crate::operation::{Examined, examine_operation};
 use crate::told::append_breaches;
 use document_typed_operations::{ExecutableDocument, Operation};
 use graphql_faults::{Details, DiagnosticList};
 use graphql_names::Node;
-use rule_field_sets::Schema;
+use rule_field_groups::{Breach, Schema};
 use std::alloc::{AllocError, Global};
 
 /// Whether the fields of operations merge (section 5.3.2, "FieldsInSetCanMerge"). What was examined is kept over all

@@ -1,24 +1,20 @@
 //! The examination of an operation, in both passes.
 ghost use Rattle.std.specs.Prelude.{◌≡◌, ◌||◌, List, IfOk, OnOk, IsTrue, []};
-ghost use Rattle.rule_field_sets.specs.in_ground.in_schema.SchemaOf.{schema_tree};
-ghost use Rattle.rule_definitions.specs.Judged.{judged};
+ghost use Rattle.rule_field_groups.specs.in_sets.in_ground.in_schema.SchemaOf.{schema_tree};
+ghost use Rattle.rule_field_groups.specs.in_definitions.Judged.{judged};
 ghost use Rattle.graphql_names.specs.Placed.{Place};
-ghost use Rattle.document_meaning.specs.MeantTree.{MeantOperation, MeantDocument, meant_of_set};
-ghost use Rattle.rule_field_sets.specs.in_ground.in_typed_operations.DocumentView.{document_meant, operation_meant};
-ghost use Rattle.rule_definitions.specs.Judged.{Judged};
-ghost use Rattle.document_typed_selections.specs.TypedTree.{typed_set_tree};
-ghost use Rattle.rule_field_sets.specs.Nodes.{AreSets, HasAllStarts};
-ghost use Rattle.rule_field_sets.specs.Read.{set_at};
+ghost use Rattle.rule_field_groups.specs.in_meaning.MeantTree.{MeantOperation, MeantDocument, meant_of_set};
+ghost use Rattle.rule_field_groups.specs.in_sets.in_ground.in_typed_operations.DocumentView.{document_meant, operation_meant};
+ghost use Rattle.rule_field_groups.specs.in_definitions.Judged.{Judged};
+ghost use Rattle.rule_field_groups.specs.in_typed_selections.TypedTree.{typed_set_tree};
+ghost use Rattle.rule_field_groups.specs.in_sets.Nodes.{AreSets, HasAllStarts};
+ghost use Rattle.rule_field_groups.specs.in_sets.Read.{set_at};
 ghost use Rattle.rule_merging.specs.Verdict.{comparisons_of, lists_examined, AreBothSettled, IsCounted, StaysCountedIn, OnlyGrow, ExaminesOperation, AreSetsFor, AreKnown, LooksAtFew, Begins};
 
-use crate::conflicts::Breach;
 use crate::examination::Examination;
-use crate::pass::Pass;
-use crate::remembered::Remembered;
 use document_typed_operations::{ExecutableDocument, Operation};
-use document_typed_selections::SelectionSet;
 use graphql_names::Node;
-use rule_field_sets::{FieldSets, Schema};
+use rule_field_groups::{Breach, FieldSets, Pass, Remembered, Schema, SelectionSet};
 use std::alloc::{AllocError, Global};
 
 /// What was examined in each pass, over all operations so far, and how often shapes were compared.

@@ -1,12 +1,12 @@
 //! Adding breaches to a list of faults.
 ghost use Rattle.std.specs.Prelude.{◌≡◌, ◌++◌, map, OnErr, OnOk};
-ghost use Rattle.rule_document_definitions.specs.DocumentFaults.{OfDocument};
+ghost use Rattle.rule_field_groups.specs.in_document_definitions.DocumentFaults.{OfDocument};
 ghost use Rattle.graphql_faults.specs.DetailsTree.{of_document};
 ghost use Rattle.graphql_faults.specs.DetailsView.{diagnostics_of, BeginsAs};
-ghost use Rattle.rule_field_sets.specs.in_ground.Broken.{brokens_of};
+ghost use Rattle.rule_field_groups.specs.in_sets.in_ground.Broken.{brokens_of};
 
-use crate::conflicts::Breach;
 use graphql_faults::{Details, DiagnosticList};
+use rule_field_groups::Breach;
 use std::alloc::AllocError;
 
 /// Adds the breaches at the end, in order. After a refusal the list begins as before.

@@ -1,17 +1,14 @@
 //! The examination of two sets that are looked at together.
 ghost use Rattle.std.specs.Prelude.{◌≡◌, ◌↔◌, ◌<◌, ◌∷◌, [], length, IsTrue, OnOk, IfOk};
-ghost use Rattle.rule_field_sets.specs.Nodes.{HasMember};
-ghost use Rattle.rule_merging.specs.Members.{meant_sets, AreMembersOf};
-ghost use Rattle.rule_merging.specs.Remembered.{two_of};
+ghost use Rattle.rule_field_groups.specs.in_sets.Nodes.{HasMember};
+ghost use Rattle.rule_field_groups.specs.Members.{meant_sets, AreMembersOf};
+ghost use Rattle.rule_field_groups.specs.Remembered.{two_of};
 ghost use Rattle.rule_merging.specs.Twos.{are_two, are_of, IsListOfTwo, GrowsByTwo};
 ghost use Rattle.rule_merging.specs.Examined.{sets_of, HasSets, ExaminesPair, ExaminesPairs, GrowsOver, GrowsOverTwo, GrowsHere};
 ghost use Rattle.rule_merging.specs.OfProgram.{Comes, ExaminesThese, PairsOf};
 
-use crate::conflicts::Breach;
 use crate::examination::Examination;
-use crate::nodes::{node_of, starts_of};
-use crate::remembered::{Pair, Remembered};
-use rule_field_sets::Member;
+use rule_field_groups::{Breach, Member, Pair, Remembered, node_of, starts_of};
 use std::alloc::{AllocError, Global};
 
 /// Whether two fields are answered under one key.

@@ -1,8 +1,8 @@
 use Rattle.std.proofs.Common.{◌<◌, length, arith}
-use Rattle.rule_merging.specs.Members.{meant_sets}
-use Rattle.rule_merging.proofs.Sets.{none_numbered}
-use Rattle.rule_merging.proofs.Under.{further_begun, further_step}
-use Rattle.rule_merging.proofs.below.further_sets.Goals as goal
+use Rattle.rule_field_groups.specs.Members.{meant_sets}
+use Rattle.rule_field_groups.proofs.Sets.{none_numbered}
+use Rattle.rule_field_groups.proofs.Under.{further_begun, further_step}
+use Rattle.rule_field_groups.proofs.below.further_sets.Goals as goal
 
 pub loop-field-init : goal.loop-field-init
 loop-field-init c = record {

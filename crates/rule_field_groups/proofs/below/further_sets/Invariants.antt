@@ -1,7 +1,7 @@
 use Rattle.std.proofs.Common.{take}
-use Rattle.rule_merging.specs.Members.{fields_of, meant_sets}
-use Rattle.rule_merging.specs.Under.{AreFurther, AreNumbered}
-use Rattle.rule_merging.proofs.below.further_sets.Given as goal
+use Rattle.rule_field_groups.specs.Members.{fields_of, meant_sets}
+use Rattle.rule_field_groups.specs.Under.{AreFurther, AreNumbered}
+use Rattle.rule_field_groups.proofs.below.further_sets.Given as goal
 
 abbrev pub invariant-loop-field : goal.invariant-loop-field
 invariant-loop-field l = record {

@@ -1,12 +1,12 @@
 use Rattle.std.proofs.Common.{ℕ, [], List, map, Contains, sym, ap, subst}
-use Rattle.rule_merging.specs.Members.{fields_of, meant_sets, AreMembersOf}
+use Rattle.rule_field_groups.specs.Members.{fields_of, meant_sets, AreMembersOf}
 use Rattle.rule_field_sets.specs.declared.member.Member.{Member}
-use Rattle.rule_merging.specs.declared.groups.OwnFields.{OwnFields}
-use Rattle.rule_merging.specs.Grouped.{lists_of}
-use Rattle.rule_merging.specs.Below.{AreSetsOf}
-use Rattle.rule_merging.specs.Under.{sets_in, JoinsSets, JoinsEach}
-use Rattle.rule_merging.proofs.Under.{parts_below, shared_joined, shared_members, own_members}
-use Rattle.rule_merging.proofs.below.lists_below.Goals as goal
+use Rattle.rule_field_groups.specs.declared.groups.OwnFields.{OwnFields}
+use Rattle.rule_field_groups.specs.Grouped.{lists_of}
+use Rattle.rule_field_groups.specs.Below.{AreSetsOf}
+use Rattle.rule_field_groups.specs.Under.{sets_in, JoinsSets, JoinsEach}
+use Rattle.rule_field_groups.proofs.Under.{parts_below, shared_joined, shared_members, own_members}
+use Rattle.rule_field_groups.proofs.below.lists_below.Goals as goal
 
 pub sets_of-requires-clause-members : goal.sets_of-requires-clause-members
 sets_of-requires-clause-members c =

@@ -1,9 +1,9 @@
 use Rattle.std.proofs.Common.{sym, ◌∙◌}
 use Rattle.std.proofs.lemmas.Result.{on_ok_weaker}
-use Rattle.rule_merging.specs.Members.{field_of, meant_sets}
-use Rattle.rule_merging.proofs.Sets.{member_bare, member_below, bare_noted, set_noted, numbered_more, number_among, read_there}
-use Rattle.rule_merging.proofs.Under.{further_known, further_noted}
-use Rattle.rule_merging.proofs.below.note_further.Goals as goal
+use Rattle.rule_field_groups.specs.Members.{field_of, meant_sets}
+use Rattle.rule_field_groups.proofs.Sets.{member_bare, member_below, bare_noted, set_noted, numbered_more, number_among, read_there}
+use Rattle.rule_field_groups.proofs.Under.{further_known, further_noted}
+use Rattle.rule_field_groups.proofs.below.note_further.Goals as goal
 
 pub returns-in_default-clause-notes : goal.returns-in_default-clause-notes
 returns-in_default-clause-notes c =

@@ -1,7 +1,7 @@
 use Rattle.std.proofs.lemmas.Result.{on_ok_weaker}
-use Rattle.rule_merging.specs.Members.{field_of, meant_sets}
-use Rattle.rule_merging.proofs.Sets.{member_bare, member_below, bare_noted, set_noted, numbered_more}
-use Rattle.rule_merging.proofs.below.note_set.Goals as goal
+use Rattle.rule_field_groups.specs.Members.{field_of, meant_sets}
+use Rattle.rule_field_groups.proofs.Sets.{member_bare, member_below, bare_noted, set_noted, numbered_more}
+use Rattle.rule_field_groups.proofs.below.note_set.Goals as goal
 
 pub returns-in-None-clause-notes : goal.returns-in-None-clause-notes
 returns-in-None-clause-notes c =

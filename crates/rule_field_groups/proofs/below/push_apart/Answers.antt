@@ -1,9 +1,9 @@
 use Rattle.std.proofs.Common.{◌≡◌, ◌∙◌, ◌<◌, ◌++◌, ℕ, [], List, length, get_or, sym, subst, append-nil, arith}
 use Rattle.std.proofs.lemmas.List.{take_all, get_or_default}
-use Rattle.rule_merging.specs.Grouped.{lists_of}
-use Rattle.rule_merging.specs.Under.{joined, twos_of}
-use Rattle.rule_merging.proofs.Under.{twos_more}
-use Rattle.rule_merging.proofs.below.push_apart.Goals as goal
+use Rattle.rule_field_groups.specs.Grouped.{lists_of}
+use Rattle.rule_field_groups.specs.Under.{joined, twos_of}
+use Rattle.rule_field_groups.proofs.Under.{twos_more}
+use Rattle.rule_field_groups.proofs.below.push_apart.Goals as goal
 
 pub loop-node-init : goal.loop-node-init
 loop-node-init c = c.in_ok-push_joined.ensures ∙ sym (append-nil (lists_of c.args.lists.now ++ joined [] c.args.further.now))

@@ -1,9 +1,9 @@
 use Rattle.std.proofs.Common.{◌≡◌, ◌<◌, ◌++◌, ℕ, List, length, get_or, sym, subst, append-nil, arith}
 use Rattle.std.proofs.lemmas.List.{take_all, get_or_default}
-use Rattle.rule_merging.specs.Grouped.{lists_of}
-use Rattle.rule_merging.specs.Under.{each_with}
-use Rattle.rule_merging.proofs.Under.{with_more}
-use Rattle.rule_merging.proofs.below.push_each_with.Goals as goal
+use Rattle.rule_field_groups.specs.Grouped.{lists_of}
+use Rattle.rule_field_groups.specs.Under.{each_with}
+use Rattle.rule_field_groups.proofs.Under.{with_more}
+use Rattle.rule_field_groups.proofs.below.push_each_with.Goals as goal
 
 pub loop-node-init : goal.loop-node-init
 loop-node-init c = sym (append-nil (lists_of c.args.lists.now))

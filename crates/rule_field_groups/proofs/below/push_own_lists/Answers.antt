@@ -1,15 +1,15 @@
 use Rattle.std.proofs.Common.{◌<◌, ℕ, List, map, length, Contains, sym, subst, arith}
 use Rattle.std.proofs.lemmas.List.{take_all}
 use Rattle.std.proofs.lemmas.List.Elements.{Contains-get_or}
-use Rattle.rule_document_definitions.proofs.Unplaced.{contains_map}
-use Rattle.rule_merging.specs.Members.{fields_of, meant_sets, AreMembersOf}
+use Rattle.rule_same_values.proofs.in_document_definitions.Unplaced.{contains_map}
+use Rattle.rule_field_groups.specs.Members.{fields_of, meant_sets, AreMembersOf}
 use Rattle.rule_field_sets.specs.Read.{set_at}
 use Rattle.rule_field_sets.specs.declared.member.Member.{Member}
-use Rattle.rule_merging.specs.declared.groups.OwnFields.{OwnFields}
-use Rattle.rule_merging.specs.Grouped.{lists_of}
-use Rattle.rule_merging.specs.Under.{sets_in, AreFurther, PutsTogether, JoinsEach}
-use Rattle.rule_merging.proofs.Under.{none_joined, joined_more, map_together}
-use Rattle.rule_merging.proofs.below.push_own_lists.Goals as goal
+use Rattle.rule_field_groups.specs.declared.groups.OwnFields.{OwnFields}
+use Rattle.rule_field_groups.specs.Grouped.{lists_of}
+use Rattle.rule_field_groups.specs.Under.{sets_in, AreFurther, PutsTogether, JoinsEach}
+use Rattle.rule_field_groups.proofs.Under.{none_joined, joined_more, map_together}
+use Rattle.rule_field_groups.proofs.below.push_own_lists.Goals as goal
 
 pub loop-own-init : goal.loop-own-init
 loop-own-init c = none_joined (meant_sets c.args.sets.now c.args.shared.now.nodes.items) (sets_in c.args.sets.now c.args.lists.now)

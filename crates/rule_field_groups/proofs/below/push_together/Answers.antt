@@ -1,7 +1,7 @@
 use Rattle.std.proofs.lemmas.Result.{on_ok_weaker}
-use Rattle.rule_merging.specs.Grouped.{lists_of}
-use Rattle.rule_merging.proofs.Under.{joined_together, twos_together}
-use Rattle.rule_merging.proofs.below.push_together.Goals as goal
+use Rattle.rule_field_groups.specs.Grouped.{lists_of}
+use Rattle.rule_field_groups.proofs.Under.{joined_together, twos_together}
+use Rattle.rule_field_groups.proofs.below.push_together.Goals as goal
 
 pub returns-then-is_short : goal.returns-then-is_short
 returns-then-is_short c =

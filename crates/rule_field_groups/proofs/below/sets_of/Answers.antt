@@ -1,6 +1,6 @@
 use Rattle.std.proofs.Common.{◌<◌, length, arith}
-use Rattle.rule_merging.proofs.Sets.{sets_begun, sets_step, none_numbered}
-use Rattle.rule_merging.proofs.below.sets_of.Goals as goal
+use Rattle.rule_field_groups.proofs.Sets.{sets_begun, sets_step, none_numbered}
+use Rattle.rule_field_groups.proofs.below.sets_of.Goals as goal
 
 pub loop-field-init : goal.loop-field-init
 loop-field-init c = record {

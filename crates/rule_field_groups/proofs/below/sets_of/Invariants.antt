@@ -1,8 +1,8 @@
 use Rattle.std.proofs.Common.{take}
-use Rattle.rule_merging.specs.Members.{fields_of, meant_sets}
-use Rattle.rule_merging.specs.Below.{AreSetsOf}
-use Rattle.rule_merging.specs.Under.{AreNumbered}
-use Rattle.rule_merging.proofs.below.sets_of.Given as goal
+use Rattle.rule_field_groups.specs.Members.{fields_of, meant_sets}
+use Rattle.rule_field_groups.specs.Below.{AreSetsOf}
+use Rattle.rule_field_groups.specs.Under.{AreNumbered}
+use Rattle.rule_field_groups.proofs.below.sets_of.Given as goal
 
 abbrev pub invariant-loop-field : goal.invariant-loop-field
 invariant-loop-field l = record {

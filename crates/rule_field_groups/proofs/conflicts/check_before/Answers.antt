@@ -1,11 +1,11 @@
 use Rattle.std.proofs.Common.{◌∷◌, List, sym, subst}
 use Rattle.std.proofs.lemmas.Result.{on_ok_weaker}
-use Rattle.rule_merging.specs.Members.{field_of, fields_of}
+use Rattle.rule_field_groups.specs.Members.{field_of, fields_of}
 use Rattle.rule_field_sets.specs.declared.member.Member.{Member}
-use Rattle.rule_merging.specs.Passes.{AddsGroup}
-use Rattle.rule_merging.specs.Conflicts.{judged_by}
-use Rattle.rule_merging.proofs.Telling.{adds_none, adds_before}
-use Rattle.rule_merging.proofs.conflicts.check_before.Goals as goal
+use Rattle.rule_field_groups.specs.Passes.{AddsGroup}
+use Rattle.rule_field_groups.specs.Conflicts.{judged_by}
+use Rattle.rule_field_groups.proofs.Telling.{adds_none, adds_before}
+use Rattle.rule_field_groups.proofs.conflicts.check_before.Goals as goal
 
 pub returns-in-None-clause-told : goal.returns-in-None-clause-told
 returns-in-None-clause-told c = adds_none c.args.comparing.now.pass (judged_by c.args.comparing.now) c.args.other c.args.before.now c.in-None.ensures.cases c.args.breaches.now

@@ -1,13 +1,13 @@
 use Rattle.std.proofs.Common.{sym, subst}
 use Rattle.std.proofs.lemmas.Result.{on_ok_weaker}
 use Rattle.rule_field_sets.specs.in_ground.in_schema.SchemaOf.{schema_tree}
-use Rattle.rule_definitions.specs.Judged.{judged}
-use Rattle.rule_merging.specs.Members.{fields_of}
+use Rattle.rule_same_values.specs.in_definitions.Judged.{judged}
+use Rattle.rule_field_groups.specs.Members.{fields_of}
 use Rattle.rule_field_sets.specs.declared.member.Member.{Member}
 use Rattle.std.specs.Prelude.{List}
-use Rattle.rule_merging.specs.Passes.{AddsGroup}
-use Rattle.rule_merging.proofs.Telling.{no_group, count_none, count_group, exact_group}
-use Rattle.rule_merging.proofs.conflicts.check_group.Goals as goal
+use Rattle.rule_field_groups.specs.Passes.{AddsGroup}
+use Rattle.rule_field_groups.proofs.Telling.{no_group, count_none, count_group, exact_group}
+use Rattle.rule_field_groups.proofs.conflicts.check_group.Goals as goal
 
 pub returns-in-None-clause-told : goal.returns-in-None-clause-told
 returns-in-None-clause-told c =

@@ -3,15 +3,15 @@ use Rattle.std.specs.List.{sum}
 use Rattle.std.proofs.lemmas.List.{take_all}
 use Rattle.std.proofs.lemmas.Simd.{map-map}
 use Rattle.rule_field_sets.specs.in_ground.in_schema.SchemaOf.{schema_tree}
-use Rattle.rule_definitions.specs.Judged.{judged}
-use Rattle.rule_merging.specs.Members.{fields_of}
+use Rattle.rule_same_values.specs.in_definitions.Judged.{judged}
+use Rattle.rule_field_groups.specs.Members.{fields_of}
 use Rattle.rule_field_sets.specs.declared.member.Member.{Member}
-use Rattle.rule_merging.specs.declared.groups.OwnFields.{OwnFields}
-use Rattle.rule_merging.specs.Compared.{compared}
-use Rattle.rule_merging.specs.Passes.{AddsGroup, AddsEach}
-use Rattle.rule_merging.proofs.Counts.{left_of}
-use Rattle.rule_merging.proofs.Telling.{with_first, adds_shared, own_step, all_parts}
-use Rattle.rule_merging.proofs.conflicts.check_key_group.Goals as goal
+use Rattle.rule_field_groups.specs.declared.groups.OwnFields.{OwnFields}
+use Rattle.rule_field_groups.specs.Compared.{compared}
+use Rattle.rule_field_groups.specs.Passes.{AddsGroup, AddsEach}
+use Rattle.rule_field_groups.proofs.Counts.{left_of}
+use Rattle.rule_field_groups.proofs.Telling.{with_first, adds_shared, own_step, all_parts}
+use Rattle.rule_field_groups.proofs.conflicts.check_key_group.Goals as goal
 
 pub loop-own-init : goal.loop-own-init
 loop-own-init c =

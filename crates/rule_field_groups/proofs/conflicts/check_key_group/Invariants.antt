@@ -1,13 +1,13 @@
 use Rattle.std.proofs.Common.{◌≤◌, ◌+◌, map, take, drop}
 use Rattle.std.specs.List.{sum}
 use Rattle.rule_field_sets.specs.in_ground.in_schema.SchemaOf.{schema_tree}
-use Rattle.rule_definitions.specs.Judged.{judged}
-use Rattle.rule_merging.specs.Members.{fields_of}
-use Rattle.rule_merging.specs.Compared.{compared}
-use Rattle.rule_merging.specs.KeyGroups.{compared_in}
-use Rattle.rule_merging.specs.Passes.{AddsEach}
-use Rattle.rule_merging.proofs.Telling.{with_first}
-use Rattle.rule_merging.proofs.conflicts.check_key_group.Given as goal
+use Rattle.rule_same_values.specs.in_definitions.Judged.{judged}
+use Rattle.rule_field_groups.specs.Members.{fields_of}
+use Rattle.rule_field_groups.specs.Compared.{compared}
+use Rattle.rule_field_groups.specs.KeyGroups.{compared_in}
+use Rattle.rule_field_groups.specs.Passes.{AddsEach}
+use Rattle.rule_field_groups.proofs.Telling.{with_first}
+use Rattle.rule_field_groups.proofs.conflicts.check_key_group.Given as goal
 
 abbrev pub invariant-loop-own : goal.invariant-loop-own
 invariant-loop-own l = record {

@@ -1,7 +1,7 @@
 use Rattle.std.proofs.Common.{◌<◌, ◌≤◌, ◌∷◌, length, refl, arith}
-use Rattle.rule_merging.specs.Conflicts.{judged_by}
-use Rattle.rule_merging.proofs.Telling.{begun, compared_more, all_compared, counts_zero, count_more, count_within, count_next, count_all}
-use Rattle.rule_merging.proofs.conflicts.check_others.Goals as goal
+use Rattle.rule_field_groups.specs.Conflicts.{judged_by}
+use Rattle.rule_field_groups.proofs.Telling.{begun, compared_more, all_compared, counts_zero, count_more, count_within, count_next, count_all}
+use Rattle.rule_field_groups.proofs.conflicts.check_others.Goals as goal
 
 pub loop-other-init : goal.loop-other-init
 loop-other-init c =

@@ -1,8 +1,8 @@
 use Rattle.std.proofs.Common.{◌≤◌, ◌∷◌, length, take}
-use Rattle.rule_merging.specs.Compared.{CountsUp}
-use Rattle.rule_merging.specs.Conflicts.{judged_by}
-use Rattle.rule_merging.proofs.Telling.{Taken, most}
-use Rattle.rule_merging.proofs.conflicts.check_others.Given as goal
+use Rattle.rule_field_groups.specs.Compared.{CountsUp}
+use Rattle.rule_field_groups.specs.Conflicts.{judged_by}
+use Rattle.rule_field_groups.proofs.Telling.{Taken, most}
+use Rattle.rule_field_groups.proofs.conflicts.check_others.Given as goal
 
 abbrev pub invariant-loop-other : goal.invariant-loop-other
 invariant-loop-other l = record {

@@ -1,12 +1,12 @@
 use Rattle.std.proofs.Common.{◌∙◌, List, ap, sym, subst, arith}
 use Rattle.std.proofs.lemmas.Result.{on_ok_weaker}
-use Rattle.rule_merging.specs.Members.{fields_of}
+use Rattle.rule_field_groups.specs.Members.{fields_of}
 use Rattle.rule_field_sets.specs.declared.member.Member.{Member}
-use Rattle.rule_merging.specs.Passes.{AddsGroup}
-use Rattle.rule_merging.specs.Compared.{compared}
-use Rattle.rule_merging.specs.Conflicts.{judged_by}
-use Rattle.rule_merging.proofs.Telling.{adds_unshared, adds_around, count_part, count_parts, split_is}
-use Rattle.rule_merging.proofs.conflicts.check_own.Goals as goal
+use Rattle.rule_field_groups.specs.Passes.{AddsGroup}
+use Rattle.rule_field_groups.specs.Compared.{compared}
+use Rattle.rule_field_groups.specs.Conflicts.{judged_by}
+use Rattle.rule_field_groups.proofs.Telling.{adds_unshared, adds_around, count_part, count_parts, split_is}
+use Rattle.rule_field_groups.proofs.conflicts.check_own.Goals as goal
 
 pub returns-in-None-clause-told : goal.returns-in-None-clause-told
 returns-in-None-clause-told c =

@@ -1,7 +1,7 @@
 use Rattle.std.proofs.Common.{None, Some, sym, append-nil, ◌∙◌, true≢false}
 use Rattle.std.proofs.lemmas.Result.{on_ok_weaker}
 use Rattle.rule_field_sets.specs.in_ground.Broken.{brokens_of}
-use Rattle.rule_merging.proofs.conflicts.conflicting_field_name.Goals as goal
+use Rattle.rule_field_groups.proofs.conflicts.conflicting_field_name.Goals as goal
 
 pub returns-then-have_one_name : goal.returns-then-have_one_name
 returns-then-have_one_name c = (None, (sym (append-nil (brokens_of c.args.breaches.now)), c.have_one_name.ensures.0 c.if-have_one_name.true))

@@ -1,8 +1,8 @@
 use Rattle.std.proofs.Common.{◌≡◌, filter, take}
 use Rattle.rule_field_sets.specs.in_ground.in_schema.SchemaOf.{schema_tree}
-use Rattle.rule_definitions.specs.Judged.{judged}
-use Rattle.rule_merging.specs.KeyGroups.{is_shared}
-use Rattle.rule_merging.proofs.groups.abstract_fields.Given as goal
+use Rattle.rule_same_values.specs.in_definitions.Judged.{judged}
+use Rattle.rule_field_groups.specs.KeyGroups.{is_shared}
+use Rattle.rule_field_groups.proofs.groups.abstract_fields.Given as goal
 
 abbrev pub invariant-loop-field : goal.invariant-loop-field
 invariant-loop-field l = l.found.items ≡ filter (is_shared (judged (schema_tree l.schema))) (take l.field-index l.list)

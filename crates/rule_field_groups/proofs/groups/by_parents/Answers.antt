@@ -1,13 +1,13 @@
 use Rattle.std.proofs.Common.{◌∙◌, not, filter, map, length, ap, sym, subst, List}
 use Rattle.std.specs.List.{sum}
 use Rattle.rule_field_sets.specs.in_ground.in_schema.SchemaOf.{schema_tree}
-use Rattle.rule_definitions.specs.Judged.{judged}
+use Rattle.rule_same_values.specs.in_definitions.Judged.{judged}
 use Rattle.rule_field_sets.specs.declared.member.Member.{Member}
-use Rattle.rule_merging.specs.declared.groups.OwnFields.{OwnFields}
-use Rattle.rule_merging.specs.Grouped.{lists_of, parent_of, AreFiled}
-use Rattle.rule_merging.specs.KeyGroups.{is_shared}
-use Rattle.rule_merging.proofs.Sharing.{parents_once}
-use Rattle.rule_merging.proofs.groups.by_parents.Goals as goal
+use Rattle.rule_field_groups.specs.declared.groups.OwnFields.{OwnFields}
+use Rattle.rule_field_groups.specs.Grouped.{lists_of, parent_of, AreFiled}
+use Rattle.rule_field_groups.specs.KeyGroups.{is_shared}
+use Rattle.rule_field_groups.proofs.Sharing.{parents_once}
+use Rattle.rule_field_groups.proofs.groups.by_parents.Goals as goal
 
 pub returns-clause-parents : goal.returns-clause-parents
 returns-clause-parents c =

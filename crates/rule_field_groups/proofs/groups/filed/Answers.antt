@@ -1,7 +1,7 @@
-use Rattle.rule_merging.specs.Grouped.{lists_of}
-use Rattle.rule_merging.specs.KeyGroups.{filed_name}
-use Rattle.rule_merging.proofs.Filing.{filed, from_both}
-use Rattle.rule_merging.proofs.groups.filed.Goals as goal
+use Rattle.rule_field_groups.specs.Grouped.{lists_of}
+use Rattle.rule_field_groups.specs.KeyGroups.{filed_name}
+use Rattle.rule_field_groups.proofs.Filing.{filed, from_both}
+use Rattle.rule_field_groups.proofs.groups.filed.Goals as goal
 
 pub returns-clause-filed : goal.returns-clause-filed
 returns-clause-filed c =

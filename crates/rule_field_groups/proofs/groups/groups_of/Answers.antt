@@ -4,14 +4,14 @@ use Rattle.std.proofs.lemmas.Iterator.Adapters.{YieldsList-from_vec}
 use Rattle.std.proofs.lemmas.Iterator.Consumers.{YieldsList-end}
 use Rattle.std.proofs.lemmas.List.{map-id}
 use Rattle.rule_field_sets.specs.in_ground.in_schema.SchemaOf.{schema_tree}
-use Rattle.rule_definitions.specs.Judged.{judged}
+use Rattle.rule_same_values.specs.in_definitions.Judged.{judged}
 use Rattle.rule_field_sets.specs.declared.member.Member.{Member}
-use Rattle.rule_merging.specs.declared.groups.KeyGroup.{KeyGroup}
-use Rattle.rule_merging.specs.Compared.{compared}
-use Rattle.rule_merging.specs.Grouped.{lists_of}
-use Rattle.rule_merging.specs.KeyGroups.{parts_in, lists_in_group, compared_in}
-use Rattle.rule_merging.proofs.Sharing.{ArePartsOfEach, ArePartsOfOne, parts_none, ordered_none, group_parts, group_ordered, group_counted, group_once, are_groups, all_ordered, keyed_count}
-use Rattle.rule_merging.proofs.groups.groups_of.Goals as goal
+use Rattle.rule_field_groups.specs.declared.groups.KeyGroup.{KeyGroup}
+use Rattle.rule_field_groups.specs.Compared.{compared}
+use Rattle.rule_field_groups.specs.Grouped.{lists_of}
+use Rattle.rule_field_groups.specs.KeyGroups.{parts_in, lists_in_group, compared_in}
+use Rattle.rule_field_groups.proofs.Sharing.{ArePartsOfEach, ArePartsOfOne, parts_none, ordered_none, group_parts, group_ordered, group_counted, group_once, are_groups, all_ordered, keyed_count}
+use Rattle.rule_field_groups.proofs.groups.groups_of.Goals as goal
 
 pub loop-fields-init : goal.loop-fields-init
 loop-fields-init c =

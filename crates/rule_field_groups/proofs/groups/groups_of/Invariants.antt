@@ -1,11 +1,11 @@
 use Rattle.std.proofs.Common.{◌≡◌, ◌≤◌, map, flat_map, length}
 use Rattle.std.specs.List.{sum}
 use Rattle.rule_field_sets.specs.in_ground.in_schema.SchemaOf.{schema_tree}
-use Rattle.rule_definitions.specs.Judged.{judged}
-use Rattle.rule_merging.specs.Compared.{compared}
-use Rattle.rule_merging.specs.KeyGroups.{parts_in, lists_in_group, compared_in}
-use Rattle.rule_merging.proofs.Sharing.{ArePartsOfEach, ArePartsOfOne}
-use Rattle.rule_merging.proofs.groups.groups_of.Given as goal
+use Rattle.rule_same_values.specs.in_definitions.Judged.{judged}
+use Rattle.rule_field_groups.specs.Compared.{compared}
+use Rattle.rule_field_groups.specs.KeyGroups.{parts_in, lists_in_group, compared_in}
+use Rattle.rule_field_groups.proofs.Sharing.{ArePartsOfEach, ArePartsOfOne}
+use Rattle.rule_field_groups.proofs.groups.groups_of.Given as goal
 
 abbrev pub invariant-loop-fields : goal.invariant-loop-fields
 invariant-loop-fields l = record {

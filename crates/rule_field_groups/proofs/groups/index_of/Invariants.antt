@@ -1,7 +1,7 @@
 use Rattle.std.proofs.Common.{◌≡◌, ℕ, List, filter, take}
-use Rattle.rule_merging.specs.Grouped.{items_under, count_in, has}
-use Rattle.rule_merging.specs.KeyGroups.{filed_name}
-use Rattle.rule_merging.proofs.groups.index_of.Given as goal
+use Rattle.rule_field_groups.specs.Grouped.{items_under, count_in, has}
+use Rattle.rule_field_groups.specs.KeyGroups.{filed_name}
+use Rattle.rule_field_groups.proofs.groups.index_of.Given as goal
 
 abbrev pub invariant-loop-field : goal.invariant-loop-field
 invariant-loop-field l = record {

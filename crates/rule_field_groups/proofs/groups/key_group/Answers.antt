@@ -1,14 +1,14 @@
 use Rattle.std.proofs.Common.{◌≤◌, [], ◌∷◌, length, ap, sym, subst, ◌∙◌}
 use Rattle.std.proofs.lemmas.Result.{IfOk-weaker}
 use Rattle.rule_field_sets.specs.in_ground.in_schema.SchemaOf.{schema_tree}
-use Rattle.rule_definitions.specs.Judged.{judged}
-use Rattle.rule_merging.specs.declared.groups.KeyGroup.{KeyGroup}
-use Rattle.rule_merging.specs.declared.pass.Pass.{Pass}
-use Rattle.rule_merging.specs.Compared.{compared}
-use Rattle.rule_merging.specs.Grouped.{ArePartsOf}
-use Rattle.rule_merging.specs.KeyGroups.{own_lists, with_own, parts_of, compared_in, IsByParents, ArePartsFor}
-use Rattle.rule_merging.proofs.Sharing.{parent_groups, ordered_parts, whole_ordered, shapes_in, selections_in, shapes_once}
-use Rattle.rule_merging.proofs.groups.key_group.Goals as goal
+use Rattle.rule_same_values.specs.in_definitions.Judged.{judged}
+use Rattle.rule_field_groups.specs.declared.groups.KeyGroup.{KeyGroup}
+use Rattle.rule_field_groups.specs.declared.pass.Pass.{Pass}
+use Rattle.rule_field_groups.specs.Compared.{compared}
+use Rattle.rule_field_groups.specs.Grouped.{ArePartsOf}
+use Rattle.rule_field_groups.specs.KeyGroups.{own_lists, with_own, parts_of, compared_in, IsByParents, ArePartsFor}
+use Rattle.rule_field_groups.proofs.Sharing.{parent_groups, ordered_parts, whole_ordered, shapes_in, selections_in, shapes_once}
+use Rattle.rule_field_groups.proofs.groups.key_group.Goals as goal
 
 pub returns-in-Shapes-clause-parts : goal.returns-in-Shapes-clause-parts
 returns-in-Shapes-clause-parts c =

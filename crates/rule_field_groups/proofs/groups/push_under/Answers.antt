@@ -1,8 +1,8 @@
 use Rattle.std.proofs.Common.{sym, bytes_eq}
 use Rattle.graphql_names.specs.NameValue.{NameValue}
 use Rattle.schema_fold_index.proofs.Under.{under_pushed}
-use Rattle.rule_merging.proofs.Filing.{count_pushed}
-use Rattle.rule_merging.proofs.groups.push_under.Goals as goal
+use Rattle.rule_field_groups.proofs.Filing.{count_pushed}
+use Rattle.rule_field_groups.proofs.groups.push_under.Goals as goal
 
 pub returns-in-Some-clause-under : goal.returns-in-Some-clause-under
 returns-in-Some-clause-under c =

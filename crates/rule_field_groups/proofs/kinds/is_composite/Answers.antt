@@ -3,8 +3,8 @@ use Rattle.schema_types.specs.SchemaTree.{is_leaf_kind, is_output_kind}
 use Rattle.schema_types.specs.TypeView.{extended_type}
 use Rattle.schema_types.specs.declared.type_kind.TypeKind.{TypeKind}
 use Rattle.rule_field_sets.specs.in_ground.in_schema.SchemaOf.{schema_tree}
-use Rattle.rule_merging.proofs.Shaped.{kind_seen}
-use Rattle.rule_merging.proofs.kinds.is_composite.Goals as goal
+use Rattle.rule_field_groups.proofs.Shaped.{kind_seen}
+use Rattle.rule_field_groups.proofs.kinds.is_composite.Goals as goal
 
 abbrev test : TypeKind → Bool
 test k = is_output_kind k && not (is_leaf_kind k)

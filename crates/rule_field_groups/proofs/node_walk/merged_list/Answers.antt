@@ -1,8 +1,8 @@
 use Rattle.std.proofs.Common.{◌<◌, length, subst, arith}
 use Rattle.std.proofs.lemmas.List.{take_all}
-use Rattle.rule_merging.specs.NodeWalk.{state_of, IsWalk}
-use Rattle.rule_merging.proofs.Walking.{walk_begun, one_more, found_are_members, part_found, all_found}
-use Rattle.rule_merging.proofs.node_walk.merged_list.Goals as goal
+use Rattle.rule_field_groups.specs.NodeWalk.{state_of, IsWalk}
+use Rattle.rule_field_groups.proofs.Walking.{walk_begun, one_more, found_are_members, part_found, all_found}
+use Rattle.rule_field_groups.proofs.node_walk.merged_list.Goals as goal
 
 pub loop-node-init : goal.loop-node-init
 loop-node-init c = walk_begun c.args.sets.now _ c.new.ensures.items c.new-2.ensures c.new-3.ensures.empty

@@ -2,7 +2,7 @@ use Rattle.std.proofs.Common.{◌≡◌, ℕ, ◌<◌, ◌++◌, ◌∷◌, [], 
 use Rattle.std.specs.List.{AllZip}
 use Rattle.std.proofs.lemmas.List.{take_all, take_more}
 use Rattle.rule_field_sets.specs.Nodes.{fragment_nodes}
-use Rattle.rule_merging.proofs.nodes.starts_of.Goals as goal
+use Rattle.rule_field_groups.proofs.nodes.starts_of.Goals as goal
 
 zip_more : {X Y : Type 0} (R : X → Y → Type 0) (xs : List X) (ys : List Y) (x : X) (y : Y) → AllZip R xs ys → R x y → AllZip R (xs ++ x ∷ []) (ys ++ y ∷ [])
 zip_more R [] [] x y all one = (one, tt)

@@ -1,4 +1,4 @@
-use Rattle.document_typed_selections.specs.TypedTree.{typed_set_tree}
+use Rattle.rule_field_groups.specs.in_typed_selections.TypedTree.{typed_set_tree}
 use Rattle.rule_merging.proofs.Operating.{begun_same, begun_known, node_given}
 use Rattle.rule_merging.proofs.operation.begin.Goals as goal
 

@@ -1,8 +1,8 @@
-use Rattle.rule_field_sets.specs.in_ground.in_schema.SchemaOf.{schema_tree}
-use Rattle.rule_field_sets.specs.in_ground.in_typed_operations.DocumentView.{document_meant, operation_meant}
-use Rattle.rule_definitions.specs.Judged.{judged}
-use Rattle.rule_field_sets.specs.in_ground.Broken.{brokens_of}
-use Rattle.rule_field_sets.specs.Read.{set_at}
+use Rattle.rule_field_groups.specs.in_sets.in_ground.in_schema.SchemaOf.{schema_tree}
+use Rattle.rule_field_groups.specs.in_sets.in_ground.in_typed_operations.DocumentView.{document_meant, operation_meant}
+use Rattle.rule_field_groups.specs.in_definitions.Judged.{judged}
+use Rattle.rule_field_groups.specs.in_sets.in_ground.Broken.{brokens_of}
+use Rattle.rule_field_groups.specs.in_sets.Read.{set_at}
 use Rattle.rule_merging.specs.Verdict.{account_in, ExaminesOperation}
 use Rattle.rule_merging.proofs.Counting.{starting_listed}
 use Rattle.rule_merging.proofs.Operating.{sets_for, has_sets, starts, begun_counted, begun_grows, nothing_grows, then_counted, then_grown, either_left, after, operation_step}

@@ -1,6 +1,6 @@
 use Rattle.std.proofs.Common.{refl, inl, inr}
-use Rattle.rule_merging.proofs.Sets.{number_there, number_new}
-use Rattle.rule_merging.proofs.below.SetsBelow.add.Goals as goal
+use Rattle.rule_field_groups.proofs.Sets.{number_there, number_new}
+use Rattle.rule_field_groups.proofs.below.SetsBelow.add.Goals as goal
 
 pub returns-then-not-branch : goal.returns-then-not-branch
 returns-then-not-branch c =

@@ -1,7 +1,7 @@
 use Rattle.std.proofs.Common.{◌∙◌, sym, arith, true≢false}
-use Rattle.rule_merging.specs.NodeWalk.{state_of}
-use Rattle.rule_merging.proofs.Walking.{fragment_passed, ended}
-use Rattle.rule_merging.proofs.node_walk.NodeWalk.pass_fragments.Goals as goal
+use Rattle.rule_field_groups.specs.NodeWalk.{state_of}
+use Rattle.rule_field_groups.proofs.Walking.{fragment_passed, ended}
+use Rattle.rule_field_groups.proofs.node_walk.NodeWalk.pass_fragments.Goals as goal
 
 pub loop-self-init : goal.loop-self-init
 loop-self-init c = λ nodes walk. walk

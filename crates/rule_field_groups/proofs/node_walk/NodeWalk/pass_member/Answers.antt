@@ -1,8 +1,8 @@
 use Rattle.std.proofs.Common.{refl, subst}
 use Rattle.rule_number_lists.specs.NumberSet.{numbers_in, PutsIn}
-use Rattle.rule_merging.specs.NodeWalk.{state_of}
-use Rattle.rule_merging.proofs.Walking.{member_there, member_added}
-use Rattle.rule_merging.proofs.node_walk.NodeWalk.pass_member.Goals as goal
+use Rattle.rule_field_groups.specs.NodeWalk.{state_of}
+use Rattle.rule_field_groups.proofs.Walking.{member_there, member_added}
+use Rattle.rule_field_groups.proofs.node_walk.NodeWalk.pass_member.Goals as goal
 
 pub returns-then-not-is_new : goal.returns-then-not-is_new
 returns-then-not-is_new c =

@@ -1,8 +1,8 @@
 use Rattle.std.proofs.Common.{[], ◌<◌, length, subst, arith}
 use Rattle.std.proofs.lemmas.List.{take_all}
-use Rattle.rule_merging.specs.NodeWalk.{state_of, Passes}
-use Rattle.rule_merging.proofs.Walking.{passes_none, members_step}
-use Rattle.rule_merging.proofs.node_walk.NodeWalk.pass_members.Goals as goal
+use Rattle.rule_field_groups.specs.NodeWalk.{state_of, Passes}
+use Rattle.rule_field_groups.proofs.Walking.{passes_none, members_step}
+use Rattle.rule_field_groups.proofs.node_walk.NodeWalk.pass_members.Goals as goal
 
 pub loop-member-init : goal.loop-member-init
 loop-member-init c = passes_none (state_of c.args.self.now)

@@ -1,8 +1,7 @@
 use Rattle.std.proofs.Common.{[], ◌∙◌, ap, subst}
-use Rattle.document_walks.proofs.Standings.{ok_so}
-use Rattle.rule_merging.specs.NodeWalk.{state_of, with_paid, Passes}
-use Rattle.rule_merging.proofs.Walking.{passes_unpaid, node_passed}
-use Rattle.rule_merging.proofs.node_walk.NodeWalk.pass_node.Goals as goal
+use Rattle.rule_field_groups.specs.NodeWalk.{state_of, with_paid, Passes}
+use Rattle.rule_field_groups.proofs.Walking.{ok_so, passes_unpaid, node_passed}
+use Rattle.rule_field_groups.proofs.node_walk.NodeWalk.pass_node.Goals as goal
 
 pub returns-then-not-is_paid : goal.returns-then-not-is_paid
 returns-then-not-is_paid c =

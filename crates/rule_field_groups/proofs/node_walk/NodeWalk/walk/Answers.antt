@@ -1,8 +1,7 @@
 use Rattle.std.proofs.Common.{◌++◌, ◌∷◌, []}
-use Rattle.document_walks.proofs.Standings.{ok_so}
-use Rattle.rule_merging.specs.NodeWalk.{state_of}
-use Rattle.rule_merging.proofs.Walking.{node_over}
-use Rattle.rule_merging.proofs.node_walk.NodeWalk.walk.Goals as goal
+use Rattle.rule_field_groups.specs.NodeWalk.{state_of}
+use Rattle.rule_field_groups.proofs.Walking.{ok_so, node_over}
+use Rattle.rule_field_groups.proofs.node_walk.NodeWalk.walk.Goals as goal
 
 pub returns : goal.returns
 returns c =

@@ -1,8 +1,8 @@
 use Rattle.std.proofs.lemmas.Result.{IfOk-weaker}
 use Rattle.rule_number_lists.specs.NumberLists.{lists_kept}
-use Rattle.rule_merging.specs.Members.{meant_sets, read_sets}
-use Rattle.rule_merging.proofs.Remembering.{expands}
-use Rattle.rule_merging.proofs.remembered.Remembered.expand.Goals as goal
+use Rattle.rule_field_groups.specs.Members.{meant_sets, read_sets}
+use Rattle.rule_field_groups.proofs.Remembering.{expands}
+use Rattle.rule_field_groups.proofs.remembered.Remembered.expand.Goals as goal
 
 pub returns-clause-expands : goal.returns-clause-expands
 returns-clause-expands c =

@@ -1,8 +1,8 @@
 use Rattle.std.proofs.Common.{◌∙◌, sym, true≢false, arith}
 use Rattle.std.proofs.lemmas.Bool.{leb-true}
-use Rattle.rule_merging.proofs.Remembering.{known_so}
-use Rattle.rule_merging.proofs.remembered.Remembered.is_known.Goals.{then-bound-fields, else-bound-fields, then-bound-fields-2, else-bound-fields-2}
-use Rattle.rule_merging.proofs.remembered.Remembered.is_known.Goals as goal
+use Rattle.rule_field_groups.proofs.Remembering.{known_so}
+use Rattle.rule_field_groups.proofs.remembered.Remembered.is_known.Goals.{then-bound-fields, else-bound-fields, then-bound-fields-2, else-bound-fields-2}
+use Rattle.rule_field_groups.proofs.remembered.Remembered.is_known.Goals as goal
 
 pub returns-then-bound-sets : goal.returns-then-bound-sets
 returns-then-bound-sets c = λ last. elim c.if-bound-fields-2.branch [

@@ -1,9 +1,9 @@
 use Rattle.std.proofs.Common.{◌≡◌, take}
 use Rattle.rule_field_sets.specs.Read.{set_at}
-use Rattle.rule_merging.specs.Members.{meant_sets}
-use Rattle.rule_merging.specs.Remembered.{kept_of, beside_of}
-use Rattle.rule_merging.specs.Pairs.{Looks, each_with}
-use Rattle.rule_merging.proofs.remembered.Remembered.look_at_each.Given as goal
+use Rattle.rule_field_groups.specs.Members.{meant_sets}
+use Rattle.rule_field_groups.specs.Remembered.{kept_of, beside_of}
+use Rattle.rule_field_groups.specs.Pairs.{Looks, each_with}
+use Rattle.rule_field_groups.proofs.remembered.Remembered.look_at_each.Given as goal
 
 abbrev pub invariant-loop-node : goal.invariant-loop-node
 invariant-loop-node l = record {

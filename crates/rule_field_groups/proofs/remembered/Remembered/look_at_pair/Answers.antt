@@ -1,9 +1,9 @@
 use Rattle.std.proofs.Common.{true, subst}
-use Rattle.rule_merging.specs.declared.remembered.Pair.{Pair}
-use Rattle.rule_merging.specs.Members.{read_sets}
-use Rattle.rule_merging.specs.Remembered.{kept_of, two_of, LooksAt}
-use Rattle.rule_merging.proofs.Looking.{looks_new, looks_known, pushed}
-use Rattle.rule_merging.proofs.remembered.Remembered.look_at_pair.Goals as goal
+use Rattle.rule_field_groups.specs.declared.remembered.Pair.{Pair}
+use Rattle.rule_field_groups.specs.Members.{read_sets}
+use Rattle.rule_field_groups.specs.Remembered.{kept_of, two_of, LooksAt}
+use Rattle.rule_field_groups.proofs.Looking.{looks_new, looks_known, pushed}
+use Rattle.rule_field_groups.proofs.remembered.Remembered.look_at_pair.Goals as goal
 
 pub returns-in_ok-push-clause-looks : goal.returns-in_ok-push-clause-looks
 returns-in_ok-push-clause-looks c =

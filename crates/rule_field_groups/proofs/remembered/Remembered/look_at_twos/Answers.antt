@@ -1,11 +1,11 @@
 use Rattle.std.proofs.Common.{◌≡◌, ◌∙◌, ◌<◌, ◌+◌, ◌∷◌, ◌++◌, [], take, length, get_or, sym, ap, subst, arith}
 use Rattle.std.proofs.lemmas.List.{take_all, get_or_default, take_more}
 use Rattle.rule_field_sets.specs.Read.{set_at}
-use Rattle.rule_merging.specs.Members.{meant_sets}
-use Rattle.rule_merging.specs.Remembered.{kept_of}
-use Rattle.rule_merging.specs.Pairs.{Looks, LooksAtTwos, each_with}
-use Rattle.rule_merging.proofs.Looking.{looks_none, looks_both, one_more_of, no_twos, twos_more}
-use Rattle.rule_merging.proofs.remembered.Remembered.look_at_twos.Goals as goal
+use Rattle.rule_field_groups.specs.Members.{meant_sets}
+use Rattle.rule_field_groups.specs.Remembered.{kept_of}
+use Rattle.rule_field_groups.specs.Pairs.{Looks, LooksAtTwos, each_with}
+use Rattle.rule_field_groups.proofs.Looking.{looks_none, looks_both, one_more_of, no_twos, twos_more}
+use Rattle.rule_field_groups.proofs.remembered.Remembered.look_at_twos.Goals as goal
 
 pub loop-node-init : goal.loop-node-init
 loop-node-init c =

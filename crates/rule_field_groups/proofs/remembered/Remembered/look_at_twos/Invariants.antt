@@ -1,8 +1,8 @@
 use Rattle.std.proofs.Common.{◌≡◌, take}
-use Rattle.rule_merging.specs.Members.{meant_sets}
-use Rattle.rule_merging.specs.Remembered.{kept_of, beside_of}
-use Rattle.rule_merging.specs.Pairs.{LooksAtTwos}
-use Rattle.rule_merging.proofs.remembered.Remembered.look_at_twos.Given as goal
+use Rattle.rule_field_groups.specs.Members.{meant_sets}
+use Rattle.rule_field_groups.specs.Remembered.{kept_of, beside_of}
+use Rattle.rule_field_groups.specs.Pairs.{LooksAtTwos}
+use Rattle.rule_field_groups.proofs.remembered.Remembered.look_at_twos.Given as goal
 
 abbrev pub invariant-loop-node : goal.invariant-loop-node
 invariant-loop-node l = record {

@@ -1,14 +1,14 @@
 use Rattle.std.proofs.Common.{◌≡◌, ◌∙◌, ◌<◌, ◌+◌, ◌∷◌, ◌++◌, [], take, length, get_or, refl, sym, ap, subst, arith}
 use Rattle.std.proofs.lemmas.List.{take_all, get_or_default, map-append}
 use Rattle.graphql_names.specs.Placed.{Place}
-use Rattle.document_meaning.specs.MeantTree.{MeantSet}
+use Rattle.rule_same_values.specs.in_meaning.MeantTree.{MeantSet}
 use Rattle.rule_field_sets.specs.Read.{set_at}
-use Rattle.rule_merging.specs.Members.{meant_sets}
-use Rattle.rule_merging.specs.Remembered.{kept_of}
-use Rattle.rule_merging.specs.Examined.{with_each}
-use Rattle.rule_merging.specs.Pairs.{Looks}
-use Rattle.rule_merging.proofs.Looking.{looks_none, looks_both, one_more_of}
-use Rattle.rule_merging.proofs.remembered.Remembered.look_before_each.Goals as goal
+use Rattle.rule_field_groups.specs.Members.{meant_sets}
+use Rattle.rule_field_groups.specs.Remembered.{kept_of}
+use Rattle.rule_field_groups.specs.Pairs.{with_each}
+use Rattle.rule_field_groups.specs.Pairs.{Looks}
+use Rattle.rule_field_groups.proofs.Looking.{looks_none, looks_both, one_more_of}
+use Rattle.rule_field_groups.proofs.remembered.Remembered.look_before_each.Goals as goal
 
 pub loop-node-init : goal.loop-node-init
 loop-node-init c = record { looks = looks_none (kept_of c.args.sets.now c.args.self.now); beside = refl }

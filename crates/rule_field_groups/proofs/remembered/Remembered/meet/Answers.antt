@@ -2,9 +2,9 @@ use Rattle.std.proofs.Common.{◌<◌, ◌≤◌, Contains, length, refl, sym, a
 use Rattle.std.proofs.lemmas.List.Elements.{Contains-get_or}
 use Rattle.rule_number_lists.specs.NumberSet.{numbers_in}
 use Rattle.rule_number_lists.proofs.Sets.{as_many}
-use Rattle.rule_merging.specs.declared.remembered.Remembered.{Remembered}
-use Rattle.rule_merging.proofs.Remembering.{meets_only, one_more_met}
-use Rattle.rule_merging.proofs.remembered.Remembered.meet.Goals as goal
+use Rattle.rule_field_groups.specs.declared.remembered.Remembered.{Remembered}
+use Rattle.rule_field_groups.proofs.Remembering.{meets_only, one_more_met}
+use Rattle.rule_field_groups.proofs.remembered.Remembered.meet.Goals as goal
 
 pub loop-field-init : goal.loop-field-init
 loop-field-init c = record { same = refl; only = λ n k. inl k; more = le_refl (length (numbers_in c.args.self.now.met)) }

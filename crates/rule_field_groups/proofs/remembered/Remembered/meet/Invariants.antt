@@ -1,7 +1,7 @@
 use Rattle.std.proofs.Common.{◌≡◌, ◌≤◌, ◌⊎◌, ℕ, length, Contains}
 use Rattle.rule_number_lists.specs.NumberSet.{numbers_in}
-use Rattle.rule_merging.proofs.Remembering.{numbers_of}
-use Rattle.rule_merging.proofs.remembered.Remembered.meet.Given as goal
+use Rattle.rule_field_groups.proofs.Remembering.{numbers_of}
+use Rattle.rule_field_groups.proofs.remembered.Remembered.meet.Given as goal
 
 abbrev pub invariant-loop-field : goal.invariant-loop-field
 invariant-loop-field l = record {

@@ -1,6 +1,6 @@
 use Rattle.std.proofs.Common.{◌∙◌, sym, ap}
-use Rattle.rule_merging.proofs.Remembering.{numbers_of, where_err, kept_same, next_same, pays_none, pays_so, remembers_so}
-use Rattle.rule_merging.proofs.remembered.Remembered.remember_paid.Goals as goal
+use Rattle.rule_field_groups.proofs.Remembering.{numbers_of, where_err, kept_same, next_same, pays_none, pays_so, remembers_so}
+use Rattle.rule_field_groups.proofs.remembered.Remembered.remember_paid.Goals as goal
 
 pub returns-in_err-meet-clause-refused : goal.returns-in_err-meet-clause-refused
 returns-in_err-meet-clause-refused c =

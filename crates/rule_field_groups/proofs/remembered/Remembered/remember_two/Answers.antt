@@ -1,9 +1,9 @@
 use Rattle.std.proofs.lemmas.Result.{IfOk-weaker}
 use Rattle.rule_number_lists.specs.NumberLists.{list_of, lists_kept}
-use Rattle.rule_merging.specs.Twos.{contents_of_two}
-use Rattle.rule_merging.specs.Remembered.{kept_of}
-use Rattle.rule_merging.proofs.Remembering.{remembers, two_read}
-use Rattle.rule_merging.proofs.remembered.Remembered.remember_two.Goals as goal
+use Rattle.rule_field_groups.specs.Members.{contents_of_two}
+use Rattle.rule_field_groups.specs.Remembered.{kept_of}
+use Rattle.rule_field_groups.proofs.Remembering.{remembers, two_read}
+use Rattle.rule_field_groups.proofs.remembered.Remembered.remember_two.Goals as goal
 
 pub returns-clause-remembers : goal.returns-clause-remembers
 returns-clause-remembers c =

@@ -3,16 +3,16 @@ use Rattle.std.proofs.lemmas.Result.{IfOk-weaker}
 use Rattle.std.specs.declared.alloc.Global.{Global}
 use Rattle.rule_merging.specs.declared.examination.Examination.{Examination}
 use Rattle.graphql_names.specs.Placed.{Place}
-use Rattle.document_meaning.specs.MeantTree.{MeantOperation}
-use Rattle.rule_definitions.proofs.Lists.{not_in_nil}
-use Rattle.rule_document_definitions.specs.Limits.{chain_bound}
-use Rattle.rule_field_sets.specs.in_ground.Broken.{brokens_of}
-use Rattle.rule_merging.specs.Remembered.{account_of, kept_of}
+use Rattle.rule_field_groups.specs.in_meaning.MeantTree.{MeantOperation}
+use Rattle.rule_field_groups.proofs.in_definitions.Lists.{not_in_nil}
+use Rattle.rule_field_groups.specs.in_document_definitions.Limits.{chain_bound}
+use Rattle.rule_field_groups.specs.in_sets.in_ground.Broken.{brokens_of}
+use Rattle.rule_field_groups.specs.Remembered.{account_of, kept_of}
 use Rattle.rule_merging.specs.Counted.{AreListed}
 use Rattle.rule_merging.specs.Examined.{ExaminesSets, HaveFields, schema_of, document_of, sets_of}
-use Rattle.rule_merging.specs.Under.{Sets, all_sets, sets_in}
-use Rattle.rule_merging.specs.Members.{meant_sets}
-use Rattle.rule_field_sets.specs.Read.{set_at}
+use Rattle.rule_field_groups.specs.Under.{Sets, all_sets, sets_in}
+use Rattle.rule_field_groups.specs.Members.{meant_sets}
+use Rattle.rule_field_groups.specs.in_sets.Read.{set_at}
 use Rattle.rule_merging.proofs.Examining.{items_in, sets_at, as_sets, emptied, SoFar, first_level, level_step, no_more_levels}
 use Rattle.rule_merging.proofs.Counting.{grows_not, grows_with, listed_next}
 use Rattle.rule_merging.proofs.examination.Examination.examine_all.Goals as goal

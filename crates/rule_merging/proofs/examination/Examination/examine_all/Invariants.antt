@@ -1,12 +1,12 @@
 use Rattle.std.proofs.Common.{◌≡◌, ◌∷◌, [], ◌≤◌, ◌++◌, ◌-◌, List}
 use Rattle.graphql_names.specs.Placed.{Place}
-use Rattle.rule_document_definitions.specs.DocumentFaults.{Broken}
-use Rattle.document_meaning.specs.MeantTree.{MeantOperation}
-use Rattle.rule_field_sets.specs.in_ground.Broken.{brokens_of}
+use Rattle.rule_field_groups.specs.in_document_definitions.DocumentFaults.{Broken}
+use Rattle.rule_field_groups.specs.in_meaning.MeantTree.{MeantOperation}
+use Rattle.rule_field_groups.specs.in_sets.in_ground.Broken.{brokens_of}
 use Rattle.rule_merging.specs.Counted.{AreListed}
-use Rattle.rule_merging.specs.Remembered.{kept_of}
-use Rattle.rule_field_sets.specs.Read.{set_at}
-use Rattle.rule_merging.specs.Under.{sets_in}
+use Rattle.rule_field_groups.specs.Remembered.{kept_of}
+use Rattle.rule_field_groups.specs.in_sets.Read.{set_at}
+use Rattle.rule_field_groups.specs.Under.{sets_in}
 use Rattle.rule_merging.specs.Examined.{schema_of, document_of, sets_of, GrowsOver}
 use Rattle.rule_merging.proofs.Examining.{SoFar}
 use Rattle.rule_merging.proofs.examination.Examination.examine_all.Given as goal

@@ -1,7 +1,7 @@
 use Rattle.std.proofs.Common.{map}
-use Rattle.rule_merging.specs.Members.{fields_of}
-use Rattle.rule_merging.specs.KeyGroups.{parts_of}
-use Rattle.rule_merging.specs.Under.{sets_in}
+use Rattle.rule_field_groups.specs.Members.{fields_of}
+use Rattle.rule_field_groups.specs.KeyGroups.{parts_of}
+use Rattle.rule_field_groups.specs.Under.{sets_in}
 use Rattle.rule_merging.specs.Examined.{schema_of, document_of, sets_of}
 use Rattle.rule_merging.proofs.Examining.{sets_appended, key_examined}
 use Rattle.rule_merging.proofs.examination.Examination.examine_group.Goals as goal

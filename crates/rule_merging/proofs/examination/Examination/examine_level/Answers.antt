@@ -1,12 +1,12 @@
 use Rattle.std.proofs.Common.{◌<◌, [], ◌∷◌, map, take, length, sym, ap, subst, arith}
 use Rattle.std.proofs.lemmas.List.{take_all}
-use Rattle.rule_document_definitions.proofs.Unplaced.{contains_map}
-use Rattle.rule_field_sets.specs.in_ground.Broken.{brokens_of}
+use Rattle.rule_field_groups.proofs.in_document_definitions.Unplaced.{contains_map}
+use Rattle.rule_field_groups.specs.in_sets.in_ground.Broken.{brokens_of}
 use Rattle.rule_merging.specs.Counted.{AreListed}
-use Rattle.rule_merging.specs.Members.{meant_sets}
-use Rattle.rule_merging.specs.Remembered.{account_of, kept_of}
+use Rattle.rule_field_groups.specs.Members.{meant_sets}
+use Rattle.rule_field_groups.specs.Remembered.{account_of, kept_of}
 use Rattle.rule_merging.specs.Examined.{ExaminesSets, schema_of, document_of, sets_of}
-use Rattle.rule_merging.specs.Under.{all_sets, sets_in}
+use Rattle.rule_field_groups.specs.Under.{all_sets, sets_in}
 use Rattle.rule_merging.specs.OfProgram.{Lists}
 use Rattle.rule_merging.proofs.Examining.{items_in, sets_at, front_more, none_told, lists_step}
 use Rattle.rule_merging.proofs.Counting.{grows_not, grows_with, one_listed}

@@ -2,16 +2,16 @@ use Rattle.std.proofs.Common.{◌<◌, ◌≤◌, List, [], map, take, length, s
 use Rattle.std.specs.List.{sum, flat_map}
 use Rattle.std.proofs.lemmas.List.{take_all}
 use Rattle.graphql_names.specs.Placed.{Place}
-use Rattle.rule_document_definitions.specs.Selected.{StandingField}
-use Rattle.rule_field_sets.specs.in_ground.Broken.{brokens_of}
-use Rattle.rule_merging.specs.Members.{fields_of}
-use Rattle.rule_merging.specs.Compared.{compared}
-use Rattle.rule_merging.specs.Grouped.{ArePartsOf}
-use Rattle.rule_merging.specs.KeyGroups.{parts_of, parts_in, lists_in_group, compared_in}
-use Rattle.rule_merging.specs.Under.{sets_in}
+use Rattle.rule_field_groups.specs.in_document_definitions.Selected.{StandingField}
+use Rattle.rule_field_groups.specs.in_sets.in_ground.Broken.{brokens_of}
+use Rattle.rule_field_groups.specs.Members.{fields_of}
+use Rattle.rule_field_groups.specs.Compared.{compared}
+use Rattle.rule_field_groups.specs.Grouped.{ArePartsOf}
+use Rattle.rule_field_groups.specs.KeyGroups.{parts_of, parts_in, lists_in_group, compared_in}
+use Rattle.rule_field_groups.specs.Under.{sets_in}
 use Rattle.rule_merging.specs.Examined.{GroupsExamined, schema_of, document_of, sets_of}
 use Rattle.rule_merging.proofs.Examining.{parts_more, group_members, no_groups, GroupsTold, groups_step}
-use Rattle.rule_merging.proofs.Counts.{left_of}
+use Rattle.rule_field_groups.proofs.Counts.{left_of}
 use Rattle.rule_merging.proofs.examination.Examination.examine_list.Goals as goal
 
 pub loop-group-init : goal.loop-group-init

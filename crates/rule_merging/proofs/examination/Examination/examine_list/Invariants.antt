@@ -1,12 +1,12 @@
 use Rattle.std.proofs.Common.{◌≡◌, ◌≤◌, ◌+◌, ◌++◌, List, map, take, drop}
 use Rattle.std.specs.List.{sum}
 use Rattle.graphql_names.specs.Placed.{Place}
-use Rattle.rule_document_definitions.specs.DocumentFaults.{Broken}
-use Rattle.rule_field_sets.specs.in_ground.Broken.{brokens_of}
-use Rattle.rule_merging.specs.Members.{fields_of}
-use Rattle.rule_merging.specs.Compared.{compared}
-use Rattle.rule_merging.specs.KeyGroups.{parts_in, compared_in}
-use Rattle.rule_merging.specs.Under.{Sets, sets_in}
+use Rattle.rule_field_groups.specs.in_document_definitions.DocumentFaults.{Broken}
+use Rattle.rule_field_groups.specs.in_sets.in_ground.Broken.{brokens_of}
+use Rattle.rule_field_groups.specs.Members.{fields_of}
+use Rattle.rule_field_groups.specs.Compared.{compared}
+use Rattle.rule_field_groups.specs.KeyGroups.{parts_in, compared_in}
+use Rattle.rule_field_groups.specs.Under.{Sets, sets_in}
 use Rattle.rule_merging.specs.Examined.{GroupsExamined, schema_of, document_of, sets_of}
 use Rattle.rule_merging.proofs.examination.Examination.examine_list.Given as goal
 

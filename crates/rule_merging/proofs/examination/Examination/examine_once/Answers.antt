@@ -1,13 +1,13 @@
 use Rattle.std.proofs.Common.{◌∙◌, ◌∷◌, [], true, false, map, ap, sym, subst}
-use Rattle.rule_field_sets.specs.in_ground.Broken.{brokens_of}
+use Rattle.rule_field_groups.specs.in_sets.in_ground.Broken.{brokens_of}
 use Rattle.rule_number_lists.specs.NumberLists.{lists_kept}
-use Rattle.rule_field_sets.specs.Read.{set_content_at}
-use Rattle.rule_merging.specs.Members.{meant_sets, read_sets}
-use Rattle.rule_merging.specs.Under.{sets_in}
+use Rattle.rule_field_groups.specs.in_sets.Read.{set_content_at}
+use Rattle.rule_field_groups.specs.Members.{meant_sets, read_sets}
+use Rattle.rule_field_groups.specs.Under.{sets_in}
 use Rattle.rule_merging.specs.Counted.{AreListed, Grows}
-use Rattle.rule_merging.specs.Remembered.{account_of, kept_of, Expands}
+use Rattle.rule_field_groups.specs.Remembered.{account_of, kept_of, Expands}
 use Rattle.rule_merging.specs.Examined.{schema_of, document_of, sets_of}
-use Rattle.rule_merging.specs.declared.remembered.Remembered.{Remembered}
+use Rattle.rule_field_groups.specs.declared.remembered.Remembered.{Remembered}
 use Rattle.rule_merging.proofs.Examining.{SetsTold, looked_then, looked_before}
 use Rattle.rule_merging.proofs.Counting.{Premise, grows_same}
 use Rattle.rule_merging.proofs.examination.Examination.examine_once.Goals.{then-branch+in_ok-examine_paid, else-branch}

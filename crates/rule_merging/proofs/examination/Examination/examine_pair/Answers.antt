@@ -2,20 +2,21 @@ use Rattle.std.proofs.Common.{◌≡◌, ◌∙◌, ◌∷◌, [], ℕ, List, Co
 use Rattle.std.specs.Prelude.{Some, slice_get}
 use Rattle.std.specs.List.{AllZip}
 use Rattle.std.proofs.lemmas.Result.{on_ok_weaker}
-use Rattle.rule_field_sets.specs.declared.member.Member.{Member}
-use Rattle.rule_field_sets.specs.declared.member.SetNode.{SetNode}
-use Rattle.rule_field_sets.specs.declared.field_sets.FieldSets.{FieldSets}
-use Rattle.rule_field_sets.specs.Nodes.{set_nodes, fragment_nodes}
-use Rattle.rule_field_sets.specs.Read.{set_at}
-use Rattle.rule_merging.specs.Members.{meant_sets, AreMembersOf}
-use Rattle.rule_merging.specs.Remembered.{account_of, kept_of}
-use Rattle.rule_merging.specs.Examined.{Sets, HasSets, GrowsOverTwo, with_each, schema_of, document_of, sets_of}
+use Rattle.rule_field_groups.specs.in_sets.declared.member.Member.{Member}
+use Rattle.rule_field_groups.specs.in_sets.declared.member.SetNode.{SetNode}
+use Rattle.rule_field_groups.specs.in_sets.declared.field_sets.FieldSets.{FieldSets}
+use Rattle.rule_field_groups.specs.in_sets.Nodes.{set_nodes, fragment_nodes}
+use Rattle.rule_field_groups.specs.in_sets.Read.{set_at}
+use Rattle.rule_field_groups.specs.Members.{meant_sets, AreMembersOf}
+use Rattle.rule_field_groups.specs.Remembered.{account_of, kept_of}
+use Rattle.rule_field_groups.specs.Pairs.{with_each}
+use Rattle.rule_merging.specs.Examined.{Sets, HasSets, GrowsOverTwo, schema_of, document_of, sets_of}
 use Rattle.rule_merging.specs.Twos.{are_of, GrowsByTwo}
-use Rattle.rule_merging.specs.Pairs.{each_with}
+use Rattle.rule_field_groups.specs.Pairs.{each_with}
 use Rattle.rule_merging.specs.declared.examination.Examination.{Examination}
-use Rattle.rule_merging.specs.declared.remembered.Remembered.{Remembered}
-use Rattle.rule_merging.proofs.Looking.{looks_both}
-use Rattle.rule_merging.proofs.NodeFacts.{member_selected}
+use Rattle.rule_field_groups.specs.declared.remembered.Remembered.{Remembered}
+use Rattle.rule_field_groups.proofs.Looking.{looks_both}
+use Rattle.rule_field_groups.proofs.NodeFacts.{member_selected}
 use Rattle.rule_merging.proofs.PairStep.{IsOpened, pair_examined, pair_listed}
 use Rattle.rule_merging.proofs.OpenedNodes.{opened_node}
 use Rattle.rule_merging.proofs.Counting.{grows_not, grows_same, grows_on, grows_given}

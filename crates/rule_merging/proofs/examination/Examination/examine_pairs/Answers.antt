@@ -1,19 +1,19 @@
 use Rattle.std.proofs.Common.{◌≡◌, ◌∙◌, ◌<◌, ◌≤◌, ◌+◌, ℕ, List, ◌∷◌, ◌++◌, [], Contains, length, map, get_or, refl, sym, ap, subst, append-nil, arith}
 use Rattle.std.proofs.lemmas.List.{length-map, length-append, get_or-map}
 use Rattle.graphql_names.specs.Placed.{Place}
-use Rattle.document_meaning.specs.MeantTree.{MeantOperation, MeantDocument}
-use Rattle.rule_definitions.proofs.Lists.{only}
-use Rattle.rule_field_sets.specs.in_ground.Broken.{brokens_of}
-use Rattle.rule_merging.specs.Under.{sets_in}
-use Rattle.rule_document_definitions.specs.PlainFields.{IsSelected}
+use Rattle.rule_field_groups.specs.in_meaning.MeantTree.{MeantOperation, MeantDocument}
+use Rattle.rule_field_groups.proofs.in_definitions.Lists.{only}
+use Rattle.rule_field_groups.specs.in_sets.in_ground.Broken.{brokens_of}
+use Rattle.rule_field_groups.specs.Under.{sets_in}
+use Rattle.rule_field_groups.specs.in_document_definitions.PlainFields.{IsSelected}
 use Rattle.rule_merging.specs.Counted.{AreListed}
-use Rattle.rule_merging.specs.Remembered.{account_of, kept_of, two_of}
+use Rattle.rule_field_groups.specs.Remembered.{account_of, kept_of, two_of}
 use Rattle.rule_merging.specs.Examined.{Sets, SelectsAsMuch, schema_of, document_of, sets_of}
 use Rattle.rule_merging.proofs.Pairing.{brokens_long}
 use Rattle.rule_merging.proofs.PairStep.{no_pairs, pairs_step}
 use Rattle.rule_merging.proofs.Counting.{grows_not, grows_with, listed_wider}
-use Rattle.rule_field_sets.specs.declared.field_sets.FieldSets.{FieldSets}
-use Rattle.rule_merging.specs.declared.remembered.Pair.{Pair}
+use Rattle.rule_field_groups.specs.in_sets.declared.field_sets.FieldSets.{FieldSets}
+use Rattle.rule_field_groups.specs.declared.remembered.Pair.{Pair}
 use Rattle.rule_merging.proofs.examination.Examination.examine_pairs.Goals as goal
 
 -- the pair at a place, as a list

@@ -1,6 +1,6 @@
 use Rattle.std.proofs.Common.{◌≤◌, ◌-◌, ◌^◌, length}
-use Rattle.rule_merging.specs.Under.{sets_in}
-use Rattle.rule_merging.specs.Remembered.{kept_of}
+use Rattle.rule_field_groups.specs.Under.{sets_in}
+use Rattle.rule_field_groups.specs.Remembered.{kept_of}
 use Rattle.rule_merging.specs.Examined.{sets_of, ExaminesFirst, GrowsHere}
 use Rattle.rule_merging.proofs.examination.Examination.examine_pairs.Given as goal
 

@@ -1,17 +1,17 @@
 use Rattle.std.proofs.Common.{◌≡◌, ◌∙◌, ◌++◌, Bool, true, false, List, refl, ap, sym, subst, arith, true≢false}
 use Rattle.std.proofs.lemmas.Result.{on_ok_weaker}
-use Rattle.rule_field_sets.specs.in_ground.Broken.{brokens_of}
-use Rattle.rule_document_definitions.specs.ReadFields.{ReadField}
-use Rattle.rule_field_sets.specs.declared.member.Member.{Member}
-use Rattle.rule_field_sets.specs.declared.field_sets.FieldSets.{FieldSets}
-use Rattle.rule_field_sets.specs.Nodes.{AreSets, HasMember}
-use Rattle.rule_field_sets.proofs.Among.{one_number, one_key}
-use Rattle.rule_merging.specs.Members.{contents_of, AreMembersOf}
-use Rattle.rule_merging.specs.Under.{sets_in}
-use Rattle.rule_merging.specs.Remembered.{Kept, account_of, kept_of, remembered, Remembers}
+use Rattle.rule_field_groups.specs.in_sets.in_ground.Broken.{brokens_of}
+use Rattle.rule_field_groups.specs.in_document_definitions.ReadFields.{ReadField}
+use Rattle.rule_field_groups.specs.in_sets.declared.member.Member.{Member}
+use Rattle.rule_field_groups.specs.in_sets.declared.field_sets.FieldSets.{FieldSets}
+use Rattle.rule_field_groups.specs.in_sets.Nodes.{AreSets, HasMember}
+use Rattle.rule_field_groups.proofs.in_sets.Among.{one_number, one_key}
+use Rattle.rule_field_groups.specs.Members.{contents_of, AreMembersOf, contents_of_two}
+use Rattle.rule_field_groups.specs.Under.{sets_in}
+use Rattle.rule_field_groups.specs.Remembered.{Kept, account_of, kept_of, remembered, Remembers}
 use Rattle.rule_merging.specs.Examined.{schema_of, document_of, sets_of}
-use Rattle.rule_merging.specs.Twos.{are_two, contents_of_two, IsListOf, IsListOfTwo}
-use Rattle.rule_merging.specs.declared.remembered.Remembered.{Remembered}
+use Rattle.rule_merging.specs.Twos.{are_two, IsListOf, IsListOfTwo}
+use Rattle.rule_field_groups.specs.declared.remembered.Remembered.{Remembered}
 use Rattle.rule_merging.proofs.Pairing.{PairedTold, paired_apart, paired_known, paired_now, by_contents, members_of_two, read_of_two, some_list}
 use Rattle.rule_merging.proofs.Counting.{grows_not, grows_same, grows_two}
 use Rattle.rule_merging.proofs.examination.Examination.examine_two_fields.Goals as goal

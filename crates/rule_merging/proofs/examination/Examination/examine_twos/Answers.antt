@@ -1,14 +1,14 @@
 use Rattle.std.proofs.Common.{◌∷◌, [], List, Contains, ap, subst}
 use Rattle.std.proofs.lemmas.Result.{on_ok_weaker}
 use Rattle.graphql_names.specs.Placed.{Place}
-use Rattle.document_meaning.specs.MeantTree.{MeantOperation, MeantDocument}
-use Rattle.rule_field_sets.specs.in_ground.Broken.{brokens_of}
-use Rattle.rule_merging.specs.Under.{sets_in}
-use Rattle.rule_merging.specs.Members.{meant_sets}
+use Rattle.rule_field_groups.specs.in_meaning.MeantTree.{MeantOperation, MeantDocument}
+use Rattle.rule_field_groups.specs.in_sets.in_ground.Broken.{brokens_of}
+use Rattle.rule_field_groups.specs.Under.{sets_in}
+use Rattle.rule_field_groups.specs.Members.{meant_sets}
 use Rattle.rule_merging.specs.Counted.{AreListed}
-use Rattle.rule_merging.specs.Remembered.{Kept, account_of, kept_of}
+use Rattle.rule_field_groups.specs.Remembered.{Kept, account_of, kept_of}
 use Rattle.rule_merging.specs.Examined.{Sets, schema_of, document_of, sets_of, ExaminesPairs}
-use Rattle.rule_merging.specs.Pairs.{LooksAtTwos}
+use Rattle.rule_field_groups.specs.Pairs.{LooksAtTwos}
 use Rattle.rule_merging.proofs.PairStep.{twos_told}
 use Rattle.rule_merging.proofs.Counting.{grows_same, grows_with, part_listed}
 use Rattle.rule_merging.proofs.examination.Examination.examine_twos.Goals as goal

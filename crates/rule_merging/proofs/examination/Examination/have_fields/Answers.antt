@@ -1,8 +1,8 @@
 use Rattle.std.proofs.Common.{◌<◌, [], ◌∷◌, true, false, length, map, take, sym, subst, arith}
 use Rattle.std.proofs.lemmas.List.{take_all}
-use Rattle.rule_definitions.proofs.Lists.{not_in_nil}
-use Rattle.rule_document_definitions.proofs.Unplaced.{contains_map}
-use Rattle.rule_merging.specs.Members.{meant_sets}
+use Rattle.rule_field_groups.proofs.in_definitions.Lists.{not_in_nil}
+use Rattle.rule_field_groups.proofs.in_document_definitions.Unplaced.{contains_map}
+use Rattle.rule_field_groups.specs.Members.{meant_sets}
 use Rattle.rule_merging.specs.Examined.{schema_of, document_of, sets_of, HaveFields}
 use Rattle.rule_merging.proofs.Examining.{sets_at, front_more, none_more, some_there}
 use Rattle.rule_merging.proofs.examination.Examination.have_fields.Goals as goal

@@ -1,5 +1,5 @@
 use Rattle.std.proofs.Common.{◌∙◌, sym}
-use Rattle.rule_merging.specs.Members.{meant_sets}
+use Rattle.rule_field_groups.specs.Members.{meant_sets}
 use Rattle.rule_merging.specs.Examined.{schema_of, document_of, sets_of}
 use Rattle.rule_merging.proofs.Examining.{emptied, filled, none_here, some_here}
 use Rattle.rule_merging.proofs.examination.Examination.selects_fields.Goals as goal

@@ -1,0 +1,40 @@
+//! Fields that go together, list by list: those of one response key in a list, where they conflict, and the sets below them (section
+//! 5.3.2, "Field Selection Merging"). Also what was compared and looked at, each once.
+//!
+//! For the layer above: `merged_list` gives what sets select, each content once (`IsMerged` of `specs/Below.antt`), by one walk over all
+//! of them in which no fragment is walked twice (`node_walk.rt`). Two passes compare the fields of such a list (`Pass`): fields of one
+//! response key in shape, and fields that one object may have in name and arguments. `groups_of` splits the fields of one key once by
+//! the types that they are selected on (`KeyGroup` of `groups.rt`). `check_key_group` compares those on abstract types with their first,
+//! and those on an object type with that one too, or else with their own first (`conflicts.rt`). `lists_below` gives the sets below a
+//! group as lists of sets for the next level (`AreListsBelow` of `specs/Under.antt`).
+//!
+//! A `Remembered` has what was compared and looked at (`specs/Remembered.antt`): lists of fields, lists of sets and pairs of sets, each
+//! once, in whatever order they stand. A list is compared where fields that are new pay for it (`budget.rt`, `specs/Paid.antt`).
+//!
+//! Begin with `groups.rt`, `conflicts.rt` and `below.rt`, then `node_walk.rt` and `remembered.rt`.
+#![tactic(auto)]
+
+mod below;
+mod budget;
+mod conflicts;
+mod groups;
+mod kinds;
+mod node_walk;
+mod nodes;
+mod pairs;
+mod pass;
+mod remembered;
+mod shapes;
+
+pub use below::lists_below;
+pub use conflicts::{Breach, check_key_group};
+pub use groups::{KeyGroup, groups_of};
+pub use node_walk::{MergedList, Toll, merged_list};
+pub use nodes::{node_of, starts_of};
+pub use pass::Pass;
+pub use remembered::{Pair, Remembered};
+
+// Of the crates below, for those above.
+pub use document_typed_selections::SelectionSet;
+pub use rule_field_sets::{FieldSets, Member, Schema};
+pub use rule_number_lists::{NumberLists, NumberSet};
