@@ -1,8 +1,8 @@
 -- Pairs of sets that are looked at.
-use Rattle.std.proofs.Common.{◌≡◌, ◌∙◌, ◌<◌, ◌+◌, ℕ, true, false, List, [], ◌∷◌, ◌++◌, map, length, get_or, take, Contains, refl, sym, ap, subst, append_assoc, append-nil, inl, inr}
-use Rattle.std.proofs.lemmas.List.{map-append, take_more}
+use Rattle.std.proofs.Common.{◌≡◌, ◌∙◌, ◌<◌, ◌+◌, ℕ, true, false, List, [], ◌∷◌, ◌++◌, map, length, get_or, take, Contains, refl, sym, ap, subst, append_assoc, append-nil, arith, inl, inr}
+use Rattle.std.proofs.lemmas.List.{length-append, map-append, take_more}
 use Rattle.std.proofs.lemmas.List.Elements.{Contains-append_left, Contains-append_right, Contains-append_cases}
-use Rattle.std.proofs.lemmas.List.Sorted.{IsPermutation-sym, Contains-permutation}
+use Rattle.std.proofs.lemmas.List.Sorted.{length_permutation, IsPermutation-sym, Contains-permutation}
 use Rattle.graphql_names.specs.Placed.{Place}
 use Rattle.rule_same_values.specs.in_meaning.MeantTree.{MeantSet}
 use Rattle.rule_cycle_search.proofs.Lists.{not_in_nil, only, Contains-cons, Contains-first}
@@ -11,6 +11,7 @@ use Rattle.rule_number_lists.proofs.Standing.{in_map, of_map, same_order}
 use Rattle.rule_number_lists.proofs.Few.{in_rest}
 use Rattle.rule_number_lists.proofs.Rows.{exchanged_two}
 use Rattle.rule_same_values.specs.in_document_definitions.ReadFields.{ReadSet}
+use Rattle.rule_field_sets.specs.Read.{set_at}
 use Rattle.rule_field_sets.specs.declared.field_sets.FieldSets.{FieldSets}
 use Rattle.rule_field_groups.specs.declared.remembered.Pair.{Pair}
 use Rattle.rule_field_groups.specs.Members.{read_sets}
@@ -26,6 +27,7 @@ looks_none old = record {
   expanded = refl;
   pairs = [];
   is_pairs = sym (append-nil old.pairs);
+  count = omega arith;
   within = λ two c. c;
   keeps = λ k c. c;
   fresh = λ k c. inl c;
@@ -39,6 +41,7 @@ looks_new two old mid new (kept, (same, (order, at))) is = subst (Looks (two ∷
   expanded = refl;
   pairs = two ∷ [];
   is_pairs = refl;
+  count = omega (arith, length_permutation (kept ∷ old.looked) mid.looked order);
   within = λ t c. c;
   keeps = λ k c. Contains-permutation (kept ∷ old.looked) mid.looked k order (in_rest kept old.looked k c);
   fresh = λ k c. elim (Contains-cons kept old.looked k (Contains-permutation mid.looked (kept ∷ old.looked) k (IsPermutation-sym (kept ∷ old.looked) mid.looked order) c)) [
@@ -58,6 +61,7 @@ looks_known two old new (has, is) = subst (Looks (two ∷ []) old) (sym is) (rec
   expanded = refl;
   pairs = [];
   is_pairs = sym (append-nil old.pairs);
+  count = omega arith;
   within = λ t c. absurd (not_in_nil t c);
   keeps = λ k c. c;
   fresh = λ k c. inl c;
@@ -71,6 +75,7 @@ looks_both w w' old mid new first then' = record {
   expanded = then'.expanded ∙ first.expanded;
   pairs = first.pairs ++ then'.pairs;
   is_pairs = then'.is_pairs ∙ ap (λ l. l ++ then'.pairs) first.is_pairs ∙ append_assoc old.pairs first.pairs then'.pairs;
+  count = omega (arith, first.count, then'.count, length-append first.pairs then'.pairs);
   within = λ two c. elim (Contains-append_cases first.pairs then'.pairs two c) [
     | inl p ↦ Contains-append_left w w' two (first.within two p)
     | inr p ↦ Contains-append_right w w' two (then'.within two p)
@@ -89,9 +94,11 @@ looks_both w w' old mid new first then' = record {
   ];
 }
 
--- the pair as it is put last
-pub pushed : (w : FieldSets) (old new : List Pair) (pair : Pair) → new ≡ old ++ pair ∷ [] → map (two_of w) new ≡ map (two_of w) old ++ two_of w pair ∷ []
-pushed w old new pair is = ap (map (two_of w)) is ∙ map-append (two_of w) old (pair ∷ [])
+-- the pair of two nodes as it is put last
+pub pushed : (w : FieldSets) (old new : List Pair) (pair : Pair) (one other : ℕ) → (pair.one ≡ one) × (pair.other ≡ other) → new ≡ old ++ pair ∷ []
+    → map (two_of w) new ≡ map (two_of w) old ++ (set_at w one ∷ set_at w other ∷ []) ∷ []
+pushed w old new pair one other (e, f) is =
+    ap (map (two_of w)) is ∙ map-append (two_of w) old (pair ∷ []) ∙ ap (λ (t : Sets). map (two_of w) old ++ t ∷ []) (ap (λ n. set_at w n ∷ set_at w pair.other ∷ []) e ∙ ap (λ n. set_at w one ∷ set_at w n ∷ []) f)
 
 -- ---- each two of some sets
 

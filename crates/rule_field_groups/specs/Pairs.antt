@@ -1,5 +1,5 @@
 -- Private: leads to `FieldsMerge`. Pairs of sets that are looked at.
-use Rattle.std.specs.Prelude.{◌≡◌, ◌++◌, ◌∷◌, ◌⊎◌, List, [], map, Contains}
+use Rattle.std.specs.Prelude.{◌≡◌, ◌+◌, ◌++◌, ◌∷◌, ◌⊎◌, List, [], map, length, Contains}
 use Rattle.graphql_names.specs.Placed.{Place}
 use Rattle.rule_number_lists.specs.NumberLists.{HaveSame}
 use Rattle.rule_same_values.specs.in_meaning.MeantTree.{MeantSet}
@@ -31,11 +31,8 @@ pub record Looks (wanted : List Sets) (old new : Kept) : Type 0 where
   pub expanded : new.expanded ≡ old.expanded
   pub pairs : List Sets
   pub is_pairs : new.pairs ≡ old.pairs ++ pairs
+  pub count : length new.looked ≡ length old.looked + length pairs
   pub within : (two : Sets) → Contains pairs two → Contains wanted two
   pub keeps : (known : List ReadSet) → Contains old.looked known → Contains new.looked known
   pub fresh : (known : List ReadSet) → Contains new.looked known → Contains old.looked known ⊎ HasSame pairs known
   pub has : (two : Sets) → Contains wanted two → HasLooked new.looked (read_sets two)
-
--- pairs are looked at, and no others stand there, of which any two of these sets are one
-abbrev pub LooksAtTwos : Sets → Kept → Kept → Type 0
-LooksAtTwos xs old new = (twos : List Sets) × (AreTwosOf xs twos × Looks twos (record old { pairs = [] }) new)

@@ -5,7 +5,7 @@ ghost use Rattle.rule_field_sets.specs.Read.{set_at};
 ghost use Rattle.rule_field_groups.specs.Members.{meant_sets};
 ghost use Rattle.rule_field_groups.specs.Remembered.{kept_of, beside_of};
 ghost use Rattle.rule_field_groups.specs.Pairs.{with_each};
-ghost use Rattle.rule_field_groups.specs.Pairs.{Looks, LooksAtTwos, each_with};
+ghost use Rattle.rule_field_groups.specs.Pairs.{Looks, each_with};
 
 use crate::remembered::{Pair, Remembered};
 use rule_field_sets::FieldSets;
@@ -25,7 +25,8 @@ impl Remembered {
     {
         let is_new = self.look(sets, one, other)?;
         if is_new {
-            self.pairs.push(Pair { one, other })?;
+            let pair = Pair::new(one, other)?;
+            self.pairs.push(pair)?;
         }
         Ok(())
     }
@@ -60,21 +61,6 @@ impl Remembered {
     {
         for node in nodes {
             self.look_at_pair(sets, one, *node)?;
-        }
-        Ok(())
-    }
-
-    /// Looks at each two of the sets, and at each with itself.
-    pub fn look_at_twos(&mut self, sets: &FieldSets<'_>, nodes: &[usize]) -> Result<(), AllocError>
-        requires { AreSets sets.now }
-        ensures looks { OnOk result (LooksAtTwos (meant_sets sets.now nodes.now) (kept_of sets.now self.old) (kept_of sets.now self.new)) }
-        ensures beside { beside_of sets.now self.new ≡ beside_of sets.now self.old }
-    {
-        self.begin_pairs();
-        let mut seen = Vec::new(*self.pairs.allocator());
-        for node in nodes {
-            seen.push(*node)?;
-            self.look_at_each(sets, &seen, *node)?;
         }
         Ok(())
     }

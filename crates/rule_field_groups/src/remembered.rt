@@ -17,11 +17,30 @@ use rule_field_sets::{FieldSets, Member};
 use rule_number_lists::{NumberLists, NumberPairs, NumberSet};
 use std::alloc::{AllocError, Global};
 
-/// Two sets that are looked at together, by their nodes: the fields of the one with those of the other.
+/// Two sets that are looked at together, by their nodes: the fields of the one with those of the other. Many may wait, so one is small.
 #[derive(Clone, Copy)]
 pub struct Pair {
-    pub one: usize,
-    pub other: usize,
+    pub one: u32,
+    pub other: u32,
+}
+
+/// A node in 32 bits: a document has fewer nodes, and one that is not below is told as if memory did not suffice.
+fn short(node: usize) -> Result<u32, AllocError>
+    ensures { IfOk result (λ n. n ≡ node) }
+{
+    u32::try_from(node).map_err(|_| AllocError)
+}
+
+impl Pair {
+    /// Of these nodes.
+    pub fn new(one: usize, other: usize) -> Result<Pair, AllocError>
+        ensures { IfOk result (λ pair. (pair.one ≡ one) × (pair.other ≡ other)) }
+    {
+        Ok(Pair {
+            one: short(one)?,
+            other: short(other)?,
+        })
+    }
 }
 
 /// The lists of fields that were examined, each once, and the lists of sets that were looked at: fields that these select and that go
@@ -32,9 +51,9 @@ pub struct Remembered {
     met: NumberSet,
     /// The lists of sets that were looked at.
     pub expanded: NumberLists,
-    /// The pairs that were looked at, or are left.
+    /// The pairs that were looked at, or are left: each once.
     looked: NumberPairs,
-    /// Of these the ones that came last, in turn.
+    /// Of these the ones that are left.
     pub pairs: Vec<Pair>,
     /// The lists of sets that are left for the next level, by their nodes.
     pub next: Vec<Vec<usize>>,

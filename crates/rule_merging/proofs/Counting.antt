@@ -1,5 +1,5 @@
 -- How often shapes are compared, and that the members of each list that is examined are last fields of chains.
-use Rattle.std.proofs.Common.{◌≡◌, ◌⊎◌, ◌∙◌, ℕ, ◌+◌, ◌*◌, ◌<◌, ◌≤◌, None, List, [], ◌∷◌, ◌++◌, map, length, Contains, refl, sym, ap, subst, append_assoc, arith, inl, inr}
+use Rattle.std.proofs.Common.{◌≡◌, ◌⊎◌, ◌∙◌, ℕ, ◌+◌, ◌*◌, ◌^◌, ◌<◌, ◌≤◌, None, List, [], ◌∷◌, ◌++◌, map, length, Contains, refl, sym, ap, subst, append_assoc, arith, inl, inr}
 use Rattle.std.specs.List.{sum}
 use Rattle.std.specs.List.Sorted.{IsPermutation}
 use Rattle.std.proofs.lemmas.List.{length-map}
@@ -25,8 +25,8 @@ use Rattle.rule_number_lists.specs.NumberLists.{HaveSame, length_above_two}
 use Rattle.rule_number_lists.specs.NumberPairs.{pairs_kept}
 use Rattle.rule_number_lists.specs.declared.pairs.NumberPairs.{NumberPairs}
 use Rattle.rule_number_lists.proofs.Standing.{same_order, same_trans, same_sym, no_repeat_order}
-use Rattle.rule_number_lists.proofs.Few.{no_longer, few, above_two_length, above_two_le, differ_cons, differ_order, from_apart}
-use Rattle.rule_number_lists.proofs.Rows.{kept_few}
+use Rattle.rule_number_lists.proofs.Few.{squares, no_longer, few, above_two_length, above_two_le, differ_cons, differ_order, from_apart}
+use Rattle.rule_number_lists.proofs.Rows.{kept_once, rows_below, few_in_any_order, kept_few}
 use Rattle.rule_field_groups.specs.in_sets.declared.member.Member.{Member}
 use Rattle.rule_field_groups.specs.in_sets.declared.field_sets.FieldSets.{FieldSets}
 use Rattle.rule_field_groups.specs.Members.{field_of, fields_of, content_of, contents_of}
@@ -343,3 +343,11 @@ few_pairs p m below = kept_few p m below
 -- so many pairs of sets were looked at, at most, where so many sets have numbers
 pub few_looked : (w : FieldSets) (r : Remembered) (fields sets : ℕ) → IsKnown fields sets r → 2 * length (looked_in w r) ≤ sets * (sets + 1)
 few_looked w r fields sets known = omega (arith, few_pairs r.looked sets known.looked, length-map {B = List ReadSet} (pairs_kept r.looked) (λ p. map (set_content_at w) (both_in p)))
+
+-- and so many at most, whatever their numbers are
+pub looked_bounded : (r : Remembered) → length (pairs_kept r.looked) ≤ 2 ^ 126
+looked_bounded r =
+    let rows = r.looked.rows in
+    let n = length rows.items in
+    let small : n ≤ 2 ^ 63 = omega (arith, rows.small, rows.ok.0, rows.ok.1) in
+    omega (arith, few_in_any_order (pairs_kept r.looked) n (kept_once r.looked) (rows_below rows.items n refl), squares n (2 ^ 63) small)

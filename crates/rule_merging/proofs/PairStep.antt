@@ -1,7 +1,7 @@
 -- A pair of sets is looked at: the fields of the one are compared with those of the other, and what each spreads is looked at with the other.
-use Rattle.std.proofs.Common.{◌≡◌, ◌⊎◌, ◌∙◌, ℕ, ◌+◌, ◌<◌, ◌≤◌, List, [], ◌∷◌, ◌++◌, drop, length, get_or, Contains, refl, sym, ap, subst, append_assoc, append-nil, arith, inl, inr}
+use Rattle.std.proofs.Common.{◌≡◌, ◌⊎◌, ◌∙◌, ◌+◌, List, [], ◌∷◌, ◌++◌, length, Contains, refl, sym, ap, subst, append_assoc, append-nil, inl, inr}
 use Rattle.std.specs.Prelude.{option_map}
-use Rattle.std.proofs.lemmas.List.{map-append, drop-append-le, drop_all}
+use Rattle.std.proofs.lemmas.List.{map-append}
 use Rattle.std.proofs.lemmas.List.Elements.{Contains-append_left, Contains-append_right, Contains-append_cases}
 use Rattle.graphql_names.specs.Placed.{Place}
 use Rattle.rule_field_groups.proofs.in_components.Places.{Contains-rest}
@@ -25,13 +25,13 @@ use Rattle.rule_field_groups.specs.Members.{field_of, content_of, read_sets}
 use Rattle.rule_merging.specs.Paired.{LeadsTo, Selects}
 use Rattle.rule_field_groups.specs.Passes.{ReadTogether, ReadAgree}
 use Rattle.rule_field_groups.specs.Remembered.{Kept}
+use Rattle.rule_merging.specs.Examined.{Sets, all_read, StandTogether, ReadOwn, ReadSelected, ReadSpreads, AreLookedAt, IsLeft, PairsAreDone, AreUnderWay, TellsIn, ComeFrom, SelectsAsMuch, SetsExamined, PairExamined, PairsExamined, TwosExamined}
 use Rattle.rule_field_groups.specs.Pairs.{with_each, AreTwosOf}
 use Rattle.rule_merging.specs.Examined.{Sets, all_read, StandTogether, ReadOwn, ReadSelected, ReadSpreads, AreLookedAt, IsLeft, PairsAreDone, AreUnderWay, TellsIn, ComeFrom, SelectsAsMuch, SetsExamined, PairExamined, PairsExamined}
 use Rattle.rule_merging.specs.Counted.{IsLast, AreListed}
-use Rattle.rule_field_groups.specs.Pairs.{Looks, LooksAtTwos, each_with}
+use Rattle.rule_field_groups.specs.Pairs.{Looks, each_with}
 use Rattle.rule_merging.specs.Twos.{are_of, both_of, FieldsPaired}
 use Rattle.rule_merging.proofs.Passing.{together_read}
-use Rattle.rule_field_groups.proofs.Counts.{drop_first}
 use Rattle.rule_merging.proofs.PairedFacts.{pairs_stand}
 use Rattle.rule_merging.proofs.Examining.{left_empty, right_empty, together_more, moved_lists, left_wider, dropped, all_of_one, looked_more, HasMore, DoneIn, SetsStand, done_more, swapped, same_read}
 
@@ -227,6 +227,7 @@ module _ (pass : Pass) (s : Judged) (d : MeantDocument Place) where
         looks = looked_on;
         pairs = looks.pairs;
         is_pairs = looks.is_pairs ∙ ap (λ l. l ++ looks.pairs) (ap (λ (k : Kept). k.pairs) paired.same);
+        count = looks.count ∙ ap (λ (l : List (List ReadSet)). length l + length looks.pairs) looked_same;
         within = λ part c x h. within_part part (looks.within part c) x h;
         settled = λ e o twos left under. record {
           fields = moved_lists pass s d o (IsLeft d left) (IsLeft d (left ++ all_read next)) old.lists new.lists lists_more
@@ -263,14 +264,15 @@ module _ (pass : Pass) (s : Judged) (d : MeantDocument Place) where
   one_comes lists next u = (u.0, (Contains-first u.0 [] u.0 refl, u.1.1))
 
   -- whichever order pairs are left in
-  under_as : (o : MeantOperation Place) (twos twos' : List (List ReadSet)) (left : List (List ReadSet)) (kept : Kept) → HasMore twos twos' → AreUnderWay d pass s o twos left kept → AreUnderWay d pass s o twos' left kept
-  under_as o twos twos' left kept on under = record {
+  under_as : (o : MeantOperation Place) (twos twos' : List (List ReadSet)) (left : List (List ReadSet)) (kept : Kept) (pairs : List Sets) → HasMore twos twos' → AreUnderWay d pass s o twos left kept
+      → AreUnderWay d pass s o twos' left (record kept { pairs = pairs })
+  under_as o twos twos' left kept pairs on under = record {
     fields = under.fields;
     sets = under.sets;
     pairs = λ a b h. elim (under.pairs a b h) [ inl is ↦ inl (looked_more pass s d twos twos' on a b is) | inr is ↦ inr is ];
   }
 
-  pub no_pairs : (old : Kept) → PairsExamined pass s d 0 old old [] []
+  pub no_pairs : (old : Kept) → PairsExamined pass s d old old [] []
   no_pairs old = record {
     right = λ fault c. not_in_nil fault c;
     under = λ sets c. not_in_nil sets c;
@@ -280,16 +282,30 @@ module _ (pass : Pass) (s : Judged) (d : MeantDocument Place) where
     settled = λ e o left under. subst (λ l. AreUnderWay d pass s o (all_read old.pairs) l old) (sym (append-nil left)) under;
   }
 
-  -- one more of them
-  module _ (n : ℕ) (old mid new : Kept) (added more : List (Broken Place)) (next below : List Sets) (two : Sets) (within : n < length mid.pairs) (is : two ≡ get_or mid.pairs n two)
-      (so_far : PairsExamined pass s d n old mid added next) (one : PairExamined pass s d two mid new more below) where
-    there : Contains mid.pairs two
-    there = (n, within, sym is)
+  -- lists of sets that are left, and what comes to them twice
+  left_twice : (o : MeantOperation Place) (twos left : List (List ReadSet)) (next below : List Sets) (kept : Kept) → AreUnderWay d pass s o twos ((left ++ all_read next) ++ all_read below) kept
+      → AreUnderWay d pass s o twos (left ++ all_read (next ++ below)) kept
+  left_twice o twos left next below kept =
+      subst (λ l. AreUnderWay d pass s o twos l kept) (append_assoc left (all_read next) (all_read below) ∙ ap (λ l. left ++ l) (sym (map-append read_sets next below)))
+
+  -- one more of them: the last one that waits
+  module _ (old mid new : Kept) (added more : List (Broken Place)) (next below rest : List Sets) (two : Sets) (is : mid.pairs ≡ rest ++ two ∷ [])
+      (so_far : PairsExamined pass s d old mid added next) (one : PairExamined pass s d two (record mid { pairs = rest }) new more below) where
+    among : (part : Sets) → Contains (rest ++ two ∷ []) part → Contains mid.pairs part
+    among part c = subst (λ (l : List Sets). Contains l part) (sym is) c
 
     from : (part : Sets) → SelectsAsMuch d two part → (sets : Sets) × (Contains old.pairs sets × SelectsAsMuch d sets part)
-    from part wide = let f = so_far.within two there in (f.0, (f.1.0, λ x h. f.1.1 x (wide x h)))
+    from part wide =
+        let f = so_far.within two (among two (Contains-append_right rest (two ∷ []) two (Contains-first two [] two refl))) in
+        (f.0, (f.1.0, λ x h. f.1.1 x (wide x h)))
 
-    pub one_more : PairsExamined pass s d (n + 1) old new (added ++ more) (next ++ below)
+    last_first : HasMore (all_read mid.pairs) (read_sets two ∷ all_read rest)
+    last_first l c = elim (Contains-append_cases (all_read rest) (read_sets two ∷ []) l (subst (λ (k : List (List ReadSet)). Contains k l) (ap all_read is ∙ map-append read_sets rest (two ∷ [])) c)) [
+      | inl a ↦ Contains-rest (read_sets two) (all_read rest) l a
+      | inr b ↦ Contains-first (read_sets two) (all_read rest) l (sym (only (read_sets two) l b))
+    ]
+
+    pub one_more : PairsExamined pass s d old new (added ++ more) (next ++ below)
     one_more = record {
       right = λ fault c. elim (Contains-append_cases added more fault c) [
         | inl a ↦ so_far.right fault a
@@ -301,33 +317,30 @@ module _ (pass : Pass) (s : Judged) (d : MeantDocument Place) where
       ];
       more = λ l c. one.more l (so_far.more l c);
       looks = λ l c. one.looks l (so_far.looks l c);
-      within = λ part c. elim (Contains-append_cases mid.pairs one.pairs part (subst (λ (l : List Sets). Contains l part) one.is_pairs c)) [
-        | inl a ↦ so_far.within part a
+      within = λ part c. elim (Contains-append_cases rest one.pairs part (subst (λ (l : List Sets). Contains l part) one.is_pairs c)) [
+        | inl a ↦ so_far.within part (among part (Contains-append_left rest (two ∷ []) part a))
         | inr b ↦ from part (one.within part b)
       ];
       settled = λ e o left under.
           let half = so_far.settled (left_empty added more e) o left under in
-          let rest = all_read (drop (n + 1) mid.pairs) in
-          let last = one.settled (right_empty added more e) o rest (left ++ all_read next) (subst (λ (l : List Sets). AreUnderWay d pass s o (all_read l) (left ++ all_read next) mid) (drop_first mid.pairs n two within is) half) in
-          subst (λ l. AreUnderWay d pass s o (all_read (drop (n + 1) new.pairs)) l new) (append_assoc left (all_read next) (all_read below) ∙ ap (λ l. left ++ l) (sym (map-append read_sets next below)))
-          (subst (λ t. AreUnderWay d pass s o t ((left ++ all_read next) ++ all_read below) new) (sym left_over) last);
+          let taken = under_as o (all_read mid.pairs) (read_sets two ∷ all_read rest) (left ++ all_read next) mid rest last_first half in
+          let last = one.settled (right_empty added more e) o (all_read rest) (left ++ all_read next) taken in
+          left_twice o (all_read new.pairs) left next below new
+          (subst (λ t. AreUnderWay d pass s o t ((left ++ all_read next) ++ all_read below) new) (sym (ap all_read one.is_pairs ∙ map-append read_sets rest one.pairs)) last);
     }
-      where
-        left_over : all_read (drop (n + 1) new.pairs) ≡ all_read (drop (n + 1) mid.pairs) ++ all_read one.pairs
-        left_over = ap all_read (ap (drop (n + 1)) one.is_pairs ∙ drop-append-le (n + 1) mid.pairs one.pairs (omega (arith, within))) ∙ map-append read_sets (drop (n + 1) mid.pairs) one.pairs
 
   -- the same of breaches and lists as they stand before and after
-  pub pairs_step : (n : ℕ) (old mid new : Kept) (told half last : List (Broken Place)) (next between later : List Sets) (two : Sets) → n < length mid.pairs → two ≡ get_or mid.pairs n two
-      → ((added : List (Broken Place)) × ((below : List Sets) × ((half ≡ told ++ added) × ((between ≡ next ++ below) × PairsExamined pass s d n old mid added below))))
-      → ((added : List (Broken Place)) × ((below : List Sets) × ((last ≡ half ++ added) × ((later ≡ between ++ below) × PairExamined pass s d two mid new added below))))
-      → (added : List (Broken Place)) × ((below : List Sets) × ((last ≡ told ++ added) × ((later ≡ next ++ below) × PairsExamined pass s d (n + 1) old new added below)))
-  pairs_step n old mid new told half last next between later two within is (a, (k, (e, (lies, so_far)))) (b, (m, (f, (lies_too, one)))) = (
+  pub pairs_step : (old mid new : Kept) (told half last : List (Broken Place)) (next between later rest : List Sets) (two : Sets) → mid.pairs ≡ rest ++ two ∷ []
+      → ((added : List (Broken Place)) × ((below : List Sets) × ((half ≡ told ++ added) × ((between ≡ next ++ below) × PairsExamined pass s d old mid added below))))
+      → ((added : List (Broken Place)) × ((below : List Sets) × ((last ≡ half ++ added) × ((later ≡ between ++ below) × PairExamined pass s d two (record mid { pairs = rest }) new added below))))
+      → (added : List (Broken Place)) × ((below : List Sets) × ((last ≡ told ++ added) × ((later ≡ next ++ below) × PairsExamined pass s d old new added below)))
+  pairs_step old mid new told half last next between later rest two is (a, (k, (e, (lies, so_far)))) (b, (m, (f, (lies_too, one)))) = (
     a ++ b,
     (
       k ++ m,
       (
         f ∙ ap (λ l. l ++ b) e ∙ append_assoc told a b,
-        (lies_too ∙ ap (λ l. l ++ m) lies ∙ append_assoc next k m, one_more n old mid new a b k m two within is so_far one),
+        (lies_too ∙ ap (λ l. l ++ m) lies ∙ append_assoc next k m, one_more old mid new a b k m rest two is so_far one),
       ),
     ),
   )
@@ -342,25 +355,11 @@ module _ (pass : Pass) (s : Judged) (d : MeantDocument Place) where
       (selected_through d a x p) (selected_through d b y q) t in
       elim stands [ inl stand ↦ stand | inr (u, (v, (none, both))) ↦ not_in_nil none.0 none.1.0 ]
 
-  module _ (sets : Sets) (twos : List Sets) (are : AreTwosOf sets twos) (old mid new : Kept) (looks : Looks twos (record old { pairs = [] }) mid)
-      (n : ℕ) (added : List (Broken Place)) (next : List Sets) (all : added ≡ [] → length new.pairs ≤ n) (pairs : PairsExamined pass s d n mid new added next) where
-    -- each pair is of these sets
-    of_all : (part : Sets) → Contains mid.pairs part → SelectsAsMuch d sets part
-    of_all part c x h = (h.0, (are.within part (looks.within part (subst (λ (l : List Sets). Contains l part) looks.is_pairs c)) h.0 h.1.0, h.1.1))
-
-    -- any two of the sets were looked at together
-    looked_two : (v w : MeantSet Place) → Contains sets v → Contains sets w → AreLookedAt new.looked (list_read v) (list_read w)
-    looked_two v w a b =
-        let two = are.covers v w a b in
-        let known = looks.has two.0 two.1.0 in
-        (known.0, (pairs.looks known.0 known.1.0, same_trans known.0 (read_sets two.0) (read_sets (v ∷ w ∷ [])) known.1.1 (same_read two.0 (v ∷ w ∷ []) two.1.1)))
-
-    sets_stand : PairsAreDone d pass s [] new → SetsStand pass s d sets new.lists
-    sets_stand done x y (p, (a, i)) (q, (b, j)) =
-        let v = contains_unmap list_read sets p a in
-        let w = contains_unmap list_read sets q b in
-        looked_stand new done p q
-        (subst (λ (k : ReadSet). AreLookedAt new.looked k q) v.1.1 (subst (λ (k : ReadSet). AreLookedAt new.looked (list_read v.0) k) w.1.1 (looked_two v.0 w.0 v.1.0 w.1.0))) x y i j
+  -- pairs that are looked at while no other waits, and are examined until none does
+  module _ (twos : List Sets) (old mid new : Kept) (looks : Looks twos (record old { pairs = [] }) mid) (added : List (Broken Place)) (next : List Sets)
+      (none : added ≡ [] → new.pairs ≡ []) (pairs : PairsExamined pass s d mid new added next) where
+    of_twos : (part : Sets) → Contains mid.pairs part → Contains twos part
+    of_twos part c = looks.within part (subst (λ (l : List Sets). Contains l part) looks.is_pairs c)
 
     -- with the pairs that are left
     with_pairs : (o : MeantOperation Place) (left : List (List ReadSet)) → AreUnderWay d pass s o [] left old → AreUnderWay d pass s o (all_read mid.pairs) left mid
@@ -377,22 +376,125 @@ module _ (pass : Pass) (s : Judged) (d : MeantDocument Place) where
       ];
     }
 
-    pub sets_by_pairs : SetsExamined pass s d (sets ∷ []) old new added next
-    sets_by_pairs = record {
-      right = λ fault c. let t = pairs.right fault c in tells_wider sets t.0 (sets ∷ []) (Contains-first sets [] sets refl) (of_all t.0 t.1.0) fault (one_tells mid.pairs fault t);
-      under = λ vs c. let u = pairs.under vs c in come_wider sets u.0 (sets ∷ []) (Contains-first sets [] sets refl) (of_all u.0 u.1.0) vs (one_comes mid.pairs vs u);
+    pub twos_examined : TwosExamined pass s d twos old new added next
+    twos_examined = record {
+      right = λ fault c. let t = pairs.right fault c in (t.0, (of_twos t.0 t.1.0, t.1.1));
+      under = λ sets c. let u = pairs.under sets c in (u.0, (of_twos u.0 u.1.0, u.1.1));
       more = λ l c. pairs.more l (subst (λ (ls : List (List ReadField)). Contains ls l) (sym looks.lists) c);
-      settled = λ e o left under.
-          let half = pairs.settled e o (read_sets sets ∷ left) (with_pairs o (read_sets sets ∷ left) under) in
-          let whole : AreUnderWay d pass s o [] (read_sets sets ∷ (left ++ all_read next)) new =
-          subst (λ (l : List Sets). AreUnderWay d pass s o (all_read l) (read_sets sets ∷ (left ++ all_read next)) new) (drop_all n new.pairs (all e)) half in
-          let stand = sets_stand whole.pairs in
-          (dropped pass s d sets new stand o (left ++ all_read next) whole, all_of_one pass s d sets new.lists stand);
+      looks = λ k c. pairs.looks k (looks.keeps k c);
+      has = λ two c. let known = looks.has two c in (known.0, (pairs.looks known.0 known.1.0, known.1.1));
+      settled = λ e o left under. subst (λ (l : List Sets). AreUnderWay d pass s o (all_read l) (left ++ all_read next) new) (none e) (pairs.settled e o left (with_pairs o left under));
     }
 
   -- the same of breaches and lists as they stand before and after
-  pub twos_told : (sets : Sets) (old mid new : Kept) (told later : List (Broken Place)) (next last : List Sets) → LooksAtTwos sets old mid
-      → (n : ℕ) × ((later ≡ told → length new.pairs ≤ n) × ((added : List (Broken Place)) × ((below : List Sets) × ((later ≡ told ++ added) × ((last ≡ next ++ below) × PairsExamined pass s d n mid new added below)))))
+  abbrev pub TwosTold : List Sets → Kept → Kept → List (Broken Place) → List (Broken Place) → List Sets → List Sets → Type 0
+  TwosTold twos old new told later next last = (added : List (Broken Place)) × ((below : List Sets) × ((later ≡ told ++ added) × ((last ≡ next ++ below) × TwosExamined pass s d twos old new added below)))
+
+  pub twos_looked : (twos : List Sets) (old mid new : Kept) (told later : List (Broken Place)) (next last : List Sets) → Looks twos (record old { pairs = [] }) mid
+      → ((later ≡ told → new.pairs ≡ []) × ((added : List (Broken Place)) × ((below : List Sets) × ((later ≡ told ++ added) × ((last ≡ next ++ below) × PairsExamined pass s d mid new added below)))))
+      → TwosTold twos old new told later next last
+  twos_looked twos old mid new told later next last looks (none, (a, (k, (is, (lies, h))))) =
+      (a, (k, (is, (lies, twos_examined twos old mid new looks a k (λ e. none (is ∙ ap (λ l. told ++ l) e ∙ append-nil told)) h))))
+
+  pub twos_none : (old : Kept) (told : List (Broken Place)) (next : List Sets) → TwosTold [] old old told told next next
+  twos_none old told next = (
+    [],
+    (
+      [],
+      (
+        sym (append-nil told),
+        (
+          sym (append-nil next),
+          record {
+            right = λ fault c. not_in_nil fault c;
+            under = λ sets c. not_in_nil sets c;
+            more = λ l c. c;
+            looks = λ l c. c;
+            has = λ two c. not_in_nil two c;
+            settled = λ e o left under. subst (λ l. AreUnderWay d pass s o [] l old) (sym (append-nil left)) under;
+          },
+        ),
+      ),
+    ),
+  )
+
+  -- some and then others
+  twos_both : (twos others : List Sets) (old mid new : Kept) (added more : List (Broken Place)) (next below : List Sets) → TwosExamined pass s d twos old mid added next
+      → TwosExamined pass s d others mid new more below → TwosExamined pass s d (twos ++ others) old new (added ++ more) (next ++ below)
+  twos_both twos others old mid new added more next below first then' = record {
+    right = λ fault c. elim (Contains-append_cases added more fault c) [
+      | inl a ↦ let t = first.right fault a in (t.0, (Contains-append_left twos others t.0 t.1.0, t.1.1))
+      | inr b ↦ let t = then'.right fault b in (t.0, (Contains-append_right twos others t.0 t.1.0, t.1.1))
+    ];
+    under = λ sets c. elim (Contains-append_cases next below sets c) [
+      | inl a ↦ let u = first.under sets a in (u.0, (Contains-append_left twos others u.0 u.1.0, u.1.1))
+      | inr b ↦ let u = then'.under sets b in (u.0, (Contains-append_right twos others u.0 u.1.0, u.1.1))
+    ];
+    more = λ l c. then'.more l (first.more l c);
+    looks = λ k c. then'.looks k (first.looks k c);
+    has = λ two c. elim (Contains-append_cases twos others two c) [
+      | inl a ↦ let known = first.has two a in (known.0, (then'.looks known.0 known.1.0, known.1.1))
+      | inr b ↦ then'.has two b
+    ];
+    settled = λ e o left under. left_twice o [] left next below new (then'.settled (right_empty added more e) o (left ++ all_read next) (first.settled (left_empty added more e) o left under));
+  }
+
+  pub twos_step : (twos others : List Sets) (old mid new : Kept) (told half last : List (Broken Place)) (next between later : List Sets)
+      → TwosTold twos old mid told half next between → TwosTold others mid new half last between later → TwosTold (twos ++ others) old new told last next later
+  twos_step twos others old mid new told half last next between later (a, (k, (e, (lies, first)))) (b, (m, (f, (lies_too, then')))) = (
+    a ++ b,
+    (
+      k ++ m,
+      (f ∙ ap (λ l. l ++ b) e ∙ append_assoc told a b, (lies_too ∙ ap (λ l. l ++ m) lies ∙ append_assoc next k m, twos_both twos others old mid new a b k m first then')),
+    ),
+  )
+
+  -- each two of some sets; where something is told, perhaps not of all
+  module _ (sets : Sets) (twos : List Sets) (old new : Kept) (added : List (Broken Place)) (next : List Sets)
+      (within : (two : Sets) → Contains twos two → (v : MeantSet Place) → Contains two v → Contains sets v) (are : added ≡ [] → AreTwosOf sets twos) (h : TwosExamined pass s d twos old new added next) where
+    of_all : (part : Sets) → Contains twos part → SelectsAsMuch d sets part
+    of_all part c x i = (i.0, (within part c i.0 i.1.0, i.1.1))
+
+    -- any two of the sets were looked at together
+    looked_two : added ≡ [] → (v w : MeantSet Place) → Contains sets v → Contains sets w → AreLookedAt new.looked (list_read v) (list_read w)
+    looked_two e v w a b =
+        let two = (are e).covers v w a b in
+        let known = h.has two.0 two.1.0 in
+        (known.0, (known.1.0, same_trans known.0 (read_sets two.0) (read_sets (v ∷ w ∷ [])) known.1.1 (same_read two.0 (v ∷ w ∷ []) two.1.1)))
+
+    sets_stand : added ≡ [] → PairsAreDone d pass s [] new → SetsStand pass s d sets new.lists
+    sets_stand e done x y (p, (a, i)) (q, (b, j)) =
+        let v = contains_unmap list_read sets p a in
+        let w = contains_unmap list_read sets q b in
+        looked_stand new done p q
+        (subst (λ (k : ReadSet). AreLookedAt new.looked k q) v.1.1 (subst (λ (k : ReadSet). AreLookedAt new.looked (list_read v.0) k) w.1.1 (looked_two e v.0 w.0 v.1.0 w.1.0))) x y i j
+
+    sets_by_twos : SetsExamined pass s d (sets ∷ []) old new added next
+    sets_by_twos = record {
+      right = λ fault c. let t = h.right fault c in tells_wider sets t.0 (sets ∷ []) (Contains-first sets [] sets refl) (of_all t.0 t.1.0) fault (one_tells twos fault t);
+      under = λ vs c. let u = h.under vs c in come_wider sets u.0 (sets ∷ []) (Contains-first sets [] sets refl) (of_all u.0 u.1.0) vs (one_comes twos vs u);
+      more = h.more;
+      settled = λ e o left under.
+          let whole : AreUnderWay d pass s o [] (read_sets sets ∷ (left ++ all_read next)) new = h.settled e o (read_sets sets ∷ left) under in
+          let stand = sets_stand e whole.pairs in
+          (dropped pass s d sets new stand o (left ++ all_read next) whole, all_of_one pass s d sets new.lists stand);
+    }
+
+  -- each two of the first of some sets; of all of them, if nothing is told
+  pub sets_told : (sets front : Sets) (old new : Kept) (told later : List (Broken Place)) (next last : List Sets) → ((v : MeantSet Place) → Contains front v → Contains sets v)
+      → (later ≡ told → front ≡ sets) → (twos : List Sets) × (AreTwosOf front twos × TwosTold twos old new told later next last)
       → (added : List (Broken Place)) × ((below : List Sets) × ((later ≡ told ++ added) × ((last ≡ next ++ below) × SetsExamined pass s d (sets ∷ []) old new added below)))
-  twos_told sets old mid new told later next last (twos, (are, looks)) (n, (all, (a, (k, (is, (lies, h)))))) =
-      (a, (k, (is, (lies, sets_by_pairs sets twos are old mid new looks n a k (λ e. all (is ∙ ap (λ l. told ++ l) e ∙ append-nil told)) h))))
+  sets_told sets front old new told later next last part whole (twos, (are, (a, (k, (is, (lies, h)))))) = (
+    a,
+    (
+      k,
+      (
+        is,
+        (
+          lies,
+          sets_by_twos sets twos old new a k (λ two c v i. part v (are.within two c v i))
+              (λ e. subst (λ (l : Sets). AreTwosOf l twos) (whole (is ∙ ap (λ l. told ++ l) e ∙ append-nil told)) are) h,
+        ),
+      ),
+    ),
+  )

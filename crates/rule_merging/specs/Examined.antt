@@ -1,5 +1,5 @@
 -- Private: leads to `MergingBreaks` and `FieldsMerge`. What the examination of groups, of a list, of a level and of all levels comes to.
-use Rattle.std.specs.Prelude.{◌≡◌, ◌++◌, ◌∷◌, ◌≤◌, ℕ, Bool, true, false, List, [], map, length, drop, Some, option_map, Vec, Contains}
+use Rattle.std.specs.Prelude.{◌≡◌, ◌+◌, ◌++◌, ◌∷◌, ℕ, Bool, true, false, List, [], map, length, Some, option_map, Vec, Contains}
 use Rattle.std.specs.declared.alloc.Global.{Global}
 use Rattle.graphql_names.specs.Placed.{Place}
 use Rattle.graphql_faults.specs.in_document_data.declared.build_error.BuildError.{BuildError}
@@ -180,13 +180,14 @@ module _ (pass : Pass) (s : Judged) (d : MeantDocument Place) where
     pub looks : (known : List ReadSet) → Contains old.looked known → Contains new.looked known
     pub pairs : List Sets
     pub is_pairs : new.pairs ≡ old.pairs ++ pairs
+    pub count : length new.looked ≡ length old.looked + length pairs
     pub within : (part : Sets) → Contains pairs part → SelectsAsMuch d two part
     -- where nothing is told, whatever else is left
     pub settled : added ≡ [] → (o : MeantOperation Place) (twos : List (List ReadSet)) (left : List (List ReadSet))
         → AreUnderWay d pass s o (read_sets two ∷ twos) left old → AreUnderWay d pass s o (twos ++ all_read pairs) (left ++ all_read next) new
 
-  -- the same of the first pairs
-  pub record PairsExamined (n : ℕ) (old new : Kept) (added : List (Broken Place)) (next : List Sets) : Type 0 where
+  -- the same of pairs that wait, and of those that come to them: some are taken, and the others wait
+  pub record PairsExamined (old new : Kept) (added : List (Broken Place)) (next : List Sets) : Type 0 where
     pub right : (fault : Broken Place) → Contains added fault → TellsIn old.pairs fault
     pub under : (sets : Sets) → Contains next sets → ComeFrom old.pairs sets
     pub more : (list : List ReadField) → Contains old.lists list → Contains new.lists list
@@ -194,7 +195,17 @@ module _ (pass : Pass) (s : Judged) (d : MeantDocument Place) where
     pub within : (part : Sets) → Contains new.pairs part → (two : Sets) × (Contains old.pairs two × SelectsAsMuch d two part)
     -- where nothing is told, whatever else is left
     pub settled : added ≡ [] → (o : MeantOperation Place) (left : List (List ReadSet))
-        → AreUnderWay d pass s o (all_read old.pairs) left old → AreUnderWay d pass s o (all_read (drop n new.pairs)) (left ++ all_read next) new
+        → AreUnderWay d pass s o (all_read old.pairs) left old → AreUnderWay d pass s o (all_read new.pairs) (left ++ all_read next) new
+
+  -- such pairs are looked at, and examined with those that come to them
+  pub record TwosExamined (twos : List Sets) (old new : Kept) (added : List (Broken Place)) (next : List Sets) : Type 0 where
+    pub right : (fault : Broken Place) → Contains added fault → TellsIn twos fault
+    pub under : (sets : Sets) → Contains next sets → ComeFrom twos sets
+    pub more : (list : List ReadField) → Contains old.lists list → Contains new.lists list
+    pub looks : (known : List ReadSet) → Contains old.looked known → Contains new.looked known
+    pub has : (two : Sets) → Contains twos two → HasLooked new.looked (read_sets two)
+    -- where nothing is told, none of them waits, whatever else is left
+    pub settled : added ≡ [] → (o : MeantOperation Place) (left : List (List ReadSet)) → AreUnderWay d pass s o [] left old → AreUnderWay d pass s o [] (left ++ all_read next) new
 
   -- ---- all
 
@@ -222,13 +233,17 @@ abbrev pub ExaminesPair : Examination → Sets → Kept → Kept → Breaches �
 ExaminesPair e two examined examined' old new next next' = (added : List (Broken Place)) × ((below : List Sets) × ((brokens_of new ≡ brokens_of old ++ added) × ((next' ≡ next ++ below)
     × PairExamined e.pass (schema_of e) (document_of e) two examined examined' added below)))
 
-abbrev pub ExaminesFirst : Examination → ℕ → Kept → Kept → Breaches → Breaches → List Sets → List Sets → Type 0
-ExaminesFirst e n examined examined' old new next next' = (added : List (Broken Place)) × ((below : List Sets) × ((brokens_of new ≡ brokens_of old ++ added) × ((next' ≡ next ++ below)
-    × PairsExamined e.pass (schema_of e) (document_of e) n examined examined' added below)))
+abbrev pub ExaminesSome : Examination → Kept → Kept → Breaches → Breaches → List Sets → List Sets → Type 0
+ExaminesSome e examined examined' old new next next' = (added : List (Broken Place)) × ((below : List Sets) × ((brokens_of new ≡ brokens_of old ++ added) × ((next' ≡ next ++ below)
+    × PairsExamined e.pass (schema_of e) (document_of e) examined examined' added below)))
 
 -- all of them, if nothing is told
 abbrev pub ExaminesPairs : Examination → Kept → Kept → Breaches → Breaches → List Sets → List Sets → Type 0
-ExaminesPairs e examined examined' old new next next' = (n : ℕ) × ((brokens_of new ≡ brokens_of old → length examined'.pairs ≤ n) × ExaminesFirst e n examined examined' old new next next')
+ExaminesPairs e examined examined' old new next next' = (brokens_of new ≡ brokens_of old → examined'.pairs ≡ []) × ExaminesSome e examined examined' old new next next'
+
+abbrev pub ExaminesTwos : Examination → List Sets → Kept → Kept → Breaches → Breaches → List Sets → List Sets → Type 0
+ExaminesTwos e twos examined examined' old new next next' = (added : List (Broken Place)) × ((below : List Sets) × ((brokens_of new ≡ brokens_of old ++ added) × ((next' ≡ next ++ below)
+    × TwosExamined e.pass (schema_of e) (document_of e) twos examined examined' added below)))
 
 abbrev pub ExaminesAll : Examination → MeantSet Place → Kept → Kept → Breaches → Breaches → Bool → Type 0
 ExaminesAll e start examined examined' old new left = (o : MeantOperation Place) → o.set ≡ start

@@ -7,7 +7,8 @@
 //! Fields are examined in lists: what the set of an operation selects, and then what the sets of each group of a list select, level by
 //! level, in two passes. Sets that were looked at together are not looked at again, nor is a list whose contents were examined before.
 //! Where lists are not paid by fields that are new, their sets are looked at in pairs (`twos.rt`), each pair once: fields of the two are
-//! compared, and a spread is a step in one of the two alone. Where fields go together, lists of their sets are left for the next level.
+//! compared, and a spread is a step in one of the two alone. Where fields go together, lists of their sets are left for the next level. A set is looked at with
+//! those before it, and the pairs that come of it are examined before the next set is looked at, so few wait.
 //!
 //! For the layers above: a `FieldsInSetCanMerge` tells a list of faults what does not merge in an operation (`MergerTold` of
 //! `specs/Merger.antt`, over `specs/Merged.antt`), and is clean where the fields of all operations merge so far. It calls

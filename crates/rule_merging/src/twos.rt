@@ -1,10 +1,12 @@
 //! The examination of two sets that are looked at together.
 ghost use Rattle.std.specs.Prelude.{◌≡◌, ◌↔◌, ◌<◌, ◌∷◌, [], length, IsTrue, OnOk, IfOk};
 ghost use Rattle.rule_field_groups.specs.in_sets.Nodes.{HasMember};
+ghost use Rattle.rule_field_groups.specs.in_sets.Read.{set_at};
 ghost use Rattle.rule_field_groups.specs.Members.{meant_sets, AreMembersOf};
 ghost use Rattle.rule_field_groups.specs.Remembered.{two_of};
 ghost use Rattle.rule_merging.specs.Twos.{are_two, are_of, IsListOfTwo, GrowsByTwo};
-ghost use Rattle.rule_merging.specs.Examined.{sets_of, HasSets, ExaminesPair, ExaminesPairs, GrowsOver, GrowsOverTwo, GrowsHere};
+ghost use Rattle.rule_merging.specs.Examined.{sets_of, HasSets, ExaminesPair, ExaminesPairs, ExaminesTwos, GrowsOver, GrowsOverTwo, GrowsHere};
+ghost use Rattle.rule_field_groups.specs.Pairs.{each_with};
 ghost use Rattle.rule_merging.specs.OfProgram.{Comes, ExaminesThese, PairsOf};
 
 use crate::examination::Examination;
@@ -123,7 +125,8 @@ impl<'doc> Examination<'_, 'doc> {
         ensures examined { OnOk result (Comes (sets_of self.now) (ExaminesPair self.now (two_of (sets_of self.now) pair)) examined.old examined.new breaches.old breaches.new) }
         ensures counted { GrowsOverTwo self.now (two_of (sets_of self.now) pair) examined.old examined.new }
     {
-        let Pair { one, other } = pair;
+        let one = pair.one as usize;
+        let other = pair.other as usize;
         let sets = self.sets;
         let first = node_of(sets, one)?;
         let second = node_of(sets, other)?;
@@ -135,7 +138,7 @@ impl<'doc> Examination<'_, 'doc> {
         examined.look_before_each(sets, one, &starts)
     }
 
-    /// Examines the pairs, and those that come to them, up to the first that is told of.
+    /// Examines the pairs that wait, the last one first, and those that come to them, up to the first that is told of.
     fn examine_pairs(
         &self,
         examined: &mut Remembered,
@@ -146,19 +149,34 @@ impl<'doc> Examination<'_, 'doc> {
         ensures counted { GrowsHere self.now examined.old examined.new }
     {
         let told = breaches.len();
-        let mut done = 0;
-        while done < examined.pairs.len() {
+        while let Some(pair) = examined.pairs.pop() {
+            self.examine_pair(pair, examined, breaches)?;
             if is_told(breaches, told) {
                 return Ok(());
             }
-            let pair = examined.pairs[done];
-            self.examine_pair(pair, examined, breaches)?;
-            done += 1;
         }
         Ok(())
     }
 
-    /// Examines what each two of the sets select, and what each of them does.
+    /// Looks at each of these sets with the other, which comes after them, and examines the pairs, up to the first that is told of.
+    fn examine_with_those(
+        &self,
+        nodes: &[usize],
+        other: usize,
+        examined: &mut Remembered,
+        breaches: &mut Vec<Breach>,
+    ) -> Result<(), AllocError>
+        requires sets { HasSets self.now }
+        ensures examined { OnOk result (Comes (sets_of self.now) (ExaminesTwos self.now (each_with (meant_sets (sets_of self.now) nodes.now) (set_at (sets_of self.now) other))) examined.old examined.new breaches.old breaches.new) }
+        ensures counted { GrowsOver self.now (each_with (meant_sets (sets_of self.now) nodes.now) (set_at (sets_of self.now) other)) examined.old examined.new }
+    {
+        examined.begin_pairs();
+        examined.look_at_each(self.sets, nodes, other)?;
+        self.examine_pairs(examined, breaches)
+    }
+
+    /// Examines what each two of the sets select, and what each of them does, up to the first that is told of. Each set is examined with
+    /// those before it and with itself, so that no more pairs wait than one set is in, and those that come to them.
     pub(crate) fn examine_twos(
         &self,
         nodes: &[usize],
@@ -169,7 +187,15 @@ impl<'doc> Examination<'_, 'doc> {
         ensures examined { OnOk result (ExaminesThese self.now nodes.now examined.old examined.new breaches.old breaches.new) }
         ensures counted { GrowsOver self.now (meant_sets (sets_of self.now) nodes.now ∷ []) examined.old examined.new }
     {
-        examined.look_at_twos(self.sets, nodes)?;
-        self.examine_pairs(examined, breaches)
+        let told = breaches.len();
+        let mut seen = Vec::new(*breaches.allocator());
+        for node in nodes {
+            if is_told(breaches, told) {
+                return Ok(());
+            }
+            seen.push(*node)?;
+            self.examine_with_those(&seen, *node, examined, breaches)?;
+        }
+        Ok(())
     }
 }
