@@ -9,5 +9,6 @@ pub mod OpenedNodes
 pub mod Counting
 pub mod Written
 pub mod Operating
+pub mod Alone
 pub mod Behind
 pub mod Verdicts

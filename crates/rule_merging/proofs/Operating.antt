@@ -81,7 +81,7 @@ pub begun_same : (old : Examined) → AreSets old.sets → Begins old old
 begun_same old are = record { are = are; grown = sets_grow_same old.sets; shapes = refl; account = refl; selections = refl }
 
 -- sets were added, and what was examined had numbers of the sets that were there
-pub begun_known : (old : Examined) (w : FieldSets) → AreKnown old → AreSets w → SetsGrow old.sets w → Begins old (record { sets = w; shapes = old.shapes; selections = old.selections })
+pub begun_known : (old : Examined) (w : FieldSets) → AreKnown old → AreSets w → SetsGrow old.sets w → Begins old (record old { sets = w })
 begun_known old w known are grown = record {
   are = are;
   grown = grown;
@@ -141,7 +141,7 @@ either_left (Err e) left too P is p = tt
 
 -- what was examined after them
 abbrev pub after : Examined → Remembered → Remembered → Examined
-after mid shapes selections = record { sets = mid.sets; shapes = shapes; selections = selections }
+after mid shapes selections = record mid { shapes = shapes; selections = selections }
 
 module _ (s : Judged) (d : MeantDocument Place) (o : MeantOperation Place) (old mid : Examined) (begun : Begins old mid) (shapes selections : Remembered) where
   both_examined : (one two : List (Broken Place)) (left too : Bool) → AllExamined Shapes s d o (kept_of mid.sets mid.shapes) (kept_of mid.sets shapes) one left
@@ -151,7 +151,7 @@ module _ (s : Judged) (d : MeantDocument Place) (o : MeantOperation Place) (old 
     settled = λ e none both.
         let a = first.settled (left_empty one two e) (left_false left too none) (settled_so Shapes s d (kept_of old.sets old.shapes) (kept_of mid.sets mid.shapes) begun.shapes both.0) in
         let b = later.settled (right_empty one two e) (right_false left too none) (settled_so Selections s d (kept_of old.sets old.selections) (kept_of mid.sets mid.selections) begun.selections both.1) in
-        ((a.0, b.0), ((a.1, b.1), read_fields_merge s d o (remembered mid.sets shapes) (remembered mid.sets selections) a.0.fields a.1 b.0.fields b.1));
+        ((a.0, b.0), (inl (a.1, b.1), read_fields_merge s d o (remembered mid.sets shapes) (remembered mid.sets selections) a.0.fields a.1 b.0.fields b.1));
     bound = λ is. elim (one_true left too is) [ inl a ↦ first.bound a | inr b ↦ later.bound b ];
   }
 

@@ -15,13 +15,14 @@ use Rattle.rule_field_groups.proofs.in_document_definitions.MergingFacts.{mergin
 use Rattle.rule_field_groups.proofs.in_document_definitions.Stable.{merge_if_nothing_breaks}
 use Rattle.rule_field_groups.proofs.in_document_definitions.Unplaced.{contains_unmap}
 use Rattle.rule_merging.specs.Examined.{Breaches}
-use Rattle.rule_field_groups.specs.in_document_definitions.ReadFields.{ReadSameKey, ReadStarts, AreReadShapesStanding}
-use Rattle.rule_field_groups.specs.in_document_definitions.Settled.{StandWhere, StartsStand}
+use Rattle.rule_field_groups.specs.in_document_definitions.ReadFields.{ReadField}
 use Rattle.rule_merging.specs.Verdict.{lists_examined, ExaminesOperation}
 use Rattle.rule_merging.specs.declared.operation.Examined.{Examined}
 use Rattle.rule_field_groups.specs.in_sets.in_ground.Broken.{brokens_of}
 use Rattle.graphql_faults.specs.DetailsTree.{of_document, Telling}
 use Rattle.rule_merging.specs.Merged.{MergingFailsAt, AreSettledIf, limit_told, conflicts_told}
+use Rattle.rule_merging.specs.Merger.{AreClosed, with_alone}
+use Rattle.rule_merging.proofs.Alone.{closed_with_alone}
 use Rattle.rule_merging.proofs.Behind.{breaches_told, nothing_told, told_nothing}
 
 -- ---- what is told, as one list
@@ -80,10 +81,10 @@ module _ (s : Judged) (d : MeantDocument Place) (o : MeantOperation Place) (old 
   pub still_settled : (was stays : Bool) → (IsTrue stays ↔ (IsTrue was × ((brokens_of told ≡ []) × (left ≡ false)))) → ∥ AreSettledIf s d was old ∥₁ → ∥ AreSettledIf s d stays new ∥₁
   still_settled was stays tests settled = ∥∥₁_map settled (λ h is. let k = tests.0 is in (examined.1.1.settled (sym is_added ∙ k.1.0) k.1.1 (h k.0)).0)
 
-  -- where nothing is told, what was examined for shapes is settled, and has what the operation starts with
+  -- where nothing is told, what was examined for shapes is settled, with what the operation has alone, and has what the operation starts with
   pub settled_closed : (was : Bool) → ∥ AreSettledIf s d was old ∥₁ → IsTrue was → (brokens_of told ≡ []) × (left ≡ false)
-      → ∥ AreReadShapesStanding d s (StandWhere ReadSameKey (lists_examined new)) × StartsStand (ReadStarts d o) (StandWhere ReadSameKey (lists_examined new)) ∥₁
-  settled_closed was settled clean none = ∥∥₁_map settled (λ h. let r = examined.1.1.settled (sym is_added ∙ none.0) none.1 (h clean) in (r.0.0.fields, r.1.0.0))
+      → ∥ (lone : List ReadField) × AreClosed s d o (with_alone (lists_examined new) lone) ∥₁
+  settled_closed was settled clean none = ∥∥₁_map settled (λ h. let r = examined.1.1.settled (sym is_added ∙ none.0) none.1 (h clean) in closed_with_alone s d o new r.0.0.fields r.1.0)
 
   -- and where nothing is told the fields merge: no rule can fail
   pub settled_merges : (was : Bool) → ∥ AreSettledIf s d was old ∥₁ → IsTrue was → (brokens_of told ≡ []) × (left ≡ false) → FieldsMerge s d o

@@ -1,5 +1,5 @@
 -- What contracts see of a `FieldsInSetCanMerge`.
-use Rattle.std.specs.Prelude.{◌≡◌, ◌≤◌, ◌↔◌, ℕ, Bool, List, [], map, flat_map, length, Contains, IsTrue}
+use Rattle.std.specs.Prelude.{◌≡◌, ◌≤◌, ◌↔◌, ◌++◌, ◌∷◌, ℕ, Bool, List, [], map, flat_map, length, Contains, IsTrue}
 use Rattle.std.specs.List.{sum, cons_option}
 use Rattle.std.specs.Option.{option_map}
 use Rattle.graphql_names.specs.Placed.{Place}
@@ -94,11 +94,20 @@ MergerTold m o old new = MergingTold m.schema m.document o old new
 abbrev pub SilenceMeansMerging : Merger → MeantOperation Place → Telling → Telling → Type 0
 SilenceMeansMerging m o old new = IsTrue m.is_clean → new ≡ old → FieldsMerge m.schema m.document o
 
--- where a clean value tells nothing of the operation, the lists that it keeps are closed: fields of one key that stand in one of them have
--- one shape, and what lies below the one stands with what has its key and lies below the other; and so does what the operation starts with
+-- the lists are closed: fields of one key that stand in one of them have one shape, and what lies below the one stands with what has its
+-- key and lies below the other; and so does what the operation starts with
+abbrev pub AreClosed : Judged → MeantDocument Place → MeantOperation Place → List (List ReadField) → Type 0
+AreClosed s d o lists = AreReadShapesStanding d s (StandWhere ReadSameKey lists) × StartsStand (ReadStarts d o) (StandWhere ReadSameKey lists)
+
+-- these lists, and one more for each of these fields, with it alone
+abbrev pub with_alone : List (List ReadField) → List ReadField → List (List ReadField)
+with_alone lists fields = lists ++ map (λ x. x ∷ []) fields
+
+-- where a clean value tells nothing of the operation, the lists that it keeps are closed, together with some fields alone: those of the
+-- operation, if no two of them have one key, since lists of them are not made
 abbrev pub KeepsClosed : Merger → Merger → MeantOperation Place → (TellsNothing : Type 0) → Type 0
 KeepsClosed before after o TellsNothing = IsTrue before.is_clean → TellsNothing
-    → ∥ AreReadShapesStanding before.document before.schema (StandWhere ReadSameKey after.lists) × StartsStand (ReadStarts before.document o) (StandWhere ReadSameKey after.lists) ∥₁
+    → ∥ (lone : List ReadField) × AreClosed before.schema before.document o (with_alone after.lists lone) ∥₁
 
 -- a call adds nothing to the list
 abbrev pub AddsNothing : DiagnosticList → DiagnosticList → Type 0

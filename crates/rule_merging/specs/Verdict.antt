@@ -1,5 +1,5 @@
 -- What the examination of an operation comes to.
-use Rattle.std.specs.Prelude.{◌≡◌, ◌≤◌, ◌+◌, ◌*◌, ◌++◌, ℕ, Bool, true, false, List, [], length, Contains}
+use Rattle.std.specs.Prelude.{◌≡◌, ◌⊎◌, ◌≤◌, ◌+◌, ◌*◌, ◌++◌, ℕ, Bool, true, false, List, [], length, Contains}
 use Rattle.graphql_names.specs.Placed.{Place}
 use Rattle.rule_field_groups.specs.in_meaning.MeantTree.{MeantOperation, MeantDocument}
 use Rattle.rule_field_groups.specs.in_definitions.Judged.{Judged}
@@ -7,8 +7,9 @@ use Rattle.rule_field_groups.specs.in_document_definitions.DocumentFaults.{Broke
 use Rattle.rule_field_groups.specs.in_document_definitions.Merging.{FieldsMerge, MergingBreaks}
 use Rattle.rule_field_groups.specs.in_document_definitions.Limits.{PassesChainBound}
 use Rattle.rule_field_groups.specs.in_sets.in_ground.Broken.{brokens_of}
-use Rattle.rule_field_groups.specs.in_document_definitions.ReadFields.{ReadField, ReadSet, ReadStarts}
+use Rattle.rule_field_groups.specs.in_document_definitions.ReadFields.{ReadField, ReadSet, ReadStarts, fragments_read, set_read}
 use Rattle.rule_field_groups.specs.in_document_definitions.Settled.{StartsStand}
+use Rattle.rule_lone_keys.specs.LoneKeys.{AreKeysLone}
 use Rattle.rule_field_groups.specs.Paid.{Account}
 use Rattle.rule_merging.specs.Counted.{IsCountedBy, IsPaidBy}
 use Rattle.rule_field_groups.specs.in_sets.in_ground.Fields.{meant_fragments}
@@ -30,10 +31,15 @@ module _ (s : Judged) (d : MeantDocument Place) where
   abbrev pub StartsBothStand : MeantOperation Place → Examined → Type 0
   StartsBothStand o e = StartsStand (ReadStarts d o) (StandTogether Shapes s (remembered e.sets e.shapes)) × StartsStand (ReadStarts d o) (StandTogether Selections s (remembered e.sets e.selections))
 
-  -- what is told is true; where nothing is told and nothing is left, what is settled stays so, what the operation starts with stands there, and its fields merge
+  -- the same, or no two fields of the operation have one key, in any of its sets: then its fields need not stand in lists
+  abbrev pub StartsOrIsLone : MeantOperation Place → Examined → Type 0
+  StartsOrIsLone o e = StartsBothStand o e ⊎ AreKeysLone (fragments_read d) (set_read o.set)
+
+  -- what is told is true; where nothing is told and nothing is left, what is settled stays so, what the operation starts with stands there
+  -- unless its keys are lone, and its fields merge
   pub record OperationExamined (o : MeantOperation Place) (old new : Examined) (added : List (Broken Place)) (left : Bool) : Type 0 where
     pub right : (fault : Broken Place) → Contains added fault → MergingBreaks s d o fault
-    pub settled : added ≡ [] → left ≡ false → AreBothSettled old → AreBothSettled new × (StartsBothStand o new × FieldsMerge s d o)
+    pub settled : added ≡ [] → left ≡ false → AreBothSettled old → AreBothSettled new × (StartsOrIsLone o new × FieldsMerge s d o)
     pub bound : left ≡ true → PassesChainBound d o
 
   abbrev pub ExaminesOperation : MeantOperation Place → Examined → Examined → Breaches → Breaches → Bool → Type 0

@@ -7,8 +7,12 @@
 //! Fields are examined in lists: what the set of an operation selects, and then what the sets of each group of a list select, level by
 //! level, in two passes. Sets that were looked at together are not looked at again, nor is a list whose contents were examined before.
 //! Where lists are not paid by fields that are new, their sets are looked at in pairs (`twos.rt`), each pair once: fields of the two are
-//! compared, and a spread is a step in one of the two alone. Where fields go together, lists of their sets are left for the next level. A set is looked at with
-//! those before it, and the pairs that come of it are examined before the next set is looked at, so few wait.
+//! compared, and a spread is a step in one of the two alone. A set is looked at with those before it, and the pairs that come of it are
+//! examined before the next set is looked at, so few wait. Where fields go together, lists of their sets are left for the next level.
+//!
+//! Of most operations nothing is examined: no two of their fields have one response key, in any selection set, so nothing is to be merged
+//! (`rule_lone_keys`). This is asked of each operation up to the first where it is not so; from there on all are examined
+//! (`examine_operation` of `operation.rt`).
 //!
 //! For the layers above: a `FieldsInSetCanMerge` tells a list of faults what does not merge in an operation (`MergerTold` of
 //! `specs/Merger.antt`, over `specs/Merged.antt`), and is clean where the fields of all operations merge so far. It calls

@@ -18,7 +18,8 @@ use rule_field_groups::{Breach, Schema};
 use std::alloc::{AllocError, Global};
 
 /// Whether the fields of operations merge (section 5.3.2, "FieldsInSetCanMerge"). What was examined is kept over all
-/// operations of a document, so that no list of fields is examined twice.
+/// operations of a document, so that no list of fields is examined twice. Of an operation of which no two fields have one
+/// response key, in any of its sets, nothing is examined, and nothing is kept.
 ///
 /// A value is clean at first, and after each call on a clean one that ends and adds nothing.
 pub struct FieldsInSetCanMerge<'doc> {

@@ -7,6 +7,8 @@ ghost use Rattle.rule_field_groups.specs.in_meaning.MeantTree.{MeantOperation, M
 ghost use Rattle.rule_field_groups.specs.in_sets.in_ground.in_typed_operations.DocumentView.{document_meant, operation_meant};
 ghost use Rattle.rule_field_groups.specs.in_definitions.Judged.{Judged};
 ghost use Rattle.rule_field_groups.specs.in_typed_selections.TypedTree.{typed_set_tree};
+ghost use Rattle.rule_field_groups.specs.in_document_definitions.ReadFields.{fragments_read, set_read};
+ghost use Rattle.rule_lone_keys.specs.LoneKeys.{AreKeysLone};
 ghost use Rattle.rule_field_groups.specs.in_sets.Nodes.{AreSets, HasAllStarts};
 ghost use Rattle.rule_field_groups.specs.in_sets.Read.{set_at};
 ghost use Rattle.rule_merging.specs.Verdict.{comparisons_of, lists_examined, AreBothSettled, IsCounted, StaysCountedIn, OnlyGrow, ExaminesOperation, AreSetsFor, AreKnown, LooksAtFew, Begins};
@@ -15,6 +17,7 @@ use crate::examination::Examination;
 use document_typed_operations::{ExecutableDocument, Operation};
 use graphql_names::Node;
 use rule_field_groups::{Breach, FieldSets, Pass, Remembered, Schema, SelectionSet};
+use rule_lone_keys::keys_differ;
 use std::alloc::{AllocError, Global};
 
 /// What was examined in each pass, over all operations so far, and how often shapes were compared.
@@ -23,6 +26,8 @@ pub struct Examined<'doc> {
     pub(crate) sets: FieldSets<'doc>,
     pub(crate) shapes: Remembered,
     pub(crate) selections: Remembered,
+    /// Whether the next operation is asked if no two of its fields have one key: all so far were asked, and were so.
+    pub(crate) may_be_lone: bool,
 }
 
 impl Drop for Examined<'_> {
@@ -31,6 +36,7 @@ impl Drop for Examined<'_> {
             sets: _,
             shapes: _,
             selections: _,
+            may_be_lone: _,
         } = self;
     }
 }
@@ -52,6 +58,7 @@ impl<'doc> Examined<'doc> {
             sets: FieldSets::new(alloc, schema, &document.fragments),
             shapes: Remembered::new(alloc),
             selections: Remembered::new(alloc),
+            may_be_lone: true,
         }
     }
 
@@ -96,8 +103,9 @@ fn left_in_either(examined: &Examined<'_>, left: bool, too: bool) -> Result<bool
     Ok(left || too)
 }
 
-/// Examines the fields of an operation and all below them, in both passes. Answers whether fields are left below 128 levels.
-pub fn examine_operation<'doc>(
+/// Examines lists of the fields of an operation and of all below them, in both passes. Answers whether fields are left below 128
+/// levels.
+fn examine_lists<'doc>(
     schema: &'doc Schema,
     document: &'doc ExecutableDocument,
     operation: &'doc Node<Operation>,
@@ -128,4 +136,44 @@ pub fn examine_operation<'doc>(
     };
     let too = by_selection.examine_all(start, &mut examined.selections, breaches)?;
     left_in_either(examined, left, too)
+}
+
+/// Whether no two fields of an operation have one key, in any of its sets, if this is asked. A no says nothing.
+fn has_lone_keys(
+    alloc: Global,
+    document: &ExecutableDocument,
+    operation: &Node<Operation>,
+    is_asked: bool,
+) -> Result<bool, AllocError>
+    ensures { IfOk result (λ is_lone. IsTrue is_lone → AreKeysLone (fragments_read (document_meant document.now)) (set_read (operation_meant operation.now).set)) }
+{
+    if !is_asked {
+        return Ok(false);
+    }
+    keys_differ(alloc, document, &operation.content().selection_set)
+}
+
+/// Examines the fields of an operation and all below them, in both passes. Answers whether fields are left below 128 levels. Where
+/// no two of them have one key, in any set, nothing is to be merged, and no list of them is made.
+pub fn examine_operation<'doc>(
+    schema: &'doc Schema,
+    document: &'doc ExecutableDocument,
+    operation: &'doc Node<Operation>,
+    examined: &mut Examined<'doc>,
+    breaches: &mut Vec<Breach>,
+) -> Result<bool, AllocError>
+    requires sets { AreSetsFor (judged (schema_tree schema.now)) (document_meant document.now) examined.old.sets }
+    ensures sets { AreSetsFor (judged (schema_tree schema.now)) (document_meant document.now) examined.new.sets }
+    ensures examined { IfOk result (λ left. ExaminesOperation (judged (schema_tree schema.now)) (document_meant document.now) (operation_meant operation.now) examined.old examined.new breaches.old breaches.new left) }
+    ensures pairs { OnOk result (LooksAtFew examined.new) }
+    ensures counted { StaysCountedIn (document_meant document.now) (operation_meant operation.now) examined.old examined.new }
+    ensures grown { OnlyGrow (lists_examined examined.old) (comparisons_of examined.old) (lists_examined examined.new) (comparisons_of examined.new) }
+{
+    let alloc = *breaches.allocator();
+    let is_lone = has_lone_keys(alloc, document, operation, examined.may_be_lone)?;
+    examined.may_be_lone = is_lone;
+    if is_lone {
+        return left_in_either(examined, false, false);
+    }
+    examine_lists(schema, document, operation, examined, breaches)
 }
