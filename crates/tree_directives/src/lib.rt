@@ -32,3 +32,9 @@ pub use print_input::{put_argument_definitions, put_directive_definition, put_in
 pub use writable_directive::{
     arguments_are_writable, directives_are_writable, input_values_are_writable,
 };
+
+// Of the crate beneath, for those above.
+pub use tree_literals::{
+    Level, Name, NamedType, Node, NodeStr, Sink, Tree, Type, can_be_enum, put_break,
+    put_description, put_start, put_type,
+};
