@@ -16,7 +16,6 @@ mod document;
 mod field_set;
 mod found;
 mod lasting;
-pub mod laws;
 mod standalone;
 mod told;
 mod under_schema;

@@ -4,7 +4,7 @@ use document_typed_operations::ExecutableDocument;
 use document_typed_selections::{Field, SelectionSet};
 use graphql_names::Node;
 use row_files::Answer;
-use rule_document_ground::{FieldSelection, laws};
+use rule_document_ground::FieldSelection;
 use std::hash::{DefaultHasher, Hash, Hasher};
 
 /// Adds a line for each field of the sets of its operations, and then of its fragments.
@@ -47,19 +47,15 @@ fn push_field(set: &SelectionSet, field: &Node<Field>, answer: &mut Answer) {
     }
     answer
         .text
-        .show_between(", as ", &first_alike(set, &selection), "\n");
+        .show_between(", as ", &first_alike(set, field), "\n");
 }
 
 /// The number, counted from 1, of the first field of the set that says the same as this one. Without one it is 0.
-fn first_alike(set: &SelectionSet, selection: &FieldSelection<'_>) -> usize {
+fn first_alike(set: &SelectionSet, field: &Node<Field>) -> usize {
     let mut number = 0_usize;
-    for field in set.fields() {
-        let other = FieldSelection {
-            parent_type: &set.ty,
-            field,
-        };
+    for other in set.fields() {
         number = number.saturating_add(1);
-        if are_alike(&other, selection) {
+        if are_alike(other, field) {
             return number;
         }
     }
@@ -67,8 +63,8 @@ fn first_alike(set: &SelectionSet, selection: &FieldSelection<'_>) -> usize {
 }
 
 /// Whether the fields are equal, and their hashes.
-fn are_alike(one: &FieldSelection<'_>, other: &FieldSelection<'_>) -> bool {
-    laws::equal_field_selections(one, other) && hash_of(one) == hash_of(other)
+fn are_alike(one: &Node<Field>, other: &Node<Field>) -> bool {
+    *one == *other && hash_of(one) == hash_of(other)
 }
 
 /// The hash of a value.

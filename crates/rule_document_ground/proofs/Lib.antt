@@ -4,9 +4,6 @@ pub mod Found
 pub mod AtReaches
 pub mod OfDocuments
 pub mod AddingBroken
-pub mod ContentEquality
-pub mod FieldBridge
-pub mod Pushed
 pub mod NotedNames
 -- Lists of what rules tell, for the layers above.
 pub use Rattle.rule_definitions.proofs.Listing

@@ -1,5 +1,5 @@
 -- What contracts see of a field where it is selected (GraphQL, October 2021, section 5.3.2).
-use Rattle.std.specs.Prelude.{List, map, None}
+use Rattle.std.specs.Prelude.{map, None}
 use Rattle.graphql_names.specs.Node.{content as content_of_node, place}
 use Rattle.graphql_names.specs.Placed.{Place, node_tree}
 use Rattle.tree_type_members.specs.TypeSystemTree.{field_definition_tree, unplaced_field_definition}
@@ -14,7 +14,6 @@ use Rattle.document_walks.specs.in_typed_operations.declared.operation.Fragment.
 use Rattle.rule_document_definitions.specs.in_document_meaning.MeantTree.{MeantFragment, meant_of_set}
 use Rattle.document_walks.specs.in_typed_operations.DocumentView.{meant_by_fragment}
 use Rattle.rule_document_definitions.specs.Selected.{InOperation, StandingField}
-use Rattle.rule_document_definitions.specs.Contents.{unplaced_content}
 use Rattle.indexmap.specs.IndexMap.{IndexMap}
 use Rattle.rule_document_ground.specs.declared.field_selection.FieldSelection.{FieldSelection}
 
@@ -28,13 +27,6 @@ field_of x = record {
   head = typed_head (content_of_node x.field.now);
   set = meant_of_set (typed_set_tree (content_of_node x.field.now).selection_set);
 }
-
-abbrev pub fields_of : List FieldSelection → List (StandingField Place)
-fields_of xs = map field_of xs
-
--- what it says: what equality and hash read
-abbrev pub content_of : FieldSelection → StandingField (Unit {0})
-content_of x = unplaced_content (field_of x)
 
 -- the fragments of a document, each under its name
 abbrev pub meant_fragments : {S : Type 0} → IndexMap NameValue (Node Fragment) S → Entries (MeantFragment Place)

@@ -11,9 +11,8 @@ use schema_coordinates::TypeAttributeCoordinate;
 use std::alloc::AllocError;
 use tree_literals::NamedType;
 
-/// A field, and the name of the type that it is selected on. Equality and hash are those of what these say, ignoring
-/// places.
-#[derive(Clone, Copy, PartialEq, Eq, Hash)]
+/// A field, and the name of the type that it is selected on.
+#[derive(Clone, Copy)]
 pub struct FieldSelection<'doc> {
     pub parent_type: &'doc NamedType,
     pub field: &'doc Node<Field>,

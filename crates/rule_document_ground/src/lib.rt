@@ -6,9 +6,7 @@
 //!   that is reached and no more (`IsReach` of `specs/Reach.antt`), in every document with these fragments: for an operation
 //!   that is `IsReachOf`, and a field set has a document without fragments (`proofs/OfDocuments.antt`). What is said of the
 //!   members of the lists is said at all that is reached, and back (`proofs/AtReaches.antt`).
-//! - Contracts see a field that is selected as `field_of`, and its contents as `content_of` (`specs/Fields.antt`): equality
-//!   and hash are those of the contents, so that fields in different places of a document count as one where they say the
-//!   same.
+//! - Contracts see a field that is selected as `field_of` (`specs/Fields.antt`).
 //! - What a check adds to a list of breaches of documents is `AddsBroken` of `specs/Broken.antt`, with its lemmas in
 //!   `proofs/AddingBroken.antt`; those on lists of any faults are `rule_definitions`' `Listing`, handed on.
 //! - The names in a set are `noted_names` of `specs/NotedNames.antt`; `has_name` asks for one, `note_name` adds one.
@@ -18,7 +16,6 @@
 
 mod breaches;
 mod field_selection;
-pub mod laws;
 mod lists;
 mod noted_names;
 mod reaching;

@@ -34,4 +34,4 @@ pub use unused::check_unused;
 
 // Of the crates beneath, for those above.
 pub use rule_cycles::Schema;
-pub use rule_document_ground::{FieldSelection, Reach, laws, note_name, reach};
+pub use rule_document_ground::{FieldSelection, Reach, note_name, reach};
