@@ -25,11 +25,9 @@ use Rattle.rule_field_groups.specs.Members.{field_of, content_of, read_sets}
 use Rattle.rule_merging.specs.Paired.{LeadsTo, Selects}
 use Rattle.rule_field_groups.specs.Passes.{ReadTogether, ReadAgree}
 use Rattle.rule_field_groups.specs.Remembered.{Kept}
+use Rattle.rule_field_groups.specs.Pairs.{with_each, AreTwosOf, Looks, each_with}
 use Rattle.rule_merging.specs.Examined.{Sets, all_read, StandTogether, ReadOwn, ReadSelected, ReadSpreads, AreLookedAt, IsLeft, PairsAreDone, AreUnderWay, TellsIn, ComeFrom, SelectsAsMuch, SetsExamined, PairExamined, PairsExamined, TwosExamined}
-use Rattle.rule_field_groups.specs.Pairs.{with_each, AreTwosOf}
-use Rattle.rule_merging.specs.Examined.{Sets, all_read, StandTogether, ReadOwn, ReadSelected, ReadSpreads, AreLookedAt, IsLeft, PairsAreDone, AreUnderWay, TellsIn, ComeFrom, SelectsAsMuch, SetsExamined, PairExamined, PairsExamined}
 use Rattle.rule_merging.specs.Counted.{IsLast, AreListed}
-use Rattle.rule_field_groups.specs.Pairs.{Looks, each_with}
 use Rattle.rule_merging.specs.Twos.{are_of, both_of, FieldsPaired}
 use Rattle.rule_merging.proofs.Passing.{together_read}
 use Rattle.rule_merging.proofs.PairedFacts.{pairs_stand}

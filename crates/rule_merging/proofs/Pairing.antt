@@ -12,14 +12,13 @@ use Rattle.rule_field_groups.specs.in_document_definitions.DocumentFaults.{Broke
 use Rattle.rule_field_groups.specs.in_document_definitions.Selected.{StandingField}
 use Rattle.rule_field_groups.specs.in_document_definitions.Merging.{SameKey}
 use Rattle.rule_field_groups.specs.in_sets.in_ground.Broken.{broken_of, brokens_of}
-use Rattle.rule_field_groups.specs.Members.{field_of, fields_of, content_of, contents_of_two}
+use Rattle.rule_field_groups.specs.Members.{field_of, fields_of, content_of, contents_of_two, contents_of, read_sets, AreMembersOf}
 use Rattle.rule_field_groups.specs.in_sets.declared.member.Member.{Member}
 use Rattle.rule_field_groups.specs.in_sets.declared.field_sets.FieldSets.{FieldSets}
 use Rattle.rule_field_groups.specs.in_sets.Nodes.{HasMember}
 use Rattle.rule_field_groups.specs.declared.pass.Pass.{Pass}
 use Rattle.rule_field_groups.specs.declared.pass.Pass.TheVariants.{Shapes, Selections}
 use Rattle.rule_field_groups.specs.Passes.{Together}
-use Rattle.rule_field_groups.specs.Members.{contents_of, read_sets, AreMembersOf}
 use Rattle.rule_field_groups.proofs.Lists.{taken_more}
 use Rattle.rule_number_lists.specs.NumberLists.{HaveSame}
 use Rattle.rule_field_groups.specs.in_document_definitions.ReadFields.{ReadField, ReadSet}

@@ -24,7 +24,6 @@ use Rattle.rule_field_groups.specs.Passes.{Together, Agree, Conflict, ReadTogeth
 pub use Rattle.rule_field_groups.specs.Under.{Sets, all_sets, sets_in, AreOf, IsAmong, HaveBoth}
 use Rattle.rule_field_groups.specs.Members.{read_sets}
 use Rattle.rule_field_groups.specs.declared.pass.Pass.{Pass}
-use Rattle.rule_number_lists.specs.NumberLists.{HaveSame}
 use Rattle.rule_field_groups.specs.Remembered.{Kept, HasLooked, account_of, kept_of}
 use Rattle.rule_merging.specs.Counted.{AreListed, Grows}
 use Rattle.rule_field_groups.specs.in_sets.in_ground.Fields.{meant_fragments}

@@ -9,10 +9,9 @@ use Rattle.rule_field_groups.specs.in_sets.Nodes.{set_nodes, fragment_nodes}
 use Rattle.rule_field_groups.specs.in_sets.Read.{set_at}
 use Rattle.rule_field_groups.specs.Members.{meant_sets, AreMembersOf}
 use Rattle.rule_field_groups.specs.Remembered.{account_of, kept_of}
-use Rattle.rule_field_groups.specs.Pairs.{with_each}
+use Rattle.rule_field_groups.specs.Pairs.{with_each, each_with}
 use Rattle.rule_merging.specs.Examined.{Sets, HasSets, GrowsOverTwo, schema_of, document_of, sets_of}
 use Rattle.rule_merging.specs.Twos.{are_of, GrowsByTwo}
-use Rattle.rule_field_groups.specs.Pairs.{each_with}
 use Rattle.rule_merging.specs.declared.examination.Examination.{Examination}
 use Rattle.rule_field_groups.specs.declared.remembered.Remembered.{Remembered}
 use Rattle.rule_field_groups.proofs.Looking.{looks_both}
