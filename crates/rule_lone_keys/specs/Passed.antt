@@ -20,7 +20,7 @@ use Rattle.rule_document_definitions.specs.in_document_meaning.in_components.Nam
 use Rattle.rule_document_definitions.specs.ReadFields.{ReadField, read_field, ReadSet, nothing_read, head_of, set_of, head_read, set_read, field_read, ReadSameKey, SelectsRead}
 use Rattle.rule_document_ground.specs.Fields.{field_of, meant_fragments}
 use Rattle.rule_document_ground.specs.declared.field_selection.FieldSelection.{FieldSelection}
-use Rattle.rule_lone_keys.specs.LoneKeys.{HasOneOfEachKey}
+use Rattle.rule_lone_keys.specs.LoneKeys.{HasOneOfEachKey, AreKeysLone}
 use Rattle.rule_lone_keys.specs.declared.keys.KeyWalk.{KeyWalk}
 
 -- what is read of a set, of several, of fields, and of the fragments of a document
@@ -121,3 +121,7 @@ module _ (fragments : Entries ReadSet) where
 
   abbrev pub IsLed : ReadSet → List ReadSet → Type 0
   IsLed s level = (fields : List ReadField) × LeadsTo s level fields
+
+  -- from whatever set the levels lead to this one, it has each key once, and each set that it leads to
+  abbrev pub LeadsToLoneKeys : List ReadSet → Type 0
+  LeadsToLoneKeys level = (s : ReadSet) → IsLed s level → AreKeysLone fragments s

@@ -10,13 +10,14 @@ ghost use Rattle.rule_document_ground.specs.in_typed_operations.DocumentView.{do
 ghost use Rattle.rule_document_definitions.specs.Selected.{response_key};
 ghost use Rattle.rule_document_definitions.specs.ReadFields.{fragments_read, set_read};
 ghost use Rattle.rule_lone_keys.specs.LoneKeys.{AreKeysLone};
-ghost use Rattle.rule_lone_keys.specs.Passed.{read_of_set, sets_read, passed_fields, map_read, members_left, LacksKey, AddsSet, LeavesFragment, state_of, with_left, GoesOn, IsPassed, PassesSet};
+ghost use Rattle.rule_lone_keys.specs.Passed.{read_of_set, sets_read, passed_fields, map_read, members_left, LacksKey, AddsSet, LeavesFragment, state_of, with_left, GoesOn, IsPassed, PassesSet, LeadsToLoneKeys};
 
 use document_typed_operations::{ExecutableDocument, FragmentMap};
 use document_typed_selections::{Field, Selection, SelectionSet};
 use graphql_names::{Name, Node};
 use rule_document_ground::FieldSelection;
 use std::alloc::{AllocError, Global};
+use std::mem;
 use tree_literals::NamedType;
 
 /// How many levels of fields are looked at.
@@ -189,35 +190,30 @@ impl<'doc> KeyWalk<'doc> {
         }
         Ok(true)
     }
-}
 
-/// Passes the set, and level by level the sets of its fields. Answers no where a key comes twice, or too much is selected.
-fn pass_levels<'doc>(
-    alloc: Global,
-    fragments: &'doc FragmentMap,
-    set: &'doc SelectionSet,
-) -> Result<bool, AllocError>
-    ensures { IfOk result (λ differ. IsTrue differ → AreKeysLone (map_read fragments.now) (read_of_set set.now)) }
-{
-    let mut walk = KeyWalk {
-        steps: STEPS,
-        fields: Vec::new(alloc),
-        left: Vec::new(alloc),
-    };
-    let mut level = Vec::new(alloc);
-    level.push(set)?;
-    for _ in 0..LEVELS {
-        if level.is_empty() {
-            return Ok(true);
+    /// Passes the sets of a level, and level by level the sets of their fields. Answers no where a key comes twice, or too much is
+    /// selected.
+    fn pass_levels(
+        &mut self,
+        fragments: &'doc FragmentMap,
+        level: &mut Vec<&'doc SelectionSet>,
+        next: &mut Vec<&'doc SelectionSet>,
+    ) -> Result<bool, AllocError>
+        ensures { IfOk result (λ differ. IsTrue differ → LeadsToLoneKeys (map_read fragments.now) (sets_read level.old.items)) }
+    {
+        for _ in 0..LEVELS {
+            if level.is_empty() {
+                return Ok(true);
+            }
+            let passed = self.pass_level(fragments, &*level, next)?;
+            if !passed {
+                return Ok(false);
+            }
+            mem::swap(level, next);
+            next.clear();
         }
-        let mut next = Vec::new(alloc);
-        let passed = walk.pass_level(fragments, &level, &mut next)?;
-        if !passed {
-            return Ok(false);
-        }
-        level = next;
+        Ok(level.is_empty())
     }
-    Ok(level.is_empty())
 }
 
 /// Whether each response key is that of one field: in the set, through fragments, and in the set of each field that it selects, at any
@@ -230,5 +226,13 @@ pub fn keys_differ<'doc>(
 ) -> Result<bool, AllocError>
     ensures { IfOk result (λ differ. IsTrue differ → AreKeysLone (fragments_read (document_meant document.now)) (set_read (meant_of_set (typed_set_tree set.now)))) }
 {
-    pass_levels(alloc, &document.fragments, set)
+    let mut walk = KeyWalk {
+        steps: STEPS,
+        fields: Vec::new(alloc),
+        left: Vec::new(alloc),
+    };
+    let mut level = Vec::new(alloc);
+    level.push(set)?;
+    let mut next = Vec::new(alloc);
+    walk.pass_levels(&document.fragments, &mut level, &mut next)
 }
