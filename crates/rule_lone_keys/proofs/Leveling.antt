@@ -1,9 +1,9 @@
 -- How levels lead to levels.
-use Rattle.std.proofs.Common.{◌≡◌, ◌⊎◌, ◌++◌, List, [], ◌∷◌, Contains, refl, subst, inl, inr}
+use Rattle.std.proofs.Common.{◌≡◌, ◌++◌, List, [], ◌∷◌, Contains, refl, subst, inl, inr}
 use Rattle.std.proofs.lemmas.List.Elements.{Contains-append_left, Contains-append_right, Contains-append_cases}
 use Rattle.rule_definitions.proofs.Lists.{not_in_nil, Contains-first}
 use Rattle.rule_document_definitions.specs.in_document_meaning.in_components.Names.{Entries}
-use Rattle.rule_document_definitions.specs.ReadFields.{ReadField, ReadSet, nothing_read, set_of, SelectsRead}
+use Rattle.rule_document_definitions.specs.ReadFields.{ReadField, ReadSet, set_of, SelectsRead}
 use Rattle.rule_lone_keys.specs.LoneKeys.{HasOneOfEachKey, AreKeysLone}
 use Rattle.rule_lone_keys.specs.Passed.{IsNext, IsPassed, IsOpen, IsLed}
 use Rattle.rule_lone_keys.proofs.Selecting.{nothing_selected}

@@ -1,5 +1,5 @@
 -- What a set selects, its selections select.
-use Rattle.std.proofs.Common.{◌≡◌, ◌⊎◌, ◌∙◌, ℕ, List, [], ◌∷◌, map, Contains, refl, sym, subst, inl, inr}
+use Rattle.std.proofs.Common.{◌≡◌, ◌⊎◌, ℕ, List, [], ◌∷◌, map, Contains, refl, sym, subst, inl, inr}
 use Rattle.graphql_names.specs.Placed.{Text}
 use Rattle.document_typed_selections.specs.TypedTree.{TypedSelection, TypedField, TypedSpread, TypedInline, TypedSet, typed_set, TypedSelections, no_typed, typed_then, typed_selections_list}
 use Rattle.document_meaning.specs.MeantTree.{MeantSet, meant, meant_of_set, meant_of_all}
@@ -10,7 +10,7 @@ use Rattle.rule_definitions.proofs.Lists.{not_in_nil, Contains-cons, Contains-fi
 use Rattle.rule_document_definitions.specs.in_document_meaning.in_components.Names.{Entries}
 use Rattle.rule_document_definitions.specs.Reached.{first, next}
 use Rattle.rule_document_definitions.specs.Written.{Written, written_at, written_in, written_along, field_written, spread_written, fields_written}
-use Rattle.rule_document_definitions.specs.ReadFields.{ReadField, ReadSet, nothing_read, fields_in, spreads_in, set_read, field_read, SpreadsRead, IsReadFrom, SelectsRead}
+use Rattle.rule_document_definitions.specs.ReadFields.{ReadField, ReadSet, nothing_read, fields_in, set_read, field_read, SpreadsRead, IsReadFrom, SelectsRead}
 use Rattle.rule_document_definitions.proofs.Unplaced.{contains_map, contains_unmap}
 use Rattle.rule_document_definitions.proofs.ReadFacts.{fields_of_read, spreads_of_read}
 use Rattle.rule_lone_keys.specs.Passed.{Selects, OneSelects}

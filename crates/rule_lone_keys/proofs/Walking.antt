@@ -1,5 +1,5 @@
 -- How a walk over a set goes on.
-use Rattle.std.proofs.Common.{◌≡◌, ◌⊎◌, ◌∙◌, ◌++◌, ◌<◌, ◌+◌, ℕ, List, [], ◌∷◌, map, length, get_or, take, Contains, Option, Some, None, true, refl, sym, ap, subst, inl, inr, append_assoc, true≢false}
+use Rattle.std.proofs.Common.{◌≡◌, ◌∙◌, ◌++◌, ◌<◌, ◌+◌, ℕ, List, [], ◌∷◌, length, get_or, take, Contains, Option, Some, None, true, refl, sym, ap, subst, inl, inr, append_assoc, true≢false}
 use Rattle.std.proofs.lemmas.List.Elements.{Contains-append_left, Contains-append_right, Contains-append_cases, Contains-push, Contains-push_cases}
 use Rattle.std.specs.Prelude.{option_map}
 use Rattle.std.specs.Borrow.{Bor}
@@ -36,7 +36,7 @@ use Rattle.document_walks.specs.Reached.{Member}
 use Rattle.rule_definitions.proofs.Lists.{not_in_nil}
 use Rattle.rule_document_definitions.specs.in_document_meaning.in_components.Names.{Entries}
 use Rattle.rule_document_definitions.specs.ReadFields.{ReadField, ReadSet, nothing_read, head_of, set_of, set_read, field_read, SelectsRead}
-use Rattle.rule_lone_keys.specs.Passed.{read_of_set, sets_read, passed_fields, map_read, members_left, LacksKey, IsNext, AddsSet, LeavesFor, LeavesFragment, WalkState, with_left, Selects, OneSelects, IsWalked, GoesOn, ArePassed, IsPassed, PassesSet}
+use Rattle.rule_lone_keys.specs.Passed.{read_of_set, sets_read, passed_fields, map_read, members_left, LacksKey, IsNext, AddsSet, LeavesFor, LeavesFragment, WalkState, with_left, Selects, OneSelects, IsWalked, GoesOn, PassesSet}
 
 pub is_next : (old new : List ReadSet) (s : ReadSet) → ((t : ReadSet) → Contains old t → Contains new t) → IsNext old s → IsNext new s
 is_next old new s kept (inl e) = inl e

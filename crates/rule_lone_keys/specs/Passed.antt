@@ -122,6 +122,6 @@ module _ (fragments : Entries ReadSet) where
   abbrev pub IsLed : ReadSet → List ReadSet → Type 0
   IsLed s level = (fields : List ReadField) × LeadsTo s level fields
 
-  -- from whatever set the levels lead to this one, it has each key once, and each set that it leads to
+  -- each set from which the levels lead to this one has each key once, at any depth
   abbrev pub LeadsToLoneKeys : List ReadSet → Type 0
   LeadsToLoneKeys level = (s : ReadSet) → IsLed s level → AreKeysLone fragments s

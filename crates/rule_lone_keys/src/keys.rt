@@ -1,5 +1,5 @@
 //! The keys of each set that an operation leads to.
-ghost use Rattle.std.specs.Prelude.{◌≡◌, ◌↔◌, ◌++◌, false, IfOk, OnOk, IsTrue};
+ghost use Rattle.std.specs.Prelude.{◌≡◌, ◌↔◌, ◌++◌, ◌∷◌, [], false, IfOk, OnOk, IsTrue};
 ghost use Rattle.graphql_names.specs.Placed.{name_tree};
 ghost use Rattle.document_typed_selections.specs.TypedTree.{typed_selection_tree, typed_set_tree};
 ghost use Rattle.document_typed_selections.specs.TypedParts.{typed_field_node};
@@ -174,16 +174,18 @@ impl<'doc> KeyWalk<'doc> {
     }
 
     /// Passes the sets of a level, and adds those of the next one. Answers no where a key comes twice, or too much is selected.
+    // Counted, since the borrow checker has no rule for lending such a list as a slice.
     fn pass_level(
         &mut self,
         fragments: &'doc FragmentMap,
-        level: &[&'doc SelectionSet],
+        level: &Vec<&'doc SelectionSet>,
         next: &mut Vec<&'doc SelectionSet>,
     ) -> Result<bool, AllocError>
-        ensures { IfOk result (λ went. IsTrue went → IsPassed (map_read fragments.now) (sets_read level.now) (sets_read next.new.items)) }
+        ensures { IfOk result (λ went. IsTrue went → IsPassed (map_read fragments.now) (sets_read level.now.items) (sets_read next.new.items)) }
     {
-        for set in level {
-            let passed = self.pass_set(fragments, *set, next)?;
+        for index in 0..level.len() {
+            let set = level[index];
+            let passed = self.pass_set(fragments, set, next)?;
             if !passed {
                 return Ok(false);
             }
@@ -205,7 +207,7 @@ impl<'doc> KeyWalk<'doc> {
             if level.is_empty() {
                 return Ok(true);
             }
-            let passed = self.pass_level(fragments, &*level, next)?;
+            let passed = self.pass_level(fragments, level, next)?;
             if !passed {
                 return Ok(false);
             }
@@ -216,23 +218,47 @@ impl<'doc> KeyWalk<'doc> {
     }
 }
 
+/// The first level: the set alone.
+fn first_level<'doc>(
+    alloc: Global,
+    set: &'doc SelectionSet,
+) -> Result<Vec<&'doc SelectionSet>, AllocError>
+    ensures { IfOk result (λ level. sets_read level.items ≡ read_of_set set.now ∷ []) }
+{
+    let mut level = Vec::new(alloc);
+    level.push(set)?;
+    Ok(level)
+}
+
+/// Does a walk from a level on.
+// It owns the lists, which gives all of them one lifetime: the borrow checker does not find it where they are made.
+fn do_walk<'doc>(
+    mut walk: KeyWalk<'doc>,
+    fragments: &'doc FragmentMap,
+    mut level: Vec<&'doc SelectionSet>,
+    mut next: Vec<&'doc SelectionSet>,
+) -> Result<bool, AllocError>
+    ensures { IfOk result (λ differ. IsTrue differ → LeadsToLoneKeys (map_read fragments.now) (sets_read level.entry.items)) }
+{
+    walk.pass_levels(fragments, &mut level, &mut next)
+}
+
 /// Whether each response key is that of one field: in the set, through fragments, and in the set of each field that it selects, at any
 /// depth. A no says nothing: it is answered too where more than 64 fields are in a set, or more than 128 levels or 2,000 selections are
 /// passed.
-pub fn keys_differ<'doc>(
+pub fn keys_differ(
     alloc: Global,
-    document: &'doc ExecutableDocument,
-    set: &'doc SelectionSet,
+    document: &ExecutableDocument,
+    set: &SelectionSet,
 ) -> Result<bool, AllocError>
     ensures { IfOk result (λ differ. IsTrue differ → AreKeysLone (fragments_read (document_meant document.now)) (set_read (meant_of_set (typed_set_tree set.now)))) }
 {
-    let mut walk = KeyWalk {
+    let walk = KeyWalk {
         steps: STEPS,
         fields: Vec::new(alloc),
         left: Vec::new(alloc),
     };
-    let mut level = Vec::new(alloc);
-    level.push(set)?;
-    let mut next = Vec::new(alloc);
-    walk.pass_levels(&document.fragments, &mut level, &mut next)
+    let level = first_level(alloc, set)?;
+    let next = Vec::new(alloc);
+    do_walk(walk, &document.fragments, level, next)
 }
