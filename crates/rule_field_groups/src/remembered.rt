@@ -164,7 +164,7 @@ impl Remembered {
     }
 
     /// No pair is left to look at.
-    pub(crate) fn begin_pairs(&mut self)
+    pub fn begin_pairs(&mut self)
         ensures kept { (w : FieldSets) → kept_of w self.new ≡ record (kept_of w self.old) { pairs = [] } }
         ensures beside { (w : FieldSets) → beside_of w self.new ≡ beside_of w self.old }
     {
