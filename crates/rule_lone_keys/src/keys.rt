@@ -243,9 +243,9 @@ fn do_walk<'doc>(
     walk.pass_levels(fragments, &mut level, &mut next)
 }
 
-/// Whether each response key is that of one field: in the set, through fragments, and in the set of each field that it selects, at any
-/// depth. A no says nothing: it is answered too where more than 64 fields are in a set, or more than 128 levels or 2,000 selections are
-/// passed.
+/// Whether each response key is that of one field: in the set, through fragments, and in the set of each field that it selects, at
+/// any depth. A no says nothing: it is answered too where more than 64 fields are in a set, or more than 128 levels or 2,000
+/// selections are passed.
 pub fn keys_differ(
     alloc: Global,
     document: &ExecutableDocument,
