@@ -107,7 +107,7 @@ with_alone lists fields = lists ++ map (λ x. x ∷ []) fields
 -- operation, if no two of them have one key, since lists of them are not made
 abbrev pub KeepsClosed : Merger → Merger → MeantOperation Place → (TellsNothing : Type 0) → Type 0
 KeepsClosed before after o TellsNothing = IsTrue before.is_clean → TellsNothing
-    → ∥ (lone : List ReadField) × AreClosed before.schema before.document o (with_alone after.lists lone) ∥₁
+    → ∥ ((lone : List ReadField) × AreClosed before.schema before.document o (with_alone after.lists lone)) ∥₁
 
 -- a call adds nothing to the list
 abbrev pub AddsNothing : DiagnosticList → DiagnosticList → Type 0
