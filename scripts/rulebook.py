@@ -19,7 +19,7 @@ from variants import (
     constructor_lines, copied_lines, document_gap_words, document_view, document_words, drop_by_owned_lines,
     drop_lines, equations, folding_message, folding_words, gap_words, group_lines, letters, message_arms,
     message_text, name_lines, owned, plain_applied, repeat_error_lines, repeat_lines, repeating, short_view,
-    template_lines, unplaced, variant_lines, with_lines,
+    template_answers, template_lines, unplaced, variant_lines, with_lines,
 )
 
 BOOK = "docs/rulebook.txt"
@@ -240,6 +240,7 @@ def data_parts(e):
         path = code + ("schema_copies.rt" if kind in ("implementation", "cycle") else "use_copies.rt")
         yield Part(path, f"copied_{kind}", inside(f"pub(crate) fn copied_{kind}(", "match diagnostic {"), copied_lines(e, kind))
     yield Part(code + "message.rt", "template_of", inside("fn template_of(", "match diagnostic {"), template_lines(e))
+    yield Part("crates/fault_data/proofs/message/template_of/Answers.antt", "answers", below("-- an answer "), template_answers(e))
     view = lambda entry: plain_applied("tree." + entry.name, [field.known().view.format(field.name) for field in entry.data])
     yield Part(specs + "DiagnosticView.antt", "diagnostic_of", below("abbrev pub diagnostic_of "), equations("diagnostic_of", e, "rust.", view))
     some = lambda number, what: lambda entry: f"Some {owned(entry)[number].name}{what}"

@@ -37,8 +37,8 @@ TYPES = {
     "Node<Type>": Known("UnplacedType", "(plain_reference (content {}))", "clone", "TypeNode({})", "type_text {}"),
     "Option<Value>": Known("Option (ValueTree (Unit {0}))", "value_in_conflict {}", "clone"),
     "Node<Value>": Known("ValueTree (Unit {0})", "(unplaced_value (value_tree (content {})))", "clone", "Kind({})", "value_description {}"),
-    "SchemaCoordinate": Known("Coordinate", "(schema_coordinate {})", "copied_coordinate", "Coordinate({})", "printed {}"),
-    "TypeAttributeCoordinate": Known("Coordinate", "(attribute_coordinate {})", "copied_attribute", "Attribute({})", "printed {}"),
+    "SchemaCoordinate": Known("Coordinate", "(schema_coordinate {})", "coordinate", "Coordinate({})", "printed {}"),
+    "TypeAttributeCoordinate": Known("Coordinate", "(attribute_coordinate {})", "attribute", "Attribute({})", "printed {}"),
     "FieldArgumentCoordinate": Known("Coordinate", "(argument_coordinate {})"),
     "Vec<Node<InputValueDefinition>>": trace_type("(InputValueTree (Unit {0}))", "plain_input"),
     "Vec<Node<Directive>>": trace_type("(DirectiveTree (Unit {0}))", "plain_directive"),
@@ -95,17 +95,6 @@ def in_ok(layouts):
 def fitting(layouts, room, tail=""):
     """The first of these layouts whose first line fits, or the last."""
     return next((lines for lines in layouts if len(lines[0] + tail * (len(lines) == 1)) <= room), layouts[-1])
-
-
-def let(names, value, items, room):
-    """`let (names) = value(items)?;`"""
-    front = [f"let ({', '.join(names)}) ="]
-    if len(front[0]) > room:
-        front = ["let ("] + indented([name + "," for name in names]) + [") ="]
-    made = fitting(calls(value, items, "?;"), room - len(front[-1]) - 1)
-    if len(front[-1]) + 1 + len(made[0]) <= room:
-        return front[:-1] + [front[-1] + " " + made[0]] + made[1:]
-    return front + indented(fitting(calls(value, items, "?;"), room - 4))
 
 
 def arm(patterns, layouts, indent, is_braced=False):
@@ -277,11 +266,12 @@ def clone_lines(entries):
             patterns = [pattern(DATA, e, [field.name for field in owned(e)], len(owned(e)) < len(e.data)) for e in group]
         else:
             patterns = [pattern(DATA, e, [], True) for e in group]
-        if kind == "name":
-            lines += arm(patterns, in_ok(calls("with_name", ["self", "name.clone()?"])), 12)
-        elif kind == "set":
-            copies = "let (type_name, places) = copies_of_two(type_name, extensions_locations)?;"
-            lines += block_arm(patterns, [copies, "Ok(with_set(self, type_name, places))"], 12)
+        if kind in ("name", "set"):
+            last, head = joined(patterns, 12)
+            call, given = ("name.clone()", "name") if kind == "name" else ("copies_of_two(type_name, extensions_locations)", "type_name, places")
+            lines += indented(head + [f"{last} => match {call} {{"], 12)
+            lines += arm([[f"Ok({given})" if kind == "name" else f"Ok(({given}))"]], [[f"Ok(with_{kind}(self, {given}))"]], 16)
+            lines += indented(["    Err(refused) => Err(refused),", "},"], 12)
         else:
             lines += arm(patterns, calls(f"copied_{kind}", ["self"]), 12)
     return lines
@@ -301,25 +291,30 @@ def with_lines(entries, kind):
     return lines + ["        _ => unreachable!(),"]
 
 
-NUMBERS = {2: "two", 3: "three", 4: "four", 5: "five"}
+NUMBERS = {2: "two", 3: "three", 4: "four", 5: "five", 6: "six"}
+
+
+def copies(entry):
+    """The call that copies all that a variant owns, and the names of what it gives."""
+    cloned = [field.name for field in owned(entry) if field.known().copied == "clone"]
+    made = [field for field in owned(entry) if field.known().copied != "clone"]
+    if made:
+        names = [field.name for field in made] + cloned
+        return f"{made[0].known().copied}_and" + (f"_{NUMBERS[len(cloned)]}" if len(cloned) > 1 else ""), names
+    return (f"copies_of_{NUMBERS[len(cloned)]}" if len(cloned) > 1 else f"{cloned[0]}.clone"), cloned
 
 
 def copied_lines(entries, kind):
-    """The arms of `copied_..`, which copies what each variant owns: five values at most by one call, coordinates by themselves."""
+    """The arms of `copied_..`, each of which copies by one call what its variant owns."""
     lines = []
     for entry in of_copies(entries, kind):
-        cloned = [field.name for field in owned(entry) if field.known().copied == "clone"]
-        block = []
-        for names in [cloned] if len(cloned) <= 5 else [cloned[:4], cloned[4:]]:
-            if len(names) == 1:
-                block.append(f"let {names[0]} = {names[0]}.clone()?;")
-            elif names:
-                block += let(names, f"copies_of_{NUMBERS[len(names)]}", names, WIDTH - 12)
-        for field in owned(entry):
-            if field.known().copied != "clone":
-                block += fitting(calls(f"let {field.name} = {field.known().copied}", [field.name], "?;"), WIDTH - 12)
-        block += fitting(in_ok(literals(f"{DATA}::{entry.name}", again(entry))), WIDTH - 12)
-        lines += block_arm([pattern(DATA, entry, [field.name for field in entry.data])], block, 8)
+        call, names = copies(entry)
+        given = f"({', '.join(names)})" if len(names) > 1 else names[0]
+        last, head = joined([pattern(DATA, entry, [field.name for field in entry.data])], 8)
+        looks = fitting(calls(f"match {call}", names if len(names) > 1 else [], " {"), WIDTH - 8 - len(last) - len(" => "))
+        lines += indented(head + [f"{last} => {looks[0]}"] + looks[1:], 8)
+        lines += arm([[f"Ok({given})"]], in_ok(literals(f"{DATA}::{entry.name}", again(entry))), 12, True)
+        lines += indented(["    Err(refused) => Err(refused),", "},"], 8)
     return lines + ["        _ => unreachable!(),"]
 
 
@@ -348,6 +343,15 @@ def template_lines(entries):
 
         head = "Template::" + ["Whole", "One", "Two", "Three", "Four", "Five"][len(entry.gaps())]
         lines += arm([told_pattern(DATA, entry)], calls(head, filling(entry, gap)), 8)
+    return lines
+
+
+def template_answers(entries):
+    """The proof of each arm of `template_of`: the text is that of the variant which is there."""
+    lines = []
+    for entry in entries:
+        name = f"returns-in-{entry.name}"
+        lines += [f"pub {name} : goal.{name}", f"{name} c = sym (ap (λ d. diagnostic_message (diagnostic_of d)) c.in-{entry.name}.is)"]
     return lines
 
 

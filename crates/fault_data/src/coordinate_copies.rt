@@ -9,8 +9,58 @@ use schema_coordinates::{
 use std::alloc::AllocError;
 use tree_literals::{copies_of_three, copies_of_two};
 
+/// Copies of the coordinate and of another thing.
+pub(crate) fn attribute_and<A: Clone>(
+    coordinate: &TypeAttributeCoordinate,
+    other: &A,
+) -> Result<(TypeAttributeCoordinate, A), AllocError>
+    ensures { IfOk result (λ r. (attribute_coordinate r.0 ≡ attribute_coordinate coordinate.now) × A.is_clone other.now r.1) }
+{
+    let coordinate = copied_attribute(coordinate)?;
+    let other = other.clone()?;
+    Ok((coordinate, other))
+}
+
+/// Copies of the coordinate and of two other things.
+pub(crate) fn attribute_and_two<A: Clone, B: Clone>(
+    coordinate: &TypeAttributeCoordinate,
+    a: &A,
+    b: &B,
+) -> Result<(TypeAttributeCoordinate, A, B), AllocError>
+    ensures { IfOk result (λ r. (attribute_coordinate r.0 ≡ attribute_coordinate coordinate.now) × A.is_clone a.now r.1 × B.is_clone b.now r.2) }
+{
+    let coordinate = copied_attribute(coordinate)?;
+    let others = copies_of_two(a, b)?;
+    Ok((coordinate, others.0, others.1))
+}
+
+/// Copies of the coordinate and of another thing.
+pub(crate) fn coordinate_and<A: Clone>(
+    coordinate: &SchemaCoordinate,
+    other: &A,
+) -> Result<(SchemaCoordinate, A), AllocError>
+    ensures { IfOk result (λ r. (schema_coordinate r.0 ≡ schema_coordinate coordinate.now) × A.is_clone other.now r.1) }
+{
+    let coordinate = copied_coordinate(coordinate)?;
+    let other = other.clone()?;
+    Ok((coordinate, other))
+}
+
+/// Copies of the coordinate and of two other things.
+pub(crate) fn coordinate_and_two<A: Clone, B: Clone>(
+    coordinate: &SchemaCoordinate,
+    a: &A,
+    b: &B,
+) -> Result<(SchemaCoordinate, A, B), AllocError>
+    ensures { IfOk result (λ r. (schema_coordinate r.0 ≡ schema_coordinate coordinate.now) × A.is_clone a.now r.1 × B.is_clone b.now r.2) }
+{
+    let coordinate = copied_coordinate(coordinate)?;
+    let others = copies_of_two(a, b)?;
+    Ok((coordinate, others.0, others.1))
+}
+
 /// A copy of the coordinate.
-pub(crate) fn copied_attribute(
+fn copied_attribute(
     coordinate: &TypeAttributeCoordinate,
 ) -> Result<TypeAttributeCoordinate, AllocError>
     ensures { IfOk result (λ copy. attribute_coordinate copy ≡ attribute_coordinate coordinate.now) }
@@ -20,9 +70,7 @@ pub(crate) fn copied_attribute(
 }
 
 /// A copy of the coordinate.
-pub(crate) fn copied_coordinate(
-    coordinate: &SchemaCoordinate,
-) -> Result<SchemaCoordinate, AllocError>
+fn copied_coordinate(coordinate: &SchemaCoordinate) -> Result<SchemaCoordinate, AllocError>
     ensures { IfOk result (λ copy. schema_coordinate copy ≡ schema_coordinate coordinate.now) }
 {
     match coordinate {

@@ -1,4 +1,5 @@
 //! Copies of what breaks rules. Names and nodes are shared, and not copied.
+// A `match` on the copies: with `?`, which handles an error by calls at the type of all this data, proofs take twice as long.
 ghost use Rattle.std.specs.Prelude.{◌≡◌, IfOk, Some};
 ghost use Rattle.fault_data.specs.CopyGroups.{one_name};
 ghost use Rattle.fault_data.specs.DiagnosticView.{diagnostic_of};
@@ -35,7 +36,10 @@ impl DiagnosticData {
             | DiagnosticData::UniqueVariable { name, .. }
             | DiagnosticData::UnusedVariable { name }
             | DiagnosticData::UndefinedFragment { name }
-            | DiagnosticData::UnusedFragment { name } => Ok(with_name(self, name.clone()?)),
+            | DiagnosticData::UnusedFragment { name } => match name.clone() {
+                Ok(name) => Ok(with_name(self, name)),
+                Err(refused) => Err(refused),
+            },
             DiagnosticData::EmptyFieldSet {
                 type_name,
                 extensions_locations,
@@ -55,10 +59,10 @@ impl DiagnosticData {
                 type_name,
                 extensions_locations,
                 ..
-            } => {
-                let (type_name, places) = copies_of_two(type_name, extensions_locations)?;
-                Ok(with_set(self, type_name, places))
-            }
+            } => match copies_of_two(type_name, extensions_locations) {
+                Ok((type_name, places)) => Ok(with_set(self, type_name, places)),
+                Err(refused) => Err(refused),
+            },
             DiagnosticData::TransitiveImplementedInterfaces { .. }
             | DiagnosticData::MissingInterfaceField { .. }
             | DiagnosticData::InvalidImplementationFieldType { .. }
