@@ -108,7 +108,10 @@ impl Checker {
         match schema_of_texts(self.texts) {
             Ok(judged) => {
                 let possible = PossibleTypes::new(alloc, &judged.schema)?;
-                let (types, directives) = (&judged.schema.types, &judged.schema.directive_definitions);
+                let (types, directives) = (
+                    &judged.schema.types,
+                    &judged.schema.directive_definitions,
+                );
                 let inputs = SchemaInputs::new(alloc, types, directives)?;
                 Ok(CheckedSchema {
                     alloc,

@@ -13,9 +13,7 @@ use crate::found::{Found, check_fragments, note_fragments};
 use document_typed_operations::{ExecutableDocument, FragmentMap, Operation};
 use fault_data::Fault;
 use graphql_names::Node;
-use rule_fragments::{
-    PossibleTypes, check_applications, check_spreads, for_document, reach,
-};
+use rule_fragments::{PossibleTypes, check_applications, check_spreads, for_document, reach};
 use rule_selections::{IndexedSchema, check_selections, settled_fragments};
 use rule_variables::{check_variables, check_variables_alone};
 use std::alloc::{AllocError, Global};
@@ -40,7 +38,13 @@ fn check_operation(
     check_variables(schema, operation, &mut found.faults)?;
     check_selections(schema, operation, &reach, &mut found.faults)?;
     check_spreads(fragments, &reach, &mut found.faults)?;
-    check_applications(schema.schema(), possible, fragments, &reach, &mut found.faults)?;
+    check_applications(
+        schema.schema(),
+        possible,
+        fragments,
+        &reach,
+        &mut found.faults,
+    )?;
     note_fragments(&reach, &mut found.used)
 }
 

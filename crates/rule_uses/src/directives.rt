@@ -24,7 +24,9 @@ use crate::taken::check_taken;
 use crate::taker::{Taker, TakerName};
 use graphql_names::{Name, Node, SourceSpan};
 use indexmap::IndexMap;
-use rule_values::{DefinedVariables, DiagnosticData, Fault, IndexedSchema, Schema, note_first, tell};
+use rule_values::{
+    DefinedVariables, DiagnosticData, Fault, IndexedSchema, Schema, note_first, tell,
+};
 use std::alloc::AllocError;
 use tree_directives::{Directive, DirectiveDefinition, DirectiveLocation};
 
@@ -161,7 +163,9 @@ fn check_defined_use(
     unsupported_location(directive, definition, location, faults)?;
     let place = directive.location();
     let used = directive.content();
-    let defined = judging.schema.arguments_of_directive(&used.name, definition);
+    let defined = judging
+        .schema
+        .arguments_of_directive(&used.name, definition);
     let taker = Taker {
         location: place,
         given: used.arguments.as_slice(),

@@ -169,7 +169,11 @@ fn check_inputs(
 }
 
 /// Adds the faults at a type itself. Those of the built-in scalars are not judged.
-fn check_own(schema: &IndexedSchema<'_>, ty: &ExtendedType, faults: &mut Vec<Fault>) -> Result<(), AllocError>
+fn check_own(
+    schema: &IndexedSchema<'_>,
+    ty: &ExtendedType,
+    faults: &mut Vec<Fault>,
+) -> Result<(), AllocError>
     ensures { OnOk result (Adds faults.old faults.new (OwnUses (schema_tree schema.now) (extended_type ty.now))) }
 {
     if ty.is_scalar() && ty.is_built_in() {
@@ -247,7 +251,10 @@ fn check_definitions(
 /// Adds the faults of the directives that are used in the schema: at its definition, at types but built-in scalars, at
 /// fields, arguments, values and input fields, and at definitions of directives but built-in ones. In it no two things of
 /// one kind have one name, as in every map.
-pub fn check_schema_directives(schema: &IndexedSchema<'_>, faults: &mut Vec<Fault>) -> Result<(), AllocError>
+pub fn check_schema_directives(
+    schema: &IndexedSchema<'_>,
+    faults: &mut Vec<Fault>,
+) -> Result<(), AllocError>
     requires { AreAllDistinct (schema_tree schema.now) }
     ensures { OnOk result (Adds faults.old faults.new (Told (schema_tree schema.now) SchemaUsesBreak)) }
 {

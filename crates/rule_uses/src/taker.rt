@@ -6,8 +6,8 @@ ghost use Rattle.rule_uses.specs.Trees.{coordinate_of, argument_coordinate_of};
 
 use graphql_names::{Name, Node, SourceSpan};
 use rule_values::{
-    DefinedArguments, DirectiveArgumentCoordinate, DirectiveCoordinate, FieldArgumentCoordinate, SchemaCoordinate,
-    TypeAttributeCoordinate,
+    DefinedArguments, DirectiveArgumentCoordinate, DirectiveCoordinate, FieldArgumentCoordinate,
+    SchemaCoordinate, TypeAttributeCoordinate,
 };
 use std::alloc::AllocError;
 use tree_directives::Argument;

@@ -8,9 +8,9 @@ ghost use Rattle.schema_inputs.specs.Firsts.{AreNumbers};
 ghost use Rattle.rule_values.specs.Wanting.{variables_of};
 ghost use Rattle.rule_values.specs.Telling.{first_defined};
 
-use schema_inputs::note_first;
 use graphql_names::{Name, Node};
 use indexmap::IndexMap;
+use schema_inputs::note_first;
 use std::alloc::{AllocError, Global};
 use std::marker::Model;
 use tree_operations::VariableDefinition;

@@ -10,12 +10,11 @@ ghost use Rattle.rule_values.specs.Wanting.{is_not_provided, nulls_of};
 ghost use Rattle.rule_values.specs.Telling.{Tells, undefined_key_of, told_key, required_fields_of, required_among_entries, required_of_given, required_by_given, AreRequiredIfKnown};
 
 use crate::find::find_input;
-use schema_inputs::note_first;
-use schema_inputs::FoundType;
 use fault_data::{DiagnosticData, Fault, TypeAttributeCoordinate, tell};
 use graphql_names::{Name, Node, SourceSpan};
 use indexmap::IndexMap;
 use schema_components::Component;
+use schema_inputs::{FoundType, note_first};
 use schema_types::ExtendedType;
 use std::alloc::{AllocError, Global};
 use tree_directives::InputValueDefinition;

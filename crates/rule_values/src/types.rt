@@ -4,7 +4,6 @@ ghost use Rattle.rule_values.specs.Telling.{Tells, form_faults_of, faults_for, f
 
 use crate::defined::DefinedVariables;
 use crate::find::find_input;
-use schema_inputs::{FoundType, note_first};
 use crate::forms::{
     int_coercion_error, is_custom_scalar, undefined_enum_value, unsupported_value_type,
 };
@@ -15,6 +14,7 @@ use crate::wanted::Wanted;
 use fault_data::Fault;
 use graphql_names::{Name, Node};
 use indexmap::IndexMap;
+use schema_inputs::{FoundType, note_first};
 use schema_types::ExtendedType;
 use std::alloc::AllocError;
 use tree_literals::{Type, Value};

@@ -51,6 +51,6 @@ pub each_yielded : {X Y Z W : Type 0} (R : Z → W → Type 0) (g : Y → Z) (d 
     → AreEach R (map g (map d (xs ++ x ∷ []))) new × (length new ≡ length (xs ++ x ∷ []))
 each_yielded R g d xs ws new x w is e h r = (
   subst (λ l. AreEach R l new) (sym (ap (map g) (map-append d xs (x ∷ [])) ∙ map-append g (map d xs) (d x ∷ [])))
-  (subst (λ l. AreEach R (map g (map d xs) ++ g (d x) ∷ []) l) (sym is) (each_more R (map g (map d xs)) ws (g (d x)) w (e ∙ sym (length-map (map d xs) g ∙ length-map xs d)) h r)),
+      (subst (λ l. AreEach R (map g (map d xs) ++ g (d x) ∷ []) l) (sym is) (each_more R (map g (map d xs)) ws (g (d x)) w (e ∙ sym (length-map (map d xs) g ∙ length-map xs d)) h r)),
   ap length is ∙ length-append ws (w ∷ []) ∙ ap (λ n. n + 1) e ∙ sym (length-append xs (x ∷ [])),
 )

@@ -32,8 +32,8 @@ returns-clause-told c =
     let old = faults_of c.args.found.now.faults in
     let new = faults_of c.check_applications.new.faults in
     let applications = subst (λ (y : Schema). (d : MeantDocument Place) (o : MeantOperation Place) → IsReachOf d o r → d.fragments ≡ fs → ArePossibleIfFound (judged (schema_tree y)) c.args.possible.now
-        → Adds c.check_spreads.new.faults c.check_applications.new.faults (λ f. InvalidFragmentTargetAt (judged (schema_tree y)) d o f ⊎ InvalidFragmentSpreadAt (judged (schema_tree y)) d o f (places_in (schema_tree y))))
-        c.schema.ensures c.in_ok-check_applications.ensures.told in
+    → Adds c.check_spreads.new.faults c.check_applications.new.faults (λ f. InvalidFragmentTargetAt (judged (schema_tree y)) d o f ⊎ InvalidFragmentSpreadAt (judged (schema_tree y)) d o f (places_in (schema_tree y))))
+    c.schema.ensures c.in_ok-check_applications.ensures.told in
     on_ok_weaker c.note_fragments.result
     (λ h d in' typed possible.
     let other = instead_of d fs in
