@@ -9,7 +9,6 @@ pub mod TypesTold
 pub mod Adding
 pub mod Looping
 pub mod KnownFields
-pub mod KnownOf
 pub mod Examples
 pub use Rattle.fault_data.proofs as in_fault_data
 pub use Rattle.graphql_schema.proofs as in_schema
