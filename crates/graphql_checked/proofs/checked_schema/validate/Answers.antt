@@ -33,6 +33,6 @@ pub returns-clause-valid : goal.returns-clause-valid
 returns-clause-valid c =
     let document = meant_document (typed_document_tree c.args.document.now) in
     let silent = subst (λ (x : Schema). SilenceMeansValid (schema_tree x) document (diagnostics_of c.new-faults.result) (diagnostics_of c.validate_with_possible_types.new.list)) c.new-over.ensures
-        c.in_ok-validate_with_possible_types.ensures.silent in
+    c.in_ok-validate_with_possible_types.ensures.silent in
     subst (λ (v : CheckedSchemaParts). IsTypedUnder (schema_tree v.schema) document → IsValidDocument (schema_tree v.schema) document) c.schema.view_is
     (λ typed. silent typed (c.if-not-is_empty.ensures.0 refl ∙ sym c.new-faults.ensures))

@@ -41,8 +41,8 @@ returns-in_default c defined =
     let none = field-absent s n f.name.text c.in_default.field-0 missing in
     absurd (true≢false (sym (ap is_some (none ∙ ap (λ (g : Field). (meanings (plain s)).field n g.name.text) c.content-selected.ensures ∙ defined))))
 
-pub arguments_of_field-requires : goal.arguments_of_field-requires
-arguments_of_field-requires c =
+pub arguments_of_field-defined-requires : goal.arguments_of_field-defined-requires
+arguments_of_field-defined-requires c =
     subst (λ x. IsFieldNamed (schema_tree x) c.args.parent.now.text c.content-selected.result.now.name.text (component_tree field_definition_tree c.in-Ok.definition.now)) c.schema.ensures c.in-Ok.ensures.found
 
 pub returns : goal.returns

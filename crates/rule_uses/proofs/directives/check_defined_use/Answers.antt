@@ -19,8 +19,8 @@ use Rattle.rule_values.proofs.in_fault_data.Judgings.{directive_look}
 use Rattle.rule_uses.proofs.Uses.{same_taker, stands_in, lists_unsupported_location}
 use Rattle.rule_uses.proofs.directives.check_defined_use.Goals as goal
 
-pub arguments_of_directive-requires : goal.arguments_of_directive-requires
-arguments_of_directive-requires c = ap (λ (x : Directive). directive_definition_at (schema_tree c.args.judging.now.schema.now) x.name.text) c.content-used.ensures ∙ c.requires
+pub arguments_of_directive-defined-requires : goal.arguments_of_directive-defined-requires
+arguments_of_directive-defined-requires c = ap (λ (x : Directive). directive_definition_at (schema_tree c.args.judging.now.schema.now) x.name.text) c.content-used.ensures ∙ c.requires
 
 pub returns : goal.returns
 returns c =
