@@ -30,7 +30,9 @@ use checker_settings::{Layout, written};
 use document_typed_operations::ExecutableDocument;
 use graphql_faults::{Details, DiagnosticList};
 use graphql_names::FileId;
-use graphql_validation::{PossibleTypes, tell_lasting_faults, validate_with_possible_types};
+use graphql_validation::{
+    IndexedSchema, PossibleTypes, SchemaInputs, tell_lasting_faults, validate_with_possible_types,
+};
 use std::alloc::{AllocError, Global};
 use std::marker::Model;
 use tree_definitions::Document;
@@ -48,6 +50,8 @@ pub struct CheckedSchema {
     pub(crate) schema: Schema,
     /// Its possible types, which are found once and serve each document.
     pub(crate) possible: PossibleTypes,
+    /// What it defines of many input values, which is found once as well.
+    pub(crate) inputs: SchemaInputs,
 }
 
 // Not derived: a derived drop is proved again in each crate that drops one.
@@ -60,6 +64,7 @@ impl Drop for CheckedSchema {
             written: _,
             schema: _,
             possible: _,
+            inputs: _,
         } = self;
     }
 }
@@ -71,6 +76,7 @@ impl Model for CheckedSchema {
     ghost use Rattle.book_validity.specs.in_schema.SchemaOf.{schema_tree};
     ghost use Rattle.rule_definitions.specs.Judged.{judged};
     ghost use Rattle.graphql_validation.specs.in_fragments.Possible.{ArePossible};
+    ghost use Rattle.graphql_validation.specs.in_values.Inputs.{AreInputsOf};
     ghost use Rattle.graphql_checked.specs.CheckedView.{CheckedSchemaParts, schema_value};
     ghost use Rattle.checker_schemas.specs.CheckedSchemaValue.{IsOfAcceptedTexts};
 
@@ -80,7 +86,7 @@ impl Model for CheckedSchema {
 
     ghost view = { λ s. record { nesting = s.nesting; number = s.number; schema = s.schema; written = s.written } };
 
-    ghost invariant = { λ s. IsOfAcceptedTexts (schema_value (record { nesting = s.nesting; number = s.number; schema = s.schema; written = s.written })) × ArePossible (judged (schema_tree s.schema)) s.possible };
+    ghost invariant = { λ s. IsOfAcceptedTexts (schema_value (record { nesting = s.nesting; number = s.number; schema = s.schema; written = s.written })) × (ArePossible (judged (schema_tree s.schema)) s.possible × AreInputsOf (schema_tree s.schema) s.inputs) };
 }
 
 impl CheckedSchema {
@@ -179,13 +185,8 @@ fn typed(schema: &CheckedSchema, tree: &Document) -> Result<ExecutableDocument, 
     let (document, mut faults) = build(schema, tree)?;
     if !faults.is_empty() {
         let possible = Some(&schema.possible);
-        tell_lasting_faults(
-            schema.alloc,
-            &mut faults,
-            &schema.schema,
-            possible,
-            &document,
-        )?;
+        let over = IndexedSchema::new(&schema.schema, &schema.inputs);
+        tell_lasting_faults(schema.alloc, &mut faults, &over, possible, &document)?;
         return Err(Refusal::Faults(faults));
     }
     Ok(document)
@@ -199,7 +200,8 @@ fn validate(schema: &CheckedSchema, document: &ExecutableDocument) -> Result<(),
     let alloc = schema.alloc;
     let mut faults = DiagnosticList::new(alloc);
     let possible = Some(&schema.possible);
-    validate_with_possible_types(alloc, &mut faults, &schema.schema, possible, document)?;
+    let over = IndexedSchema::new(&schema.schema, &schema.inputs);
+    validate_with_possible_types(alloc, &mut faults, &over, possible, document)?;
     if !faults.is_empty() {
         return Err(Refusal::Faults(faults));
     }

@@ -11,7 +11,7 @@ use crate::checked_schema::CheckedSchema;
 use checker_answers::{Refusal, SchemaTexts};
 use checker_schemas::schema_of_texts;
 use graphql_names::Files;
-use graphql_validation::PossibleTypes;
+use graphql_validation::{PossibleTypes, SchemaInputs};
 use schema_components::Extensions;
 use std::alloc::Global;
 use std::marker::Model;
@@ -108,6 +108,11 @@ impl Checker {
         match schema_of_texts(self.texts) {
             Ok(judged) => {
                 let possible = PossibleTypes::new(alloc, &judged.schema)?;
+                let (types, directives) = (
+                    &judged.schema.types,
+                    &judged.schema.directive_definitions,
+                );
+                let inputs = SchemaInputs::new(alloc, types, directives)?;
                 Ok(CheckedSchema {
                     alloc,
                     nesting: judged.nesting,
@@ -115,6 +120,7 @@ impl Checker {
                     written: judged.written,
                     schema: judged.schema,
                     possible,
+                    inputs,
                 })
             }
             Err(refusal) => Err(refusal),

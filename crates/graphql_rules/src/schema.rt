@@ -17,7 +17,7 @@ use rule_cycles::laws::names_differ;
 use rule_cycles::{Schema, check_cycles};
 use rule_interfaces::check_interfaces;
 use rule_types::check_types;
-use rule_uses::check_schema_directives;
+use rule_uses::{IndexedSchema, SchemaInputs, check_schema_directives};
 use std::alloc::{AllocError, Global};
 
 /// Tells every fault of the rules on schemas (sections 3 and 5). Then it drops from the types each built-in scalar to
@@ -64,6 +64,8 @@ fn schema_faults(alloc: Global, schema: &Schema) -> Result<Vec<Fault>, AllocErro
     check_types(alloc, schema, &mut faults)?;
     check_interfaces(alloc, schema, &mut faults)?;
     check_cycles(alloc, schema, &mut faults)?;
-    check_schema_directives(schema, &mut faults)?;
+    let inputs = SchemaInputs::new(alloc, &schema.types, &schema.directive_definitions)?;
+    let indexed = IndexedSchema::new(schema, &inputs);
+    check_schema_directives(&indexed, &mut faults)?;
     Ok(faults)
 }

@@ -5,3 +5,4 @@ pub mod TellsLasting
 pub mod Steps
 pub use Rattle.rule_fragments.specs as in_fragments
 pub use Rattle.rule_merging.specs as in_merging
+pub use Rattle.rule_selections.specs.in_values as in_values

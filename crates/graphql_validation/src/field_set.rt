@@ -17,6 +17,7 @@ use graphql_names::Node;
 use indexmap::IndexMap;
 use rule_fragments::Schema;
 use rule_merging::DiagnosticList;
+use rule_selections::{IndexedSchema, SchemaInputs};
 use rule_subscriptions::passes_path_bound;
 use std::alloc::{AllocError, Global};
 use tree_directives::{DirectiveList, OperationType};
@@ -64,7 +65,9 @@ pub fn validate_field_set(
 {
     // As a document of one query, so that no rule is written a second time for sets.
     let document = document_of_set(alloc, field_set)?;
-    let faults = faults_under(alloc, schema, None, &document)?;
+    let inputs = SchemaInputs::new(alloc, &schema.types, &schema.directive_definitions)?;
+    let schema = IndexedSchema::new(schema, &inputs);
+    let faults = faults_under(alloc, &schema, None, &document)?;
     let is_passed = passes_path_bound(&document);
     append_all(list, faults, Vec::new(alloc), is_passed)
 }

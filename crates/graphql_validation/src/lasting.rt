@@ -11,9 +11,10 @@ ghost use Rattle.graphql_validation.specs.TellsLasting.{TypedLastingTold};
 use crate::told::append_all;
 use crate::under_schema::faults_under;
 use document_typed_operations::ExecutableDocument;
-use rule_fragments::{PossibleTypes, Schema};
+use rule_fragments::PossibleTypes;
 use rule_lasting::{keep_lasting_breaches, keep_lasting_faults};
 use rule_merging::DiagnosticList;
+use rule_selections::IndexedSchema;
 use rule_subscriptions::document_breaches;
 use std::alloc::{AllocError, Global};
 
@@ -25,7 +26,7 @@ use std::alloc::{AllocError, Global};
 pub fn tell_lasting_faults(
     alloc: Global,
     list: &mut DiagnosticList,
-    schema: &Schema,
+    schema: &IndexedSchema<'_>,
     possible: Option<&PossibleTypes>,
     document: &ExecutableDocument,
 ) -> Result<(), AllocError>

@@ -3,7 +3,7 @@
 //! For the layers above: a call adds to a list what breaks the rules of its document, each fault at its place, and nothing
 //! else (`specs/Told.antt`, `specs/TellsDocument.antt`); it adds nothing exactly when all rules hold, apart from memory and
 //! the bounds. What breaks a rule is a predicate named after its variant, in `rule_document_definitions`. Who checks many
-//! documents over a schema finds its `PossibleTypes` once, and passes them to `validate_with_possible_types`.
+//! documents over a schema finds its `PossibleTypes` and `SchemaInputs` once, and passes them to `validate_with_possible_types`.
 //!
 //! The rules are in inner crates side by side: `rule_variables`, `rule_selections`, `rule_fragments` and
 //! `rule_subscriptions`; what an operation reaches is found once, by `rule_document_ground`. Fields are merged
@@ -25,4 +25,5 @@ pub use field_set::validate_field_set;
 pub use lasting::tell_lasting_faults;
 pub use rule_fragments::{FieldSelection, PossibleTypes};
 pub use rule_merging::FieldsInSetCanMerge;
+pub use rule_selections::{IndexedSchema, SchemaInputs};
 pub use standalone::validate_standalone_executable;

@@ -22,3 +22,6 @@ mod within;
 pub use alone::check_selections_alone;
 pub use selections::check_selections;
 pub use settled::settled_fragments;
+
+// Of the crates beneath, for those above.
+pub use rule_uses::{IndexedSchema, SchemaInputs};

@@ -14,7 +14,7 @@ use Rattle.rule_values.specs.in_rule_definitions.GivenValues.{Variables}
 use Rattle.rule_values.specs.in_rule_definitions.Names.{argument_name}
 use Rattle.rule_values.specs.in_rule_definitions.Told.{PlacedFault}
 use Rattle.rule_values.specs.Firsts.{first_told, AreNumbers}
-use Rattle.rule_values.proofs.Noted.{number_first, number_here, there, as_long}
+use Rattle.rule_values.proofs.in_inputs.Noted.{number_first, number_here, there, as_long}
 use Rattle.rule_uses.specs.Trees.{arguments_of}
 use Rattle.rule_uses.specs.Steps.{DefinedArgumentBreaks, FirstGivenBreaks}
 use Rattle.rule_values.proofs.in_rule_definitions.Listing.{Gains, gains_same, gains_nothing}

@@ -26,27 +26,16 @@ use crate::taker::Taker;
 use crate::usage::disallowed_variable_usage;
 use graphql_names::{Name, Node};
 use indexmap::IndexMap;
-use rule_values::{DefinedVariables, DiagnosticData, Fault, Schema, note_first, tell, type_breaks};
-use std::alloc::{AllocError, Global};
+use rule_values::{
+    DefinedArguments, DefinedVariables, DiagnosticData, Fault, IndexedSchema, definition_numbers,
+    tell, type_breaks,
+};
+use std::alloc::AllocError;
 use tree_directives::{Argument, InputValueDefinition};
-
-/// Of each name the index of the first of these definitions that has it.
-fn definition_numbers(
-    alloc: Global,
-    definitions: &[Node<InputValueDefinition>],
-) -> Result<IndexMap<Name, usize>, AllocError>
-    ensures { IfOk result (λ numbers. AreNumbers input_name numbers (input_value_trees definitions.now)) }
-{
-    let mut numbers = IndexMap::new(alloc);
-    for index in 0..definitions.len() {
-        note_first(&mut numbers, &definitions[index].content().name, index)?;
-    }
-    Ok(numbers)
-}
 
 /// The first of these definitions that has that name; `numbers` has where it stands.
 fn find_definition<'a>(
-    definitions: &'a [Node<InputValueDefinition>],
+    definitions: &DefinedArguments<'a>,
     numbers: &IndexMap<Name, usize>,
     name: &Name,
 ) -> Option<&'a Node<InputValueDefinition>>
@@ -55,7 +44,7 @@ fn find_definition<'a>(
 {
     match numbers.get(name) {
         None => None,
-        Some(index) => definitions.get(*index),
+        Some(index) => definitions.nodes().get(*index),
     }
 }
 
@@ -145,7 +134,8 @@ fn tell_required_arguments(
     requires { AreNumbers argument_name given.now (arguments_of taker.now.given.now) }
     ensures { OnOk result (Tells faults.old faults.new (required_arguments_of taker.now)) }
 {
-    for definition in taker.definitions {
+    let definitions = taker.definitions.with_required();
+    for definition in definitions {
         required_argument(taker, given, definition, faults)?;
     }
     Ok(())
@@ -225,7 +215,7 @@ fn check_arguments(
 /// rules on values of what is given for an argument against its type. What is defined has its place in the schema, or the one
 /// in its definition, as a meta-field's arguments do.
 pub fn check_taken(
-    schema: &Schema,
+    schema: &IndexedSchema<'_>,
     taker: &Taker<'_>,
     variables: &DefinedVariables<'_>,
     faults: &mut Vec<Fault>,
@@ -251,8 +241,29 @@ fn check_some_taken(
     requires { AreNumbers argument_name given.now (arguments_of taker.now.given.now) }
     ensures { OnOk result (AddsTakerFaults (schema_of judging.now) (variables_in judging.now) taker.now faults.old faults.new) }
 {
-    let defined = definition_numbers(*faults.allocator(), taker.definitions)?;
-    tell_undefined_arguments(taker, &defined, faults)?;
+    match taker.definitions.numbers() {
+        Some(defined) => check_numbered(judging, taker, defined, given, faults),
+        None => {
+            let alloc = *faults.allocator();
+            let defined = definition_numbers(alloc, taker.definitions.nodes())?;
+            check_numbered(judging, taker, &defined, given, faults)
+        }
+    }
+}
+
+/// The same; `defined` has of each name the index of the first argument that is defined so.
+fn check_numbered(
+    judging: &Judging<'_>,
+    taker: &Taker<'_>,
+    defined: &IndexMap<Name, usize>,
+    given: &IndexMap<Name, usize>,
+    faults: &mut Vec<Fault>,
+) -> Result<(), AllocError>
+    requires defined { AreNumbers input_name defined.now (input_value_trees taker.now.definitions.now) }
+    requires given { AreNumbers argument_name given.now (arguments_of taker.now.given.now) }
+    ensures { OnOk result (AddsTakerFaults (schema_of judging.now) (variables_in judging.now) taker.now faults.old faults.new) }
+{
+    tell_undefined_arguments(taker, defined, faults)?;
     tell_required_arguments(taker, given, faults)?;
-    check_arguments(judging, taker, &defined, given, faults)
+    check_arguments(judging, taker, defined, given, faults)
 }

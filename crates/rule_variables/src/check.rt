@@ -21,7 +21,7 @@ use document_typed_operations::Operation;
 use graphql_names::{Name, Node};
 use indexmap::IndexSet;
 use rule_document_ground::Reach;
-use rule_uses::{Fault, Schema};
+use rule_uses::{Fault, IndexedSchema};
 use std::alloc::AllocError;
 use tree_operations::VariableDefinition;
 
@@ -29,7 +29,7 @@ use tree_operations::VariableDefinition;
 /// types, the rules on values of their defaults, and the rules on uses of their directives (sections 5.6, 5.7 and 5.8.2).
 /// Where memory is refused some of them may be missing.
 pub fn check_variables(
-    schema: &Schema,
+    schema: &IndexedSchema<'_>,
     operation: &Node<Operation>,
     faults: &mut Vec<Fault>,
 ) -> Result<(), AllocError>

@@ -2,7 +2,7 @@ use Rattle.std.proofs.Common.{◌∙◌}
 use Rattle.graphql_names.specs.Placed.{node_tree}
 use Rattle.tree_directives.specs.DirectiveTree.{argument_tree}
 use Rattle.rule_values.specs.in_rule_definitions.Names.{argument_name}
-use Rattle.rule_values.proofs.Noted.{taken, number_absent, number_there}
+use Rattle.rule_values.proofs.in_inputs.Noted.{taken, number_absent, number_there}
 use Rattle.rule_uses.proofs.given.find_argument.Goals as goal
 
 pub returns-in-None : goal.returns-in-None

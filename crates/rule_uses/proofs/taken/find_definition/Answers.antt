@@ -1,8 +1,8 @@
-use Rattle.std.proofs.Common.{◌∙◌}
+use Rattle.std.proofs.Common.{slice_get, ap, ◌∙◌}
 use Rattle.graphql_names.specs.Placed.{node_tree}
 use Rattle.tree_directives.specs.DirectiveTree.{input_value_tree}
 use Rattle.rule_values.specs.in_rule_definitions.Names.{input_name}
-use Rattle.rule_values.proofs.Noted.{taken, number_absent, number_there}
+use Rattle.rule_values.proofs.in_inputs.Noted.{taken, number_absent, number_there}
 use Rattle.rule_uses.proofs.taken.find_definition.Goals as goal
 
 pub returns-in-None : goal.returns-in-None
@@ -13,4 +13,5 @@ pub returns-in-Some : goal.returns-in-Some
 returns-in-Some c =
     let xs = c.args.definitions.now in
     number_there input_name (node_tree input_value_tree) xs c.args.name.now.text c.get.result c.in-Some.index c.in-Some.is (c.get.ensures.value ∙ c.requires c.args.name.now)
-    c.get-in-Some.result (taken input_name (node_tree input_value_tree) xs c.in-Some.index.now c.get-in-Some.result c.get-in-Some.ensures.lookup.0 c.get-in-Some.ensures.lookup.1)
+    c.get-in-Some.result
+    (taken input_name (node_tree input_value_tree) c.nodes.result.now c.in-Some.index.now c.get-in-Some.result c.get-in-Some.ensures.lookup.0 c.get-in-Some.ensures.lookup.1 ∙ ap (λ l. slice_get l c.in-Some.index.now) c.nodes.ensures)

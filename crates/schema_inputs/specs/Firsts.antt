@@ -3,7 +3,7 @@ use Rattle.std.specs.Prelude.{◌≡◌, ℕ, suc, List, [], ◌∷◌, bytes_eq
 use Rattle.indexmap.specs.IndexMap.{IndexMap, get}
 use Rattle.graphql_names.specs.NameValue.{NameValue}
 use Rattle.schema_components.specs.Names.{same_text}
-use Rattle.graphql_schema.specs.in_schema_types.TypeView.{name_text}
+use Rattle.schema_types.specs.TypeView.{name_text}
 
 -- of the first that has the name, what is told of it by its index and by what it is
 abbrev pub first_told : {X V : Type 0} → (X → List ℕ) → (ℕ → X → V) → List X → List ℕ → Option V

@@ -8,8 +8,8 @@ use Rattle.std.proofs.lemmas.Option.{same_Some}
 use Rattle.indexmap.specs.IndexMap.{IndexMap, get}
 use Rattle.graphql_names.specs.NameValue.{NameValue}
 use Rattle.schema_components.specs.Names.{same_text}
-use Rattle.graphql_schema.specs.in_schema_types.TypeView.{name_text}
-use Rattle.rule_values.specs.Firsts.{first_told, AreFirsts}
+use Rattle.schema_types.specs.TypeView.{name_text}
+use Rattle.schema_inputs.specs.Firsts.{first_told, AreFirsts}
 
 module _ {X : Type 0} (name : X → List ℕ) where
   -- ---- one more

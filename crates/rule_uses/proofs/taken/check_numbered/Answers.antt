@@ -8,7 +8,7 @@ use Rattle.rule_uses.specs.Trees.{taker_of}
 use Rattle.rule_uses.specs.UseFaults.{undefined_argument, required_argument}
 use Rattle.rule_values.proofs.in_rule_definitions.Listing.{gains_both, gains_list, gains_same}
 use Rattle.rule_uses.proofs.Uses.{lists_undefined_arguments, lists_required_arguments, given_arguments}
-use Rattle.rule_uses.proofs.taken.check_some_taken.Goals as goal
+use Rattle.rule_uses.proofs.taken.check_numbered.Goals as goal
 
 pub returns : goal.returns
 returns c =

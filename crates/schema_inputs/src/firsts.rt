@@ -3,7 +3,7 @@ ghost use Rattle.std.specs.Prelude.{◌≡◌, IfOk, OnOk, None, Some, bytes_eq,
 ghost use Rattle.std.specs.Option.{option_or};
 ghost use Rattle.indexmap.specs.IndexMap.{get};
 ghost use Rattle.schema_components.specs.Names.{same_text};
-ghost use Rattle.graphql_schema.specs.in_schema_types.TypeView.{name_text};
+ghost use Rattle.schema_types.specs.TypeView.{name_text};
 
 use graphql_names::Name;
 use indexmap::IndexMap;

@@ -2,9 +2,9 @@ use Rattle.std.proofs.Common.{◌<◌, length, refl, ap, arith}
 use Rattle.graphql_names.specs.Placed.{node_tree}
 use Rattle.tree_directives.specs.DirectiveTree.{input_value_tree}
 use Rattle.tree_directives.specs.declared.input_value.InputValueDefinition.{InputValueDefinition}
-use Rattle.rule_values.specs.in_rule_definitions.Names.{input_name}
-use Rattle.rule_values.proofs.Noted.{noted_next}
-use Rattle.rule_uses.proofs.taken.definition_numbers.Goals as goal
+use Rattle.schema_inputs.specs.Inputs.{input_name}
+use Rattle.schema_inputs.proofs.Noted.{noted_next}
+use Rattle.schema_inputs.proofs.known.definition_numbers.Goals as goal
 
 pub loop-index-preserved : goal.loop-index-preserved
 loop-index-preserved c =
