@@ -11,7 +11,7 @@ ghost use Rattle.rule_schema_laws.specs.Implementing.{ImplementsInOrder};
 ghost use Rattle.graphql_rules.specs.SchemaTold.{TellsSchema, SchemaTold, ValidSchemaMeansSilence, SilenceGivesLiterals};
 
 use crate::kept::kept_types;
-use fault_data::Fault;
+use fault_data::{Fault, keep_told};
 use graphql_faults::DiagnosticList;
 use rule_cycles::laws::names_differ;
 use rule_cycles::{Schema, check_cycles};
@@ -20,7 +20,7 @@ use rule_types::check_types;
 use rule_uses::check_schema_directives;
 use std::alloc::{AllocError, Global};
 
-/// Tells every fault of the rules on schemas (sections 3 and 5). Then it drops from the types each built-in scalar to
+/// Tells every fault of the rules on schemas (sections 3 and 5), of more than 1,000 some 1,000. Then it drops from the types each built-in scalar to
 /// which no field, argument or input field refers, and adds at the end those of the five that are referred to and
 /// missing. The rest of the schema stays. Where memory is refused the schema is as before, and some faults may be told.
 ///
@@ -55,7 +55,7 @@ pub fn validate_schema(
     Ok(())
 }
 
-/// What breaks the rules on schemas.
+/// What breaks the rules on schemas: all, or as much as a call tells.
 fn schema_faults(alloc: Global, schema: &Schema) -> Result<Vec<Fault>, AllocError>
     requires { AreAllDistinct (schema_tree schema.now) }
     ensures { IfOk result (λ faults. TellsSchema (schema_tree schema.now) (faults_of faults)) }
@@ -65,5 +65,6 @@ fn schema_faults(alloc: Global, schema: &Schema) -> Result<Vec<Fault>, AllocErro
     check_interfaces(alloc, schema, &mut faults)?;
     check_cycles(alloc, schema, &mut faults)?;
     check_schema_directives(schema, &mut faults)?;
+    keep_told(&mut faults);
     Ok(faults)
 }

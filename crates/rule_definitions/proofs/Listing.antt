@@ -4,7 +4,7 @@ use Rattle.std.specs.List.{flat_map}
 use Rattle.std.specs.Option.{option_map_or}
 use Rattle.std.proofs.lemmas.Bool.{eqb-true}
 use Rattle.std.proofs.lemmas.Option.{same_Some}
-use Rattle.std.proofs.lemmas.List.{append-nil, map-append, take_more, length-append}
+use Rattle.std.proofs.lemmas.List.{append-nil, map-append, take_more, length-append, flat_map_more}
 use Rattle.std.proofs.lemmas.List.Elements.{Contains-append_left, Contains-append_right, Contains-append_cases}
 use Rattle.schema_types.specs.in_components.Lists.{each_place_after, each_place}
 use Rattle.schema_types.proofs.in_components.Places.{each_place-push}
@@ -154,7 +154,7 @@ module _ {B : Type 0} where
   }
 
   -- a list that is full stays so
-  full_stays : (a b l : List B) → b ≡ a ++ l → IsFull a → IsFull b
+  pub full_stays : (a b l : List B) → b ≡ a ++ l → IsFull a → IsFull b
   full_stays a b l e full = let longer : length b ≡ length a + length l = ap length e ∙ length-append a l in omega (arith, full, longer)
 
   pub gains_both : {R S : B → Type 0} (a b c : List B) → Gains a b R → Gains b c S → Gains a c (λ f. R f ⊎ S f)
@@ -192,6 +192,14 @@ module _ {B : Type 0} where
   -- some of these, and then some of those
   pub these_both : (a b c l m : List B) → GainsThese a b l → GainsThese b c m → GainsThese a c (l ++ m)
   these_both a b c l m g h = gains_same a c (λ f. (λ q. elim q [ inl r ↦ Contains-append_left l m f r | inr s ↦ Contains-append_right l m f s ], λ q. Contains-append_cases l m f q)) (gains_both a b c g h)
+
+  -- exactly these
+  pub these_list : (old new l : List B) → new ≡ old ++ l → GainsThese old new l
+  these_list old new l e = gains_list old new l e (λ f. (λ c. c, λ c. c))
+
+  -- what is told of one element more
+  pub these_more : {X : Type 0} (tells : X → List B) (a b c : List B) (ys : List X) (y : X) → GainsThese a b (flat_map tells ys) → GainsThese b c (tells y) → GainsThese a c (flat_map tells (ys ++ y ∷ []))
+  these_more tells a b c ys y g h = subst (λ l. GainsThese a c l) (flat_map_more tells [] ys y) (these_both a b c (flat_map tells ys) (tells y) g h)
 
   pub these_none : (a : List B) → GainsThese a a []
   these_none a = gains_nothing a (Contains []) (λ f c. not_in_nil f c)

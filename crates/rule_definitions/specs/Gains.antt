@@ -20,3 +20,9 @@ module _ {B : Type 0} where
   -- behind what was there come some of these, and all of them, unless the list is full
   abbrev pub GainsThese : List B → List B → List B → Type 0
   GainsThese old new these = Gains old new (Contains these)
+
+  -- what is told is so, and no more than so many; and it is all that is so, unless it is so many
+  pub record TellsUpTo (told : List B) (R : B → Type 0) : Type 0 where
+    pub right : (f : B) → Contains told f → R f
+    pub few : length told ≤ most_told
+    pub all : IsFull told ⊎ ((f : B) → R f → Contains told f)
