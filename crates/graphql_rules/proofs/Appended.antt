@@ -20,7 +20,7 @@ behind_nothing old new added behind none = behind ∙ ap (λ l. old ++ map of_ru
 
 -- an empty list is not full
 pub not_full : (l : List PlacedFault) → l ≡ [] → IsFull l → ⊥
-not_full l e full = let none = ap length e in omega (arith, full, none)
+not_full l e full = let none : length l ≡ 0 = ap length e in omega (arith, full, none)
 
 module _ (old new : Telling) (Breaks : PlacedFault → Type 0) (appends : Appends old new Breaks) where
   -- nothing is told exactly where no rule breaks

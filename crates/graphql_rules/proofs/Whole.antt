@@ -124,11 +124,9 @@ module _ (s : SchemaTree Place) (none types interfaces cycles uses : List Placed
 
   -- what is left after the cut
   pub tells_schema : (told : List PlacedFault) → told ≡ take most_told uses → TellsSchema s told
-  tells_schema told is = subst (TellsSchema s) (sym is) (record {
-    right = λ f h. of_uses f (cut_there uses f h);
-    few = cut_few uses;
-    all = cut_all (TellsEach s) uses each_or_full;
-  })
+  tells_schema told is =
+      let cut : TellsSchema s (take most_told uses) = record { right = λ f h. of_uses f (cut_there uses f h); few = cut_few uses; all = cut_all (TellsEach s) uses each_or_full } in
+      subst (TellsSchema s) (sym is) cut
 
 module _ (s : SchemaTree Place) (told : List PlacedFault) (tells : TellsEach s told) where
   -- the broken rule at its place

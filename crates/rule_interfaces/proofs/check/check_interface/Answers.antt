@@ -8,7 +8,7 @@ use Rattle.rule_interfaces.proofs.check.check_interface.Goals as goal
 pub returns-then-is_full : goal.returns-then-is_full
 returns-then-is_full c = gains_full (faults_of c.args.faults.now) _ (c.is_full.ensures.0 c.if-is_full.true)
 
-pub returns-else-is_full : goal.returns-else-is_full
-returns-else-is_full c =
+pub returns : goal.returns
+returns c =
     let told = of_implementer (named_faults (schema_of c.args.judging.now)) c.args.implementer.now in
     IfOk-weaker _ _ _ (λ _ is. these_list (faults_of c.args.faults.now) (faults_of c.check_named.new.faults) told is) c.check_named.ensures
