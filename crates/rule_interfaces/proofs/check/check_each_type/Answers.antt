@@ -20,7 +20,7 @@ loop-name-preserved c =
     let next = faults_of c.check_type.new.faults in
     let before = c.loop-name.yielded in
     let told = λ (e : NameValue × ExtendedType). type_faults s (name_text e.0) (extended_type e.1) in
-    let seen = λ (e : Bor NameValue × Bor ExtendedType). (e.0.now, e.1.now) in
+    let seen : Bor NameValue × Bor ExtendedType → NameValue × ExtendedType = λ e. (e.0.now, e.1.now) in
     let x : Bor NameValue × Bor ExtendedType = (c.in-Some.name, c.in-Some.ty) in
     subst (λ l. GainsThese old next (types_faults s l)) (sym (map-append seen before (x ∷ [])))
     (these_more told old (faults_of c.loop-name.faults) next (map seen before) (seen x) c.loop-name.invariant c.in_ok-check_type.ensures)
