@@ -20,9 +20,10 @@ use rule_types::check_types;
 use rule_uses::check_schema_directives;
 use std::alloc::{AllocError, Global};
 
-/// Tells every fault of the rules on schemas (sections 3 and 5), of more than 1,000 some 1,000. Then it drops from the types each built-in scalar to
-/// which no field, argument or input field refers, and adds at the end those of the five that are referred to and
-/// missing. The rest of the schema stays. Where memory is refused the schema is as before, and some faults may be told.
+/// Tells every fault of the rules on schemas (sections 3 and 5); of more than 1,000 it tells 1,000. Then it drops from the
+/// types each built-in scalar to which no field, argument or input field refers, and adds at the end those of the five that
+/// are referred to and missing. The rest of the schema stays. Where memory is refused the schema is as before, and some
+/// faults may be told.
 ///
 /// Where nothing is told, implementing is a strict order on interfaces (sections 3.6 and 3.7). And each input type of
 /// the schema that is left, non-null ones too, has a literal: a text of a value that may be given for it (sections 2.9,
