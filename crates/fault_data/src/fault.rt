@@ -1,10 +1,14 @@
 //! What breaks rules, each with its place.
-ghost use Rattle.std.specs.Prelude.{◌≡◌, ◌++◌, map, IfOk, OnErr, OnOk, option_to_list};
+ghost use Rattle.std.specs.Prelude.{◌≡◌, ◌↔◌, ◌++◌, map, take, IfOk, OnErr, OnOk, IsTrue, option_to_list};
+ghost use Rattle.rule_definitions.specs.Gains.{IsFull, most_told};
 ghost use Rattle.fault_data.specs.FaultView.{fault_of, faults_of};
 
 use crate::diagnostic_data::DiagnosticData;
 use graphql_names::SourceSpan;
 use std::alloc::AllocError;
+
+/// How many faults a call of the rules tells at most.
+pub const MOST_TOLD: usize = 1_000;
 
 /// What breaks a rule, and where: None where there is no place.
 pub struct Fault {
@@ -55,4 +59,20 @@ pub fn tell(faults: &mut Vec<Fault>, fault: Option<Fault>) -> Result<(), AllocEr
             Ok(())
         }
     }
+}
+
+/// Whether there are as many faults as are told. Then no more need be looked for: a short text can break rules millions of
+/// times, as types times the fields that each lacks.
+// The list and no slice of it: contracts see the faults of a list.
+pub fn is_full(faults: &Vec<Fault>) -> bool
+    ensures { IsTrue result ↔ IsFull (faults_of faults.now) }
+{
+    faults.len() >= MOST_TOLD
+}
+
+/// Drops the faults after as many as are told.
+pub fn keep_told(faults: &mut Vec<Fault>)
+    ensures { faults_of faults.new ≡ take most_told (faults_of faults.old) }
+{
+    faults.truncate(MOST_TOLD);
 }

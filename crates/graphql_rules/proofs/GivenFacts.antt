@@ -1,5 +1,5 @@
 -- Faults of arguments and of a variable that is given, from what is told of them.
-use Rattle.std.proofs.Common.{◌≡◌, ℕ, ◌↔◌, List, [], ◌∷◌, ◌++◌, sym, ap, subst, ◌∙◌, Contains}
+use Rattle.std.proofs.Common.{◌≡◌, ◌≤◌, ℕ, ◌↔◌, List, [], ◌∷◌, ◌++◌, take, length, sym, subst, Contains, arith}
 use Rattle.graphql_names.specs.Placed.{Placed, Place, node_tree}
 use Rattle.tree_literals.specs.TypeTree.{unplaced_type}
 use Rattle.tree_directives.specs.DirectiveTree.{ArgumentTree, InputValueTree, directive_tree, input_value_tree, unplaced_input_value}
@@ -15,12 +15,9 @@ use Rattle.rule_definitions.specs.VariableUsage.{IsVariableUsageAllowed}
 use Rattle.rule_definitions.specs.Told.{PlacedFault}
 use Rattle.rule_uses.specs.Steps.{Lists, DisallowedUsage}
 use Rattle.rule_definitions.proofs.Firsts.{first_is_found}
-use Rattle.rule_definitions.proofs.Listing.{Gains}
+use Rattle.rule_definitions.specs.Gains.{most_told, Gains, TellsUpTo}
+use Rattle.rule_definitions.proofs.Cut.{cut_gained, told_short}
 use Rattle.graphql_rules.specs.Given.{Each, UsageBreaks}
-
--- what was added to nothing is all that is there
-pub only_added : (none new : List PlacedFault) (R : PlacedFault → Type 0) → none ≡ [] → Gains none new R → (f : PlacedFault) → Contains new f ↔ R f
-only_added none new R e (added, (is, tells)) = subst (λ l. Lists l R) (sym (is ∙ ap (λ l. l ++ added) e)) tells
 
 -- the first variable of that name is the one that is found
 pub usage_found : (variables : Variables Place) (v : InputValueTree Place) (a : Placed Place (ArgumentTree Place)) (f : PlacedFault) → UsageBreaks variables (unplaced_input_value v) a f ↔ DisallowedUsage variables v a f
@@ -32,12 +29,21 @@ usage_found variables v a f =
     (λ h. (h.0, (h.1.0, (found h.0.it).0 h.1.1)), λ q. (q.0, (q.1.0, (found q.0.it).1 q.1.1)))
 
 -- what is told of the definition that a node holds
-pub usage_told : (variables : Variables Place) (n : Node InputValueDefinition) (a : Placed Place (ArgumentTree Place)) (l : List PlacedFault) (held : InputValueDefinition) → held ≡ content n
+usage_listed : (variables : Variables Place) (n : Node InputValueDefinition) (a : Placed Place (ArgumentTree Place)) (l : List PlacedFault) (held : InputValueDefinition) → held ≡ content n
     → Lists l (DisallowedUsage variables (input_value_tree held) a) → (f : PlacedFault) → Contains l f ↔ UsageBreaks variables (unplaced_input_value (input_value_tree (content n))) a f
-usage_told variables n a l held e told f =
+usage_listed variables n a l held e told f =
     let given = subst (λ (d : InputValueDefinition). Lists l (DisallowedUsage variables (input_value_tree d) a)) e told in
     let found = usage_found variables (input_value_tree (content n)) a f in
     (λ h. found.1 ((given f).0 h), λ u. (given f).1 (found.0 u))
+
+-- none or one is told
+pub usage_told : (variables : Variables Place) (n : Node InputValueDefinition) (a : Placed Place (ArgumentTree Place)) (l : List PlacedFault) (held : InputValueDefinition) → held ≡ content n → length l ≤ 1
+    → Lists l (DisallowedUsage variables (input_value_tree held) a) → TellsUpTo l (UsageBreaks variables (unplaced_input_value (input_value_tree (content n))) a)
+usage_told variables n a l held e short told = told_short l (omega (arith, short)) (usage_listed variables n a l held e told)
+
+-- what was added to nothing, as it is told
+pub cut_added : (none found told : List PlacedFault) (R : PlacedFault → Type 0) → none ≡ [] → told ≡ take most_told found → Gains none found R → TellsUpTo told R
+cut_added none found told R e cut g = subst (λ l. TellsUpTo l R) (sym cut) (cut_gained none found e g)
 
 -- one more
 pub each_more : {A B : Type 0} (Gives : A → B → Type 0) (xs : List A) (ys : List B) (x : A) (y : B) → Each Gives xs ys → Gives x y → Each Gives (xs ++ x ∷ []) (ys ++ y ∷ [])

@@ -1,8 +1,9 @@
 -- What is told of a schema (GraphQL, October 2021, sections 3 and 5).
-use Rattle.std.specs.Prelude.{◌≡◌, ℕ, List, Contains, ◌⊎◌}
+use Rattle.std.specs.Prelude.{◌≡◌, ◌≤◌, ℕ, List, length, Contains, ◌⊎◌}
 use Rattle.graphql_names.specs.Placed.{Place}
 use Rattle.rule_definitions.specs.in_schema_types.SchemaTree.{SchemaTree}
 use Rattle.rule_definitions.specs.Faults.{SchemaFault}
+use Rattle.rule_definitions.specs.Gains.{most_told, IsFull}
 use Rattle.rule_definitions.specs.Judged.{Judged, judged}
 use Rattle.rule_definitions.specs.Cycles.{PassesReferenceBound}
 use Rattle.rule_definitions.specs.Rules.{ReferencesBreak, EmptyBreaks, InterfacesBreak, SchemaUsesBreak, Breaks, SchemaRules}
@@ -24,12 +25,17 @@ BreaksBesideCycles s fault = ReferencesBreak s fault ⊎ (EmptyBreaks s fault �
 abbrev pub IsWithinReferenceBound : Judged → Type 0
 IsWithinReferenceBound s = (fault : SchemaFault) → PassesReferenceBound s fault → ⊥
 
--- these faults tell what fails of the schema, and all of it: of cycles, each definition that leads back to itself
-pub record TellsSchema (s : SchemaTree Place) (told : List PlacedFault) : Type 0 where
-  pub right : (f : PlacedFault) → Contains told f → Told s RulesOrBoundFail f
+-- these faults tell each rule that breaks of the schema: of cycles, each definition that leads back to itself
+pub record TellsEach (s : SchemaTree Place) (told : List PlacedFault) : Type 0 where
   pub full : (f : PlacedFault) → Told s BreaksBesideCycles f → Contains told f
   pub inputs : (n : List ℕ) → IsInputCycle (judged s) n → (f : PlacedFault) × (Contains told f × AnswersInput n f)
   pub directives : (n : List ℕ) → IsDirectiveCycle (judged s) n → (f : PlacedFault) × (Contains told f × AnswersDirective n f)
+
+-- these faults tell what fails of the schema, no more than so many; and all of it, unless they are so many
+pub record TellsSchema (s : SchemaTree Place) (told : List PlacedFault) : Type 0 where
+  pub right : (f : PlacedFault) → Contains told f → Told s RulesOrBoundFail f
+  pub few : length told ≤ most_told
+  pub all : IsFull told ⊎ TellsEach s told
 
 -- behind what was told stands what is told of the schema
 abbrev pub SchemaTold : SchemaTree Place → Telling → Telling → Type 0

@@ -8,6 +8,7 @@ ghost use Rattle.graphql_faults.specs.DetailsView.{diagnostics_of, BeginsAs};
 ghost use Rattle.graphql_rules.specs.Appends.{Appends};
 ghost use Rattle.graphql_rules.specs.Given.{Each, LeadsToDirective, UsesTold, UsageTold};
 
+use fault_data::keep_told;
 use graphql_faults::DiagnosticList;
 use graphql_names::Node;
 use rule_cycles::Schema;
@@ -35,7 +36,8 @@ fn nodes_of<D: Deref<Target = Node<Directive>> + Drop, I: IntoIterator<Item = D>
 /// Tells the faults of the directives that are used at one place of a schema or a document (section 5.7):
 /// UniqueDirective, UndefinedDirective, UnsupportedLocation, and the rules on their arguments. `variables` are those of
 /// the operation, or none. Any iterator gives the directives: its items are references to nodes, or lead to nodes.
-/// Without a schema each directive is undefined. After a refusal the list begins as before.
+/// Without a schema each directive is undefined. Of more than 1,000 faults it tells 1,000. After a refusal the list begins as
+/// before.
 pub fn validate_directives<D: Deref<Target = Node<Directive>> + Drop, I: IntoIterator<Item = D>>(
     alloc: Global,
     list: &mut DiagnosticList,
@@ -53,11 +55,13 @@ pub fn validate_directives<D: Deref<Target = Node<Directive>> + Drop, I: IntoIte
     let mut faults = Vec::new(alloc);
     let variables = DefinedVariables::new(alloc, variables)?;
     check_directives(schema, &nodes, location, &variables, &mut faults)?;
+    keep_told(&mut faults);
     list.append_faults(faults)
 }
 
 /// Tells each argument whose name an earlier one has (UniqueArgument, section 5.4.2). Tells each key that an object
-/// inside an argument has before (UniqueInputValue, section 5.6.3). After a refusal the list begins as before.
+/// inside an argument has before (UniqueInputValue, section 5.6.3). Of more than 1,000 it tells 1,000. After a refusal the
+/// list begins as before.
 pub fn validate_arguments(
     alloc: Global,
     list: &mut DiagnosticList,
@@ -68,6 +72,7 @@ pub fn validate_arguments(
 {
     let mut faults = Vec::new(alloc);
     check_arguments_alone(arguments, &mut faults)?;
+    keep_told(&mut faults);
     list.append_faults(faults)
 }
 

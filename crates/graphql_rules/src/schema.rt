@@ -11,7 +11,7 @@ ghost use Rattle.rule_schema_laws.specs.Implementing.{ImplementsInOrder};
 ghost use Rattle.graphql_rules.specs.SchemaTold.{TellsSchema, SchemaTold, ValidSchemaMeansSilence, SilenceGivesLiterals};
 
 use crate::kept::kept_types;
-use fault_data::Fault;
+use fault_data::{Fault, keep_told};
 use graphql_faults::DiagnosticList;
 use rule_cycles::laws::names_differ;
 use rule_cycles::{Schema, check_cycles};
@@ -20,9 +20,10 @@ use rule_types::check_types;
 use rule_uses::{IndexedSchema, SchemaInputs, check_schema_directives};
 use std::alloc::{AllocError, Global};
 
-/// Tells every fault of the rules on schemas (sections 3 and 5). Then it drops from the types each built-in scalar to
-/// which no field, argument or input field refers, and adds at the end those of the five that are referred to and
-/// missing. The rest of the schema stays. Where memory is refused the schema is as before, and some faults may be told.
+/// Tells every fault of the rules on schemas (sections 3 and 5); of more than 1,000 it tells 1,000. Then it drops from the
+/// types each built-in scalar to which no field, argument or input field refers, and adds at the end those of the five that
+/// are referred to and missing. The rest of the schema stays. Where memory is refused the schema is as before, and some
+/// faults may be told.
 ///
 /// Where nothing is told, implementing is a strict order on interfaces (sections 3.6 and 3.7). And each input type of
 /// the schema that is left, non-null ones too, has a literal: a text of a value that may be given for it (sections 2.9,
@@ -55,7 +56,7 @@ pub fn validate_schema(
     Ok(())
 }
 
-/// What breaks the rules on schemas.
+/// What breaks the rules on schemas: all, or as much as a call tells.
 fn schema_faults(alloc: Global, schema: &Schema) -> Result<Vec<Fault>, AllocError>
     requires { AreAllDistinct (schema_tree schema.now) }
     ensures { IfOk result (λ faults. TellsSchema (schema_tree schema.now) (faults_of faults)) }
@@ -67,5 +68,6 @@ fn schema_faults(alloc: Global, schema: &Schema) -> Result<Vec<Fault>, AllocErro
     let inputs = SchemaInputs::new(alloc, &schema.types, &schema.directive_definitions)?;
     let indexed = IndexedSchema::new(schema, &inputs);
     check_schema_directives(&indexed, &mut faults)?;
+    keep_told(&mut faults);
     Ok(faults)
 }

@@ -4,6 +4,7 @@ ghost use Rattle.rule_cycles.specs.in_schema.SchemaOf.{schema_tree};
 ghost use Rattle.graphql_faults.specs.DetailsView.{diagnostics_of, BeginsAs};
 ghost use Rattle.graphql_rules.specs.ValueTold.{ValueTold, TypeAccepts};
 
+use fault_data::keep_told;
 use graphql_faults::DiagnosticList;
 use graphql_names::Node;
 use rule_cycles::Schema;
@@ -13,8 +14,8 @@ use tree_literals::{Type, Value};
 use tree_operations::VariableDefinition;
 
 /// Tells the faults of a value that is given for a type (section 5.6), and each variable in it, at any depth, that is
-/// none of `variables` (section 5.8.3). It tells nothing exactly when the type accepts the value. After a refusal the
-/// list begins as before.
+/// none of `variables` (section 5.8.3). It tells nothing exactly when the type accepts the value. Of more than 1,000 faults
+/// it tells 1,000. After a refusal the list begins as before.
 pub fn value_of_correct_type(
     alloc: Global,
     list: &mut DiagnosticList,
@@ -31,5 +32,6 @@ pub fn value_of_correct_type(
     let variables = DefinedVariables::new(alloc, variables)?;
     let schema = IndexedSchema::plain(schema);
     check_value(&schema, ty, value, &variables, &mut faults)?;
+    keep_told(&mut faults);
     list.append_faults(faults)
 }

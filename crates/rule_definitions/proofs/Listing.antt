@@ -4,12 +4,13 @@ use Rattle.std.specs.List.{flat_map}
 use Rattle.std.specs.Option.{option_map_or}
 use Rattle.std.proofs.lemmas.Bool.{eqb-true}
 use Rattle.std.proofs.lemmas.Option.{same_Some}
-use Rattle.std.proofs.lemmas.List.{append-nil, map-append, take_more}
+use Rattle.std.proofs.lemmas.List.{append-nil, map-append, take_more, length-append, flat_map_more}
 use Rattle.std.proofs.lemmas.List.Elements.{Contains-append_left, Contains-append_right, Contains-append_cases}
 use Rattle.schema_types.specs.in_components.Lists.{each_place_after, each_place}
 use Rattle.schema_types.proofs.in_components.Places.{each_place-push}
 use Rattle.rule_cycle_search.proofs.Lists.{not_in_nil, only, is_only}
 use Rattle.rule_definitions.specs.Words.{Present, AtSomeIndex}
+pub use Rattle.rule_definitions.specs.Gains.{IsFull, Gains, GainsThese}
 
 -- x stands at an index, or behind the others
 module _ {X : Type 0} where
@@ -139,20 +140,69 @@ module _ {B : Type 0} where
 
   -- ---- what is added
 
-  abbrev pub Gains : List B → List B → (B → Type 0) → Type 0
-  Gains old new R = (added : List B) × ((new ≡ old ++ added) × Lists added R)
-
+  -- all that is so, and no others
   pub gains_list : {R : B → Type 0} (old new l : List B) → new ≡ old ++ l → Lists l R → Gains old new R
-  gains_list old new l e h = (l, (e, h))
+  gains_list old new l e h = record { added = l; is = e; right = λ f c. (h f).0 c; all = inr (λ f r. (h f).1 r) }
+
+  -- these, of which all are so, and no others
+  pub gains_these : {R : B → Type 0} (old new l : List B) → GainsThese old new l → Lists l R → Gains old new R
+  gains_these {R} old new l g h = record {
+    added = g.added;
+    is = g.is;
+    right = λ f c. (h f).0 (g.right f c);
+    all = elim g.all [ inl full ↦ inl full | inr all ↦ inr (λ f r. all f ((h f).1 r)) ];
+  }
+
+  -- a list that is full stays so
+  pub full_stays : (a b l : List B) → b ≡ a ++ l → IsFull a → IsFull b
+  full_stays a b l e full = let longer : length b ≡ length a + length l = ap length e ∙ length-append a l in omega (arith, full, longer)
 
   pub gains_both : {R S : B → Type 0} (a b c : List B) → Gains a b R → Gains b c S → Gains a c (λ f. R f ⊎ S f)
-  gains_both a b c (l, (e, h)) (m, (e', h')) = (l ++ m, (e' ∙ ap (λ k. k ++ m) e ∙ append_assoc a l m, lists_both l m h h'))
+  gains_both {R} {S} a b c g h = record {
+    added = g.added ++ h.added;
+    is = h.is ∙ ap (λ k. k ++ h.added) g.is ∙ append_assoc a g.added h.added;
+    right = λ f q. elim (Contains-append_cases g.added h.added f q) [ inl e ↦ inl (g.right f e) | inr e ↦ inr (h.right f e) ];
+    all = by g.all h.all;
+  }
+    where
+      by : IsFull b ⊎ ((f : B) → R f → Contains g.added f) → IsFull c ⊎ ((f : B) → S f → Contains h.added f) → IsFull c ⊎ ((f : B) → R f ⊎ S f → Contains (g.added ++ h.added) f)
+      by (inl full) later = inl (full_stays b c h.added h.is full)
+      by (inr before) (inl full) = inl full
+      by (inr before) (inr later) = inr (λ f q. elim q [ inl r ↦ Contains-append_left g.added h.added f (before f r) | inr s ↦ Contains-append_right g.added h.added f (later f s) ])
 
   pub gains_same : {R S : B → Type 0} (a b : List B) → ((f : B) → R f ↔ S f) → Gains a b R → Gains a b S
-  gains_same a b same (l, (e, h)) = (l, (e, lists_same l same h))
+  gains_same {R} {S} a b same g = record {
+    added = g.added;
+    is = g.is;
+    right = λ f c. (same f).0 (g.right f c);
+    all = elim g.all [ inl full ↦ inl full | inr all ↦ inr (λ f s. all f ((same f).1 s)) ];
+  }
 
   pub gains_nothing : (a : List B) (R : B → Type 0) → ((f : B) → R f → ⊥) → Gains a a R
-  gains_nothing a R never = ([], (sym (append-nil a), lists_nothing R never))
+  gains_nothing a R never = record { added = []; is = sym (append-nil a); right = λ f c. absurd (not_in_nil f c); all = inr (λ f r. absurd (never f r)) }
+
+  -- to a full list nothing comes
+  pub gains_full : (a : List B) (R : B → Type 0) → IsFull a → Gains a a R
+  gains_full a R full = record { added = []; is = sym (append-nil a); right = λ f c. absurd (not_in_nil f c); all = inl full }
+
+  -- all that is so, where the list did not get full
+  pub gains_all : {R : B → Type 0} (a b : List B) (g : Gains a b R) → (IsFull b → ⊥) → Lists g.added R
+  gains_all {R} a b g less f = (g.right f, elim g.all [ inl full ↦ absurd (less full) | inr all ↦ all f ])
+
+  -- some of these, and then some of those
+  pub these_both : (a b c l m : List B) → GainsThese a b l → GainsThese b c m → GainsThese a c (l ++ m)
+  these_both a b c l m g h = gains_same a c (λ f. (λ q. elim q [ inl r ↦ Contains-append_left l m f r | inr s ↦ Contains-append_right l m f s ], λ q. Contains-append_cases l m f q)) (gains_both a b c g h)
+
+  -- exactly these
+  pub these_list : (old new l : List B) → new ≡ old ++ l → GainsThese old new l
+  these_list old new l e = gains_list old new l e (λ f. (λ c. c, λ c. c))
+
+  -- what is told of one element more
+  pub these_more : {X : Type 0} (tells : X → List B) (a b c : List B) (ys : List X) (y : X) → GainsThese a b (flat_map tells ys) → GainsThese b c (tells y) → GainsThese a c (flat_map tells (ys ++ y ∷ []))
+  these_more tells a b c ys y g h = subst (λ l. GainsThese a c l) (flat_map_more tells [] ys y) (these_both a b c (flat_map tells ys) (tells y) g h)
+
+  pub these_none : (a : List B) → GainsThese a a []
+  these_none a = gains_nothing a (Contains []) (λ f c. not_in_nil f c)
 
   -- no element of a loop yet
   pub gains_none : {X : Type 0} (a : List B) (R : ℕ → X → B → Type 0) → Gains a a (λ f. AtSomeIndex [] (λ k x. R k x f))

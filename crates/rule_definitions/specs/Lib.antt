@@ -20,6 +20,7 @@ pub mod Accepts
 pub mod Uses
 pub mod Rules
 pub mod Told
+pub mod Gains
 pub use Rattle.schema_types.specs.Distinct
 pub mod Kept
 pub mod Laws

@@ -1,5 +1,5 @@
 -- All that is told of a schema tells the rules on interfaces.
-use Rattle.std.proofs.Common.{◌≡◌, ℕ, ◌↔◌, List, ◌++◌, map, sym, ap, ◌∙◌, Contains}
+use Rattle.std.proofs.Common.{◌≡◌, ℕ, List, map, sym, ap, ◌∙◌}
 use Rattle.std.specs.List.{flat_map}
 use Rattle.std.proofs.lemmas.List.Folds.{flat_map-map}
 use Rattle.graphql_names.specs.NameValue.{NameValue}
@@ -16,6 +16,7 @@ use Rattle.fault_data.specs.in_rule_definitions.Rules.{InterfacesBreak}
 use Rattle.fault_data.specs.in_rule_definitions.Told.{PlacedFault, Told}
 use Rattle.schema_types.specs.Distinct.{AreAllDistinct}
 use Rattle.fault_data.specs.in_rule_definitions.Words.{Among}
+use Rattle.fault_data.proofs.in_rule_definitions.Listing.{Gains, GainsThese, gains_these}
 use Rattle.fault_data.proofs.in_rule_definitions.Lookups.{under_given}
 use Rattle.fault_data.proofs.in_rule_definitions.Tells.{Tells, tells_same, tells_list, tells_entries}
 use Rattle.fault_data.proofs.Judgings.{type_seen, type_look}
@@ -42,5 +43,5 @@ module _ (s : SchemaTree Place) where
 
 -- what is told behind other faults
 pub told_behind : (s : SchemaTree Place) → AreAllDistinct s → (types : List (NameValue × ExtendedType)) → s.types ≡ map (λ e. (name_text e.0, extended_type e.1)) types
-    → (old new : List PlacedFault) → new ≡ old ++ types_faults s types → (added : List PlacedFault) × ((new ≡ old ++ added) × ((f : PlacedFault) → Contains added f ↔ Told s InterfacesBreak f))
-told_behind s distinct types are old new is = (types_faults s types, (is, says_all s distinct types are))
+    → (old new : List PlacedFault) → GainsThese old new (types_faults s types) → Gains old new (Told s InterfacesBreak)
+told_behind s distinct types are old new told = gains_these old new (types_faults s types) told (says_all s distinct types are)

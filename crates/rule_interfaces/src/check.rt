@@ -3,7 +3,7 @@ ghost use Rattle.std.specs.Prelude.{OnOk};
 ghost use Rattle.schema_types.specs.TypeView.{extended_type};
 ghost use Rattle.graphql_schema.specs.SchemaOf.{schema_tree};
 ghost use Rattle.fault_data.specs.Adds.{Adds};
-ghost use Rattle.rule_interfaces.specs.Adds.{AddsThese};
+ghost use Rattle.rule_interfaces.specs.Adds.{AddsThese, AddsUntilFull};
 ghost use Rattle.schema_types.specs.Distinct.{AreAllDistinct};
 ghost use Rattle.fault_data.specs.in_rule_definitions.Rules.{InterfacesBreak};
 ghost use Rattle.fault_data.specs.in_rule_definitions.Told.{Told};
@@ -15,13 +15,14 @@ use crate::implementation::Implementer;
 use crate::interfaces::{check_transitive, recursive_interface_definition, undefined_interface};
 use crate::judging::Judging;
 use crate::look_ups::interfaces_of;
-use fault_data::Fault;
+use fault_data::{Fault, is_full};
 use graphql_names::{Name, Node};
 use graphql_schema::Schema;
 use schema_types::{ExtendedType, InterfaceType};
 use std::alloc::{AllocError, Global};
 
-/// Tells each fault of the rules on interfaces. It fails only where memory is refused; then some may be told.
+/// Tells each fault of the rules on interfaces, until the list is full. It fails only where memory is refused; then some may
+/// be told.
 pub fn check_interfaces(
     alloc: Global,
     schema: &Schema,
@@ -34,9 +35,9 @@ pub fn check_interfaces(
     check_each_type(&judging, faults)
 }
 
-/// Tells the faults of each type.
+/// Tells the faults of each type, until the list is full.
 fn check_each_type(judging: &Judging<'_>, faults: &mut Vec<Fault>) -> Result<(), AllocError>
-    ensures { OnOk result (AddsThese faults.old faults.new (types_faults (schema_of judging.now) judging.now.schema.now.types.entries)) }
+    ensures { OnOk result (AddsUntilFull faults.old faults.new (types_faults (schema_of judging.now) judging.now.schema.now.types.entries)) }
 {
     for (name, ty) in &judging.schema.types {
         check_type(judging, name, ty, faults)?;
@@ -44,14 +45,14 @@ fn check_each_type(judging: &Judging<'_>, faults: &mut Vec<Fault>) -> Result<(),
     Ok(())
 }
 
-/// Tells the faults of a type over each of its interfaces.
+/// Tells the faults of a type over each of its interfaces, until the list is full.
 fn check_type(
     judging: &Judging<'_>,
     name: &Name,
     ty: &ExtendedType,
     faults: &mut Vec<Fault>,
 ) -> Result<(), AllocError>
-    ensures { OnOk result (AddsThese faults.old faults.new (type_faults (schema_of judging.now) name.now.text (extended_type ty.now))) }
+    ensures { OnOk result (AddsUntilFull faults.old faults.new (type_faults (schema_of judging.now) name.now.text (extended_type ty.now))) }
 {
     for interface in interfaces_of(ty) {
         let implementer = Implementer {
@@ -64,8 +65,23 @@ fn check_type(
     Ok(())
 }
 
-/// Tells the faults of a type over one of its interfaces.
+/// Tells the faults of a type over one of its interfaces, unless the list is full.
+// A type may lack many fields of each of many interfaces: a list that is full ends this.
 fn check_interface(
+    judging: &Judging<'_>,
+    implementer: &Implementer<'_>,
+    faults: &mut Vec<Fault>,
+) -> Result<(), AllocError>
+    ensures { OnOk result (AddsUntilFull faults.old faults.new (of_implementer (named_faults (schema_of judging.now)) implementer.now)) }
+{
+    if is_full(faults) {
+        return Ok(());
+    }
+    check_named(judging, implementer, faults)
+}
+
+/// Tells the faults of a type over one of its interfaces.
+fn check_named(
     judging: &Judging<'_>,
     implementer: &Implementer<'_>,
     faults: &mut Vec<Fault>,
@@ -76,7 +92,7 @@ fn check_interface(
     check_listed(judging, implementer, faults)
 }
 
-/// Tells the faults of a type over an interface of that name, which it lists, whether it is there or not.
+/// Tells the faults of a type over an interface that it lists, whether it is there or not.
 fn check_listed(
     judging: &Judging<'_>,
     implementer: &Implementer<'_>,

@@ -1,5 +1,5 @@
 -- All that is told of a schema tells the rules of this crate.
-use Rattle.std.proofs.Common.{◌≡◌, ℕ, ◌⊎◌, ◌↔◌, List, [], ◌∷◌, ◌++◌, map, refl, sym, ap, subst, ◌∙◌, inl, inr, Contains}
+use Rattle.std.proofs.Common.{◌≡◌, ℕ, List, [], ◌∷◌, ◌++◌, map, refl, sym, ap, ◌∙◌}
 use Rattle.std.specs.List.{flat_map}
 use Rattle.std.proofs.lemmas.List.{append-nil}
 use Rattle.std.proofs.lemmas.List.Folds.{flat_map-map}
@@ -30,6 +30,7 @@ use Rattle.fault_data.specs.in_rule_definitions.Told.{PlacedFault, Told}
 use Rattle.rule_types.specs.TypesBreak.{TypesBreak}
 use Rattle.schema_types.specs.Distinct.{AreAllDistinct}
 use Rattle.rule_types.specs.FaultLists.{if_none, reserved_name, value_faults, field_faults, input_faults, parts_faults, types_faults, directive_faults, directives_faults, roots_faults, all_faults}
+use Rattle.fault_data.proofs.in_rule_definitions.Listing.{Gains, gains_list}
 use Rattle.fault_data.proofs.in_rule_definitions.Lookups.{under_given}
 use Rattle.fault_data.proofs.Judgings.{type_seen, type_look, directive_look}
 use Rattle.rule_types.proofs.ByPlace.{TypeBreaks, DirectiveBreaks, PlacesBreak, to_places, from_places}
@@ -108,5 +109,5 @@ module _ (s : SchemaTree Place) where
 -- what is told behind other faults
 pub told_behind : (s : SchemaTree Place) → AreAllDistinct s → (types : List (NameValue × ExtendedType)) → s.types ≡ map (λ e. (name_text e.0, extended_type e.1)) types
     → (directives : List (NameValue × Node DirectiveDefinition)) → s.directives ≡ map (λ e. (name_text e.0, node_tree directive_definition_tree e.1)) directives
-    → (old new : List PlacedFault) → new ≡ old ++ all_faults s types directives → (added : List PlacedFault) × ((new ≡ old ++ added) × ((f : PlacedFault) → Contains added f ↔ Told s TypesBreak f))
-told_behind s distinct types are directives are' old new is = (all_faults s types directives, (is, says_all s distinct types are directives are'))
+    → (old new : List PlacedFault) → new ≡ old ++ all_faults s types directives → Gains old new (Told s TypesBreak)
+told_behind s distinct types are directives are' old new is = gains_list old new (all_faults s types directives) is (says_all s distinct types are directives are')

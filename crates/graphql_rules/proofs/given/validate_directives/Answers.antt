@@ -11,7 +11,7 @@ use Rattle.fault_data.specs.Adds.{Adds}
 use Rattle.rule_uses.specs.in_rule_values.Wanting.{variables_of}
 use Rattle.rule_uses.specs.Trees.{directives_of, tree_of}
 use Rattle.graphql_rules.specs.Given.{Each, LeadsToDirective}
-use Rattle.graphql_rules.proofs.GivenFacts.{only_added}
+use Rattle.graphql_rules.proofs.GivenFacts.{cut_added}
 use Rattle.graphql_rules.proofs.given.validate_directives.Goals as goal
 
 pub returns-clause-told : goal.returns-clause-told
@@ -32,7 +32,7 @@ returns-clause-told g c =
               directives_of c.deref.result.now,
               (
                 subst (λ (l : List (Node Directive)). Each (LeadsToDirective g.D.Deref.deref_gives) given.1.1.0 (directives_of l)) (sym c.deref.ensures.value) given.1.1.1.1,
-                (faults_of c.check_directives.new.faults, (added, only_added (faults_of c.new-faults.result) (faults_of c.check_directives.new.faults) _ (ap (λ l. map fault_of l) c.new-faults.ensures.items) checked)),
+                (faults_of c.keep_told.new.faults, (added, cut_added (faults_of c.new-faults.result) (faults_of c.check_directives.new.faults) (faults_of c.keep_told.new.faults) _ (ap (λ l. map fault_of l) c.new-faults.ensures.items) c.keep_told.ensures checked)),
               ),
             ),
           ),

@@ -1,4 +1,4 @@
-use Rattle.std.proofs.Common.{List, [], ◌∷◌, map, Option, option_to_list, sym, subst, append-nil}
+use Rattle.std.proofs.Common.{List, [], ◌∷◌, map, Option, option_to_list, sym, subst, append-nil, arith}
 use Rattle.graphql_names.specs.Placed.{node_tree}
 use Rattle.graphql_names.specs.declared.node.Node.{Node}
 use Rattle.tree_directives.specs.DirectiveTree.{argument_tree, input_value_tree}
@@ -13,8 +13,8 @@ use Rattle.graphql_rules.proofs.given.validate_variable_usage.Goals as goal
 
 pub returns-in-None-clause-told : goal.returns-in-None-clause-told
 returns-in-None-clause-told c =
-    ([], (sym (append-nil (diagnostics_of c.args.list.now)), usage_told (variables_of c.args.variables.now) c.args.definition.now (node_tree argument_tree c.args.argument.now) [] c.content.result.now c.content.ensures (subst (λ (o : Option Fault). Lists (map fault_of (option_to_list o)) (DisallowedUsage (variables_of c.args.variables.now) (input_value_tree c.content.result.now) (node_tree argument_tree c.args.argument.now))) c.in-None.is (subst (λ (ds : List (Node VariableDefinition)). Lists (map fault_of (option_to_list c.in_ok-fault.fault)) (DisallowedUsage (variables_of ds) (input_value_tree c.content.result.now) (node_tree argument_tree c.args.argument.now))) c.listed-variables.ensures c.in_ok-fault.ensures))))
+    ([], (sym (append-nil (diagnostics_of c.args.list.now)), usage_told (variables_of c.args.variables.now) c.args.definition.now (node_tree argument_tree c.args.argument.now) [] c.content.result.now c.content.ensures (omega arith) (subst (λ (o : Option Fault). Lists (map fault_of (option_to_list o)) (DisallowedUsage (variables_of c.args.variables.now) (input_value_tree c.content.result.now) (node_tree argument_tree c.args.argument.now))) c.in-None.is (subst (λ (ds : List (Node VariableDefinition)). Lists (map fault_of (option_to_list c.in_ok-fault.fault)) (DisallowedUsage (variables_of ds) (input_value_tree c.content.result.now) (node_tree argument_tree c.args.argument.now))) c.listed-variables.ensures c.in_ok-fault.ensures))))
 
 pub returns-clause-told : goal.returns-clause-told
 returns-clause-told c =
-    (fault_of c.in-Some.fault ∷ [], (c.in_ok-push_fault-in-Some.ensures.added, usage_told (variables_of c.args.variables.now) c.args.definition.now (node_tree argument_tree c.args.argument.now) (fault_of c.in-Some.fault ∷ []) c.content.result.now c.content.ensures (subst (λ (o : Option Fault). Lists (map fault_of (option_to_list o)) (DisallowedUsage (variables_of c.args.variables.now) (input_value_tree c.content.result.now) (node_tree argument_tree c.args.argument.now))) c.in-Some.is (subst (λ (ds : List (Node VariableDefinition)). Lists (map fault_of (option_to_list c.in_ok-fault.fault)) (DisallowedUsage (variables_of ds) (input_value_tree c.content.result.now) (node_tree argument_tree c.args.argument.now))) c.listed-variables.ensures c.in_ok-fault.ensures))))
+    (fault_of c.in-Some.fault ∷ [], (c.in_ok-push_fault-in-Some.ensures.added, usage_told (variables_of c.args.variables.now) c.args.definition.now (node_tree argument_tree c.args.argument.now) (fault_of c.in-Some.fault ∷ []) c.content.result.now c.content.ensures (omega arith) (subst (λ (o : Option Fault). Lists (map fault_of (option_to_list o)) (DisallowedUsage (variables_of c.args.variables.now) (input_value_tree c.content.result.now) (node_tree argument_tree c.args.argument.now))) c.in-Some.is (subst (λ (ds : List (Node VariableDefinition)). Lists (map fault_of (option_to_list c.in_ok-fault.fault)) (DisallowedUsage (variables_of ds) (input_value_tree c.content.result.now) (node_tree argument_tree c.args.argument.now))) c.listed-variables.ensures c.in_ok-fault.ensures))))

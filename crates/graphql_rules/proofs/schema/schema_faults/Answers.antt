@@ -17,3 +17,4 @@ returns c =
     let uses = subst (λ (x : Schema). Adds c.check_cycles.new.faults c.check_schema_directives.new.faults (Told (schema_tree x) SchemaUsesBreak)) c.new-indexed.ensures c.in_ok-check_schema_directives.ensures in
     tells_schema (schema_tree c.args.schema.now) (faults_of c.new-faults.result) (faults_of c.check_types.new.faults) (faults_of c.check_interfaces.new.faults) (faults_of c.check_cycles.new.faults) (faults_of c.check_schema_directives.new.faults)
     (ap (λ l. map fault_of l) c.new-faults.ensures.items) c.in_ok-check_types.ensures c.in_ok-check_interfaces.ensures c.in_ok-check_cycles.ensures uses
+    (faults_of c.keep_told.new.faults) c.keep_told.ensures

@@ -2,6 +2,7 @@ use Rattle.std.proofs.Common.{◌<◌, ◌++◌, map, length, ap, ◌∙◌, ari
 use Rattle.std.specs.List.{flat_map}
 use Rattle.graphql_names.specs.Placed.{Place}
 use Rattle.fault_data.specs.FaultView.{faults_of}
+use Rattle.rule_definitions.proofs.Listing.{gains_list}
 use Rattle.rule_document_ground.specs.Reach.{Member, member_of, meant_fragments, reached_members, reached_fragments_of}
 use Rattle.rule_fragments.specs.Listed.{undefined_fragment}
 use Rattle.rule_fragments.proofs.Telling.{told_more, told_all}
@@ -21,11 +22,8 @@ pub returns : goal.returns
 returns c = λ d o reach same.
     let fs = meant_fragments c.args.fragments.now in
     let r = c.args.reach.now in
-    let tells = λ (e : Member Place). undefined_fragment fs e.1 in (
-      flat_map tells (reached_members r),
-      (
-        told_all member_of tells (faults_of c.args.faults.now) (faults_of c.loop-selection.faults) c.deref-selection-items.result.now c.loop-selection.selection-index c.loop-selection-test.false c.loop-selection.invariant
-            ∙ ap (λ l. faults_of c.args.faults.now ++ flat_map tells (map member_of l)) c.deref-selection-items.ensures.value,
-        lists_undefined d o (reached_members r) (reached_fragments_of r) reach fs same,
-      ),
-    )
+    let tells = λ (e : Member Place). undefined_fragment fs e.1 in
+    gains_list (faults_of c.args.faults.now) (faults_of c.loop-selection.faults) (flat_map tells (reached_members r))
+    (told_all member_of tells (faults_of c.args.faults.now) (faults_of c.loop-selection.faults) c.deref-selection-items.result.now c.loop-selection.selection-index c.loop-selection-test.false c.loop-selection.invariant
+    ∙ ap (λ l. faults_of c.args.faults.now ++ flat_map tells (map member_of l)) c.deref-selection-items.ensures.value)
+    (lists_undefined d o (reached_members r) (reached_fragments_of r) reach fs same)

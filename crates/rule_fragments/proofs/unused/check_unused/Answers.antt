@@ -1,4 +1,6 @@
 use Rattle.std.proofs.lemmas.Result.{on_ok_weaker}
+use Rattle.fault_data.specs.FaultView.{faults_of}
+use Rattle.rule_definitions.proofs.Listing.{gains_list}
 use Rattle.rule_cycles.specs.Numbers.{each_value}
 use Rattle.rule_document_ground.specs.NotedNames.{noted_names}
 use Rattle.rule_fragments.specs.Unused.{unused_fragment}
@@ -11,5 +13,5 @@ returns c =
     let m = c.args.fragments.now in
     let names = noted_names c.args.used.now in
     on_ok_weaker c.tell_unused.result
-    (λ told d is own used. (each_value (λ n. unused_fragment names (fragment_meant n)) m.entries, (told, λ x. unused_of_map m c.len-distinct.ensures.unique d is own names used x)))
+    (λ told d is own used. gains_list (faults_of c.args.faults.now) (faults_of c.tell_unused.new.faults) (each_value (λ n. unused_fragment names (fragment_meant n)) m.entries) told (λ x. unused_of_map m c.len-distinct.ensures.unique d is own names used x))
     c.tell_unused.ensures
