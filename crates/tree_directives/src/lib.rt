@@ -35,7 +35,8 @@ pub use writable_directive::{
 
 // Of the crate beneath, for those above.
 pub use tree_literals::{
-    Cause, Level, Name, NamedType, Node, NodeStr, Serialize, Sink, SourceSpan, Tree, Type, Value,
-    WriteFault, can_be_enum, copies_of_five, copies_of_four, copies_of_three, default_is_writable,
-    put_break, put_default, put_description, put_start, put_type,
+    Cause, FileId, FloatValue, IntValue, Level, Name, NamedType, Node, NodeStr, Serialize, Sink,
+    SourceSpan, Spent, Tree, Type, Value, WriteFault, can_be_enum, copies_of_five, copies_of_four,
+    copies_of_three, default_is_writable, put_break, put_default, put_description, put_start,
+    put_type,
 };
