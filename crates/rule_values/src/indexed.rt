@@ -20,7 +20,7 @@ use std::marker::Model;
 use tree_directives::DirectiveDefinition;
 use tree_type_members::FieldDefinition;
 
-/// A schema, and what it defines of many input values, if that is there. Without it all that is defined is gone through at each use.
+/// A schema, and what it defines of many input values, if that is there. Without it all that is defined is scanned at each use.
 ///
 /// Contracts see it as the schema.
 pub struct IndexedSchema<'a> {
@@ -56,7 +56,7 @@ impl<'a> Model for IndexedSchema<'a> {
 
 /// A schema, by what it defines of many input values.
 impl<'a> IndexedSchema<'a> {
-    /// The schema, of which all that is defined is gone through at each use.
+    /// The schema, of which all that is defined is scanned at each use.
     pub fn plain(schema: &'a Schema) -> IndexedSchema<'a>
         ensures { result ≡ schema.now }
     {

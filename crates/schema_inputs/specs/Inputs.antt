@@ -8,6 +8,7 @@ use Rattle.tree_directives.specs.declared.input_value.InputValueDefinition.{Inpu
 use Rattle.schema_components.specs.Given.{Given, component_tree}
 use Rattle.schema_components.specs.Names.{Entries}
 use Rattle.schema_components.specs.declared.component.Component.{Component}
+use Rattle.schema_types.specs.Addresses.{under}
 use Rattle.schema_types.specs.SchemaTree.{SchemaType, SchemaTree}
 use Rattle.schema_inputs.specs.Firsts.{AreNumbers}
 use Rattle.schema_inputs.specs.declared.known.KnownArguments.{KnownArguments}
@@ -56,6 +57,14 @@ AreKnown vs known = AreNumbers input_name known.numbers vs × (input_value_trees
 
 abbrev pub AreKnownIfMany : InputValues Place → Option KnownArguments → Type 0
 AreKnownIfMany vs known = IfSome known (AreKnown vs)
+
+-- what is known is of the arguments of the directive of that name
+abbrev pub IsOfDirective : Entries (Placed Place (DirectiveDefinitionTree Place)) → List ℕ → KnownArguments → Type 0
+IsOfDirective ds n known = HasAt (under n ds) (λ d. AreKnown d.it.arguments known)
+
+-- of the field m of the type n
+abbrev pub IsOfField : Entries (SchemaType Place) → List ℕ → List ℕ → KnownArguments → Type 0
+IsOfField ts n m known = HasAt (under n ts) (λ t. HasAt (under m t.fields) (λ f. AreKnown f.it.it.arguments known))
 
 -- these are the required ones of the fields
 abbrev pub AreRequired : FieldEntries → List (Name × Component InputValueDefinition) → Type 0

@@ -6,9 +6,8 @@ ghost use Rattle.tree_directives.specs.DirectiveTree.{directive_definition_tree}
 ghost use Rattle.tree_type_members.specs.TypeSystemTree.{field_definition_tree};
 ghost use Rattle.schema_components.specs.Given.{component_tree};
 ghost use Rattle.schema_components.specs.Names.{entries_of};
-ghost use Rattle.schema_types.specs.Addresses.{under};
 ghost use Rattle.schema_types.specs.TypeView.{extended_type, name_text};
-ghost use Rattle.schema_inputs.specs.Inputs.{AreEach, AreKnown, AreKnownIfMany, IsKnownType, AreTypesOf, AreDirectivesOf, HasAt};
+ghost use Rattle.schema_inputs.specs.Inputs.{AreEach, AreKnown, AreKnownIfMany, IsKnownType, AreTypesOf, AreDirectivesOf, HasAt, IsOfDirective, IsOfField};
 
 use crate::found::FoundType;
 use crate::known::{KnownArguments, KnownType, known_directives, known_types};
@@ -62,7 +61,7 @@ impl SchemaInputs {
         name: &Name,
     ) -> Option<&KnownArguments>
         requires { AreDirectivesOf (entries_of name_text (node_tree directive_definition_tree) directives.now) self.now }
-        ensures { IfSome result (λ known. HasAt (under name.now.text (entries_of name_text (node_tree directive_definition_tree) directives.now)) (λ d. AreKnown d.it.arguments known.now)) }
+        ensures { IfSome result (λ known. IsOfDirective (entries_of name_text (node_tree directive_definition_tree) directives.now) name.now.text known.now) }
     {
         match directives.get_full(name) {
             None => None,
@@ -78,7 +77,7 @@ impl SchemaInputs {
         name: &Name,
     ) -> Option<&KnownArguments>
         requires { AreTypesOf (entries_of name_text extended_type types.now) self.now }
-        ensures { IfSome result (λ known. HasAt (under parent.now.text (entries_of name_text extended_type types.now)) (λ t. HasAt (under name.now.text t.fields) (λ f. AreKnown f.it.it.arguments known.now))) }
+        ensures { IfSome result (λ known. IsOfField (entries_of name_text extended_type types.now) parent.now.text name.now.text known.now) }
     {
         match types.get_full(parent) {
             None => None,

@@ -18,7 +18,7 @@ use std::alloc::{AllocError, Global};
 use tree_directives::{DirectiveDefinition, InputValueDefinition};
 use tree_type_members::FieldDefinition;
 
-/// So many arguments or input fields are gone through at each use.
+/// So many arguments or input fields are scanned at each use.
 pub const FEW: usize = 8;
 
 /// Many arguments that are defined together.
