@@ -6,6 +6,7 @@ ghost use Rattle.tree_directives.specs.DirectiveTree.{directive_definition_tree}
 ghost use Rattle.tree_type_members.specs.TypeSystemTree.{field_definition_tree};
 ghost use Rattle.schema_components.specs.Given.{component_tree};
 ghost use Rattle.schema_components.specs.Names.{entries_of};
+ghost use Rattle.schema_types.specs.Addresses.{under};
 ghost use Rattle.schema_types.specs.TypeView.{extended_type, name_text};
 ghost use Rattle.schema_inputs.specs.Inputs.{AreEach, AreKnown, AreKnownIfMany, IsKnownType, AreTypesOf, AreDirectivesOf, HasAt, IsOfDirective, IsOfField};
 
