@@ -4,11 +4,11 @@ use Rattle.std.specs.Bool.{Decides}
 use Rattle.std.specs.Option.{option_map, option_eq}
 use Rattle.std.specs.Cmp.Lexicographic.{pointwise}
 use Rattle.std.proofs.lemmas.Slice.Eq.{bytes_eq-Decides}
-use Rattle.tree_operations.specs.in_literals.in_names.Node.{content}
-use Rattle.tree_operations.specs.in_literals.in_names.NameValue.{NameValue}
-use Rattle.tree_operations.specs.in_literals.in_names.NodeStrValue.{NodeStrValue}
-use Rattle.tree_operations.specs.in_literals.in_names.declared.node.Node.{Node}
-use Rattle.tree_operations.specs.in_literals.in_names.Placed.{Placed, Text, name_tree, text_tree, node_tree, unplaced_text, unplaced_node}
+use Rattle.tree_literals.specs.in_names.Node.{content}
+use Rattle.tree_literals.specs.in_names.NameValue.{NameValue}
+use Rattle.tree_literals.specs.in_names.NodeStrValue.{NodeStrValue}
+use Rattle.tree_literals.specs.in_names.declared.node.Node.{Node}
+use Rattle.tree_literals.specs.in_names.Placed.{Placed, Text, name_tree, text_tree, node_tree, unplaced_text, unplaced_node}
 
 -- a claim on each element
 abbrev pub Each : {X : Type 0} → (X → Type 0) → List X → Type 0

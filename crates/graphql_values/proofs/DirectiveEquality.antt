@@ -4,9 +4,9 @@ use Rattle.std.specs.Bool.{Decides}
 use Rattle.std.specs.Cmp.{booleans_Decides}
 use Rattle.std.proofs.lemmas.Slice.Eq.{slice_eq-Decides}
 use denote.Enum.Bare.{same_true, true_same}
-use Rattle.tree_operations.specs.in_literals.in_names.Placed.{text_tree, unplaced_text}
-use Rattle.tree_operations.specs.in_literals.TypeTree.{type_tree, unplaced_type}
-use Rattle.tree_operations.specs.in_literals.ValueTree.{value_tree, unplaced_value}
+use Rattle.tree_literals.specs.in_names.Placed.{text_tree, unplaced_text}
+use Rattle.tree_literals.specs.TypeTree.{type_tree, unplaced_type}
+use Rattle.tree_literals.specs.ValueTree.{value_tree, unplaced_value}
 use Rattle.tree_operations.specs.in_directives.DirectiveTree.{ArgumentTree, DirectiveTree, InputValueTree, DirectiveDefinitionTree, argument_tree, directive_tree, directives_tree, input_value_tree, directive_definition_tree, unplaced_argument, unplaced_directive, unplaced_directives, unplaced_input_value, unplaced_directive_definition}
 use Rattle.graphql_values.proofs.Decided.{through, pair_decides, name_decides, text_decides, node_decides, nodes_decide, options_decide}
 use Rattle.graphql_values.proofs.TypeEquality.{type_eq, type_eq-Decides}

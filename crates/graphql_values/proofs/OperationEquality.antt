@@ -2,9 +2,9 @@
 use Rattle.std.proofs.Common.{◌≡◌, Bool, ap}
 use Rattle.std.specs.Bool.{Decides}
 use denote.Enum.Bare.{same_true, true_same}
-use Rattle.tree_operations.specs.in_literals.in_names.Placed.{name_tree, unplaced_text}
-use Rattle.tree_operations.specs.in_literals.TypeTree.{type_tree, unplaced_type}
-use Rattle.tree_operations.specs.in_literals.ValueTree.{value_tree, unplaced_value}
+use Rattle.tree_literals.specs.in_names.Placed.{name_tree, unplaced_text}
+use Rattle.tree_literals.specs.TypeTree.{type_tree, unplaced_type}
+use Rattle.tree_literals.specs.ValueTree.{value_tree, unplaced_value}
 use Rattle.tree_operations.specs.OperationTree.{VariableDefinitionTree, OperationTree, FragmentTree, variable_definition_tree, operation_tree, fragment_tree, unplaced_variable_definition, unplaced_operation, unplaced_fragment}
 use Rattle.graphql_values.proofs.Decided.{through, pair_decides, name_decides, node_decides, nodes_decide, options_decide}
 use Rattle.graphql_values.proofs.TypeEquality.{type_eq, type_eq-Decides}

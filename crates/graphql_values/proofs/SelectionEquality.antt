@@ -3,8 +3,8 @@ use Rattle.std.proofs.Common.{◌≡◌, Bool, List, [], ◌∷◌, map, refl, a
 use Rattle.std.specs.Bool.{Decides}
 use Rattle.std.specs.Cmp.Lexicographic.{pointwise}
 use Rattle.std.specs.Option.{option_map}
-use Rattle.tree_operations.specs.in_literals.in_names.Node.{content, place}
-use Rattle.tree_operations.specs.in_literals.in_names.Placed.{Place, name_tree, unplaced_text}
+use Rattle.tree_literals.specs.in_names.Node.{content, place}
+use Rattle.tree_literals.specs.in_names.Placed.{Place, name_tree, unplaced_text}
 use Rattle.tree_operations.specs.in_directives.DirectiveTree.{argument_tree, directives_tree, unplaced_argument}
 use Rattle.tree_operations.specs.SelectionTree.{SelectionTree, FieldTree, SpreadTree, InlineTree, SelectionTrees, FieldHead, selection_then, selection_trees, selection_tree, AtPlace, selection_step, field_step, inline_step, unplaced_selection, unplaced_selections}
 use Rattle.tree_operations.specs.SelectionParts.{field_head, field_tree, spread_tree, inline_tree}

@@ -1,2 +1,2 @@
 -- Copies of the members of lists stand for the same.
-pub use Rattle.tree_operations.proofs.in_literals.in_names.Copies.{nodes-copies, equal-copies}
+pub use Rattle.tree_literals.proofs.in_names.Copies.{nodes-copies, equal-copies}

@@ -1,15 +1,15 @@
 -- `==` of two references to types says whether their trees are the same, places aside.
 use Rattle.std.proofs.Common.{◌≡◌, Bool, refl, ap, ◌∙◌, subst}
 use Rattle.std.specs.Bool.{Decides}
-use Rattle.tree_operations.specs.in_literals.in_names.Placed.{Place, name_tree}
-use Rattle.tree_operations.specs.in_literals.TypeTree.{TypeTree, NamedTree, NonNullNamedTree, ListTree, NonNullListTree, type_tree, type_tree_step, unplaced_type}
+use Rattle.tree_literals.specs.in_names.Placed.{Place, name_tree}
+use Rattle.tree_literals.specs.TypeTree.{TypeTree, NamedTree, NonNullNamedTree, ListTree, NonNullListTree, type_tree, type_tree_step, unplaced_type}
 use Rattle.graphql_values.proofs.Decided.{through, carried, name_decides}
-use Rattle.tree_operations.specs.in_literals.declared.ty.«Type».{«Type»}
-use Rattle.tree_operations.specs.in_literals.declared.ty.«Type».TheOpen.{Type-F, Named, NonNullNamed, List, NonNullList}
-use Rattle.tree_operations.specs.in_literals.declared.ty.«Type».TheViews.{out-Type, roll-Type, out-roll-Type, parts_is-Type}
-use Rattle.tree_operations.specs.in_literals.declared.ty.«Type».TheFolds.{map-Type, fold_out-Type, ind-Type}
-use Rattle.tree_operations.specs.in_literals.contracts.ty.TypePartialEq.TheImpl as eq
-use Rattle.tree_operations.specs.in_literals.contracts.ty.TypePartialEq.TheImpl.Laws as eq_laws
+use Rattle.tree_literals.specs.declared.ty.«Type».{«Type»}
+use Rattle.tree_literals.specs.declared.ty.«Type».TheOpen.{Type-F, Named, NonNullNamed, List, NonNullList}
+use Rattle.tree_literals.specs.declared.ty.«Type».TheViews.{out-Type, roll-Type, out-roll-Type, parts_is-Type}
+use Rattle.tree_literals.specs.declared.ty.«Type».TheFolds.{map-Type, fold_out-Type, ind-Type}
+use Rattle.tree_literals.specs.contracts.ty.TypePartialEq.TheImpl as eq
+use Rattle.tree_literals.specs.contracts.ty.TypePartialEq.TheImpl.Laws as eq_laws
 
 abbrev pub type_eq : «Type» → «Type» → Bool
 type_eq = eq.ghosts.eq

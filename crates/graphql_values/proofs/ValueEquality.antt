@@ -5,19 +5,19 @@ use Rattle.std.specs.Cmp.{booleans_Decides}
 use Rattle.std.specs.Cmp.Lexicographic.{pointwise}
 use Rattle.std.specs.String.{string_bytes}
 use Rattle.std.proofs.lemmas.Slice.Eq.{bytes_eq-Decides}
-use Rattle.tree_operations.specs.in_literals.in_names.Node.{content}
-use Rattle.tree_operations.specs.in_literals.in_names.declared.name.Name.{Name}
-use Rattle.tree_operations.specs.in_literals.in_names.declared.node.Node.{Node}
-use Rattle.tree_operations.specs.in_literals.in_names.Placed.{Place, name_tree}
-use Rattle.tree_operations.specs.in_literals.ValueTree.{ValueTree, NullTree, EnumTree, VariableTree, StringTree, FloatTree, IntTree, BooleanTree, ListTree, ObjectTree, item_then, entry_then, item_trees, entry_trees, value_tree, value_tree_step, unplaced_value, unplaced_items, unplaced_entries}
+use Rattle.tree_literals.specs.in_names.Node.{content}
+use Rattle.tree_literals.specs.in_names.declared.name.Name.{Name}
+use Rattle.tree_literals.specs.in_names.declared.node.Node.{Node}
+use Rattle.tree_literals.specs.in_names.Placed.{Place, name_tree}
+use Rattle.tree_literals.specs.ValueTree.{ValueTree, NullTree, EnumTree, VariableTree, StringTree, FloatTree, IntTree, BooleanTree, ListTree, ObjectTree, item_then, entry_then, item_trees, entry_trees, value_tree, value_tree_step, unplaced_value, unplaced_items, unplaced_entries}
 use Rattle.graphql_values.proofs.Decided.{Each, through, carried, pair_decides, name_decides}
-use Rattle.tree_operations.proofs.in_literals.Trees.{item_trees-map, entry_trees-map}
-use Rattle.tree_operations.specs.in_literals.declared.value.Value.{Value}
-use Rattle.tree_operations.specs.in_literals.declared.value.Value.TheOpen.{Value-F, Null, Enum, Variable, String, Float, Int, Boolean, List as ListOf, Object}
-use Rattle.tree_operations.specs.in_literals.declared.value.Value.TheViews.{out-Value, roll-Value, out-roll-Value}
-use Rattle.tree_operations.specs.in_literals.declared.value.Value.TheFolds.{map-Value, fold_out-Value, ind-Value}
-use Rattle.tree_operations.specs.in_literals.contracts.value.ValuePartialEq.TheImpl as eq
-use Rattle.tree_operations.specs.in_literals.contracts.value.ValuePartialEq.TheImpl.Laws as eq_laws
+use Rattle.tree_literals.proofs.Trees.{item_trees-map, entry_trees-map}
+use Rattle.tree_literals.specs.declared.value.Value.{Value}
+use Rattle.tree_literals.specs.declared.value.Value.TheOpen.{Value-F, Null, Enum, Variable, String, Float, Int, Boolean, List as ListOf, Object}
+use Rattle.tree_literals.specs.declared.value.Value.TheViews.{out-Value, roll-Value, out-roll-Value}
+use Rattle.tree_literals.specs.declared.value.Value.TheFolds.{map-Value, fold_out-Value, ind-Value}
+use Rattle.tree_literals.specs.contracts.value.ValuePartialEq.TheImpl as eq
+use Rattle.tree_literals.specs.contracts.value.ValuePartialEq.TheImpl.Laws as eq_laws
 
 abbrev pub value_eq : Value → Value → Bool
 value_eq = eq.ghosts.eq

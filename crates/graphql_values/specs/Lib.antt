@@ -1,7 +1,7 @@
 pub mod Writable
 pub mod OperationQueries
 pub mod TreeLaws
-pub use Rattle.tree_operations.specs.in_literals.in_names.Placed
+pub use Rattle.tree_literals.specs.in_names.Placed
 pub use Rattle.tree_operations.specs.in_literals.Joined
 pub use Rattle.tree_operations.specs.in_literals.Puts
 pub use Rattle.tree_operations.specs.in_literals.Shown
@@ -10,13 +10,13 @@ pub use Rattle.tree_operations.specs.in_literals.EscapeRuns
 pub use Rattle.tree_operations.specs.in_literals.LineLayout
 pub use Rattle.tree_operations.specs.in_literals.StringLayout
 pub use Rattle.tree_operations.specs.in_literals.Serialized
-pub use Rattle.tree_operations.specs.in_literals.NumberSyntax
-pub use Rattle.tree_operations.specs.in_literals.NumberValue
-pub use Rattle.tree_operations.specs.in_literals.TypeTree
-pub use Rattle.tree_operations.specs.in_literals.ValueTree
-pub use Rattle.tree_operations.specs.in_literals.TypeQueries
-pub use Rattle.tree_operations.specs.in_literals.ValueQueries
-pub use Rattle.tree_operations.specs.in_literals.ValueWritable
+pub use Rattle.tree_literals.specs.NumberSyntax
+pub use Rattle.tree_literals.specs.NumberValue
+pub use Rattle.tree_literals.specs.TypeTree
+pub use Rattle.tree_literals.specs.ValueTree
+pub use Rattle.tree_literals.specs.TypeQueries
+pub use Rattle.tree_literals.specs.ValueQueries
+pub use Rattle.tree_literals.specs.ValueWritable
 pub use Rattle.tree_operations.specs.in_directives.DirectiveTree
 pub use Rattle.tree_operations.specs.in_directives.DirectiveQueries
 pub use Rattle.tree_operations.specs.in_directives.DirectiveNodes
@@ -31,6 +31,6 @@ pub use Rattle.tree_operations.specs.OperationTree
 pub use Rattle.tree_operations.specs.OperationLayout
 pub use Rattle.tree_operations.specs.OperationWritable
 pub use Rattle.tree_operations.specs.in_directives as in_directives
-pub use Rattle.tree_operations.specs.in_literals as in_literals
-pub use Rattle.tree_operations.specs.in_literals.in_names as in_names
+pub use Rattle.tree_literals.specs as in_literals
+pub use Rattle.tree_literals.specs.in_names as in_names
 pub use Rattle.tree_operations.specs as in_operations

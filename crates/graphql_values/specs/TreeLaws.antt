@@ -1,9 +1,9 @@
 -- What the laws of the trees say: of types that may stand for each other, and of directives that are written to by name (GraphQL,
 -- October 2021, sections 2.12 and 5.8.5).
 use Rattle.std.specs.Prelude.{◌≡◌, ℕ, List, slice_set}
-use Rattle.tree_operations.specs.in_literals.in_names.declared.node.Node.{Node}
-use Rattle.tree_operations.specs.in_literals.TypeTree.{TypeTree, unplaced_type}
-use Rattle.tree_operations.specs.in_literals.TypeQueries.{AreTypesCompatible}
+use Rattle.tree_literals.specs.in_names.declared.node.Node.{Node}
+use Rattle.tree_literals.specs.TypeTree.{TypeTree, unplaced_type}
+use Rattle.tree_literals.specs.TypeQueries.{AreTypesCompatible}
 use Rattle.tree_operations.specs.in_directives.DirectiveNodes.{node_has_name}
 use Rattle.tree_operations.specs.in_directives.NamedNodes.{nth_place}
 use Rattle.tree_operations.specs.in_directives.declared.directive.Directive.{Directive}

@@ -2,9 +2,9 @@
 //! the list, and `==` is the sameness of two trees whatever their places.
 ghost use Rattle.std.specs.Prelude.{◌≡◌, ◌↔◌, IsTrue, IfOk, None, Some, if◌then◌else◌, filter, is_some, slice_get};
 ghost use Rattle.tree_operations.specs.in_directives.DirectiveNodes.{node_has_name};
-ghost use Rattle.tree_operations.specs.in_literals.TypeTree.{type_tree, unplaced_type};
-ghost use Rattle.tree_operations.specs.in_literals.TypeQueries.{AreTypesCompatible};
-ghost use Rattle.tree_operations.specs.in_literals.ValueTree.{value_tree, unplaced_value};
+ghost use Rattle.tree_literals.specs.TypeTree.{type_tree, unplaced_type};
+ghost use Rattle.tree_literals.specs.TypeQueries.{AreTypesCompatible};
+ghost use Rattle.tree_literals.specs.ValueTree.{value_tree, unplaced_value};
 ghost use Rattle.tree_operations.specs.in_directives.DirectiveTree.{argument_tree, directive_tree, directives_tree, input_value_tree, directive_definition_tree, unplaced_argument, unplaced_directive, unplaced_directives, unplaced_input_value, unplaced_directive_definition};
 ghost use Rattle.tree_operations.specs.SelectionTree.{selection_tree, unplaced_selection};
 ghost use Rattle.tree_operations.specs.SelectionParts.{field_tree, spread_tree, inline_tree};
@@ -12,10 +12,11 @@ ghost use Rattle.tree_operations.specs.OperationTree.{variable_definition_tree, 
 ghost use Rattle.graphql_values.specs.TreeLaws.{AreCompatibleThrough, AreSameBothWays, with_nth_named};
 
 use std::alloc::{AllocError, Global};
+use tree_literals::{IntValue, Node, Type, Value};
 use tree_operations::{
     Argument, Directive, DirectiveDefinition, DirectiveList, Field, FragmentDefinition,
-    FragmentSpread, InlineFragment, InputValueDefinition, IntValue, Node, OperationDefinition,
-    Selection, Type, Value, VariableDefinition, get_named_mut,
+    FragmentSpread, InlineFragment, InputValueDefinition, OperationDefinition, Selection,
+    VariableDefinition, get_named_mut,
 };
 
 /// `is_assignable_to` is reflexive, transitive, and antisymmetric apart from places.

@@ -14,12 +14,14 @@
 pub mod laws;
 mod ty_macro;
 
+pub use tree_literals::{
+    FileId, FloatValue, IntValue, Name, NamedType, Node, NodeStr, SourceSpan, Spent, Type, Value,
+};
 pub use tree_operations::{
     Argument, ArgumentByNameError, Cause, Directive, DirectiveDefinition, DirectiveList,
-    DirectiveLocation, Field, FileId, FloatValue, FragmentDefinition, FragmentSpread,
-    InlineFragment, InputValueDefinition, IntValue, Name, Named, NamedDirectives, NamedType, Node,
-    NodeStr, OperationDefinition, OperationType, Selection, Serialize, SourceSpan, Spent, Tree,
-    Type, Value, VariableDefinition, WriteFault, begins_output, get_named_mut, put_fragment,
+    DirectiveLocation, Field, FragmentDefinition, FragmentSpread, InlineFragment,
+    InputValueDefinition, Named, NamedDirectives, OperationDefinition, OperationType, Selection,
+    Serialize, Tree, VariableDefinition, WriteFault, begins_output, get_named_mut, put_fragment,
     put_operation,
 };
 

@@ -4,4 +4,8 @@ pub mod NumberLemmas
 pub mod IntegerText
 pub mod PrintedValues
 pub mod ValueExamples
-pub use Rattle.tree_strings.proofs.in_names as in_names
+pub mod Times
+pub mod Runs
+pub mod Lines
+pub mod StringExamples
+pub use Rattle.graphql_names.proofs as in_names

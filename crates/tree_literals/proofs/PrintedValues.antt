@@ -1,10 +1,10 @@
 -- The texts of the members of lists and objects, one by one.
-use Rattle.std.proofs.Common.{◌≡◌, ◌≤◌, ℕ, List, [], ◌∷◌, length, take, map, refl, ap}
+use Rattle.std.proofs.Common.{◌≡◌, ◌≤◌, ◌<◌, ◌+◌, arith, codes, ℕ, List, [], ◌∷◌, length, take, map, true, refl, ap}
 use Rattle.std.proofs.lemmas.List.{take_all}
-use Rattle.tree_strings.specs.Joined.{joined, further_text, separated}
-use Rattle.tree_strings.specs.in_names.Node.{content}
-use Rattle.tree_strings.specs.in_names.declared.name.Name.{Name}
-use Rattle.tree_strings.specs.in_names.declared.node.Node.{Node}
+use Rattle.tree_literals.specs.Joined.{joined, further_text, separated}
+use Rattle.graphql_names.specs.Node.{content}
+use Rattle.graphql_names.specs.declared.name.Name.{Name}
+use Rattle.graphql_names.specs.declared.node.Node.{Node}
 use Rattle.tree_literals.specs.ValueTree.{item_trees, entry_trees, value_tree}
 use Rattle.tree_literals.specs.ValueLayout.{value_text, item_texts, entry_texts, named_value_text}
 use Rattle.tree_literals.specs.declared.value.Value.{Value}

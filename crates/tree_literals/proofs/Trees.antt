@@ -4,10 +4,10 @@ use Rattle.std.specs.Prelude.{Vec}
 use Rattle.std.specs.List.{AllZip}
 use Rattle.std.specs.declared.boxed.Box.{Box}
 use Rattle.std.specs.declared.alloc.Global.{Global}
-use Rattle.tree_strings.specs.in_names.Node.{content, place}
-use Rattle.tree_strings.specs.in_names.declared.name.Name.{Name}
-use Rattle.tree_strings.specs.in_names.declared.node.Node.{Node}
-use Rattle.tree_strings.specs.in_names.Placed.{Place, name_tree}
+use Rattle.graphql_names.specs.Node.{content, place}
+use Rattle.graphql_names.specs.declared.name.Name.{Name}
+use Rattle.graphql_names.specs.declared.node.Node.{Node}
+use Rattle.graphql_names.specs.Placed.{Place, name_tree}
 use Rattle.tree_literals.specs.TypeTree.{TypeTree, ListTree as ListTypeTree, NonNullListTree, type_tree, type_tree_step}
 use Rattle.tree_literals.specs.ValueTree.{ValueTree, ListTree, ObjectTree, item_then, entry_then, item_trees, entry_trees, value_tree, value_tree_step}
 use Rattle.tree_literals.specs.declared.ty.«Type».{«Type»}

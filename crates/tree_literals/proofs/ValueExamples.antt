@@ -1,10 +1,10 @@
 -- The layout of small types and values, computed. The texts are written by hand.
-use Rattle.std.proofs.Common.{◌≡◌, ℕ, List, codes, true, refl}
-use Rattle.tree_strings.specs.Joined.{joined}
-use Rattle.tree_strings.specs.in_names.Placed.{Text}
+use Rattle.std.proofs.Common.{◌≡◌, ℕ, List, codes, true, false, refl}
+use Rattle.tree_literals.specs.Joined.{joined}
+use Rattle.graphql_names.specs.Placed.{Text}
 use Rattle.tree_literals.specs.TypeTree.{NamedTree, NonNullNamedTree, NonNullListTree}
 use Rattle.tree_literals.specs.TypeTree as type
-use Rattle.tree_literals.specs.ValueTree.{ValueTree, NullTree, EnumTree, VariableTree, StringTree, FloatTree, BooleanTree, ListTree, ObjectTree, no_items, item_then, no_entries, entry_then}
+use Rattle.tree_literals.specs.ValueTree.{ValueTree, NullTree, EnumTree, VariableTree, StringTree, FloatTree, IntTree, BooleanTree, ListTree, ObjectTree, no_items, item_then, no_entries, entry_then}
 use Rattle.tree_literals.specs.ValueLayout.{type_text, value_text}
 
 abbrev U : Type 0

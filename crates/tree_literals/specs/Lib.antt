@@ -6,14 +6,13 @@ pub mod TypeQueries
 pub mod ValueQueries
 pub mod ValueLayout
 pub mod ValueWritable
+pub use Rattle.graphql_names.specs.Placed
+pub mod Joined
+pub mod Puts
 pub mod Shown
+pub mod Levels
+pub mod LineLayout
+pub mod StringLayout
+pub mod EscapeRuns
 pub mod Serialized
-pub use Rattle.tree_strings.specs.Placed
-pub use Rattle.tree_strings.specs.Joined
-pub use Rattle.tree_strings.specs.Puts
-pub use Rattle.tree_strings.specs.Levels
-pub use Rattle.tree_strings.specs.LineLayout
-pub use Rattle.tree_strings.specs.StringLayout
-pub use Rattle.tree_strings.specs.EscapeRuns
-pub use Rattle.tree_strings.specs.in_names as in_names
-pub use Rattle.tree_strings.specs as in_strings
+pub use Rattle.graphql_names.specs as in_names

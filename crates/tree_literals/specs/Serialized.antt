@@ -2,9 +2,9 @@
 use Rattle.std.specs.Prelude.{ℕ, List, Option}
 use Rattle.std.specs.Io.KnownBytes.{Appends}
 use Rattle.std.specs.Option.{option_copied}
-use Rattle.tree_strings.specs.in_names.declared.device.Device.{Device}
-use Rattle.tree_strings.specs.in_names.Device.{device_inner}
-use Rattle.tree_strings.specs.LineLayout.{Prefix}
+use Rattle.graphql_names.specs.declared.device.Device.{Device}
+use Rattle.graphql_names.specs.Device.{device_inner}
+use Rattle.tree_literals.specs.LineLayout.{Prefix}
 use Rattle.tree_literals.specs.declared.serialize.Serialize.{Serialize}
 
 -- the text of a tree under a layout, by what is the text of such trees

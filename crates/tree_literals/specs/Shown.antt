@@ -3,7 +3,7 @@ use Rattle.std.specs.Prelude.{◌≡◌, ℕ, false, List, [], ◌∷◌, ◌++�
 use Rattle.std.proofs.Common.{◌∙◌, ap, sym, subst, append_assoc}
 use Rattle.std.specs.List.{FoldsTo, concat}
 use Rattle.std.specs.Fmt.{HasWritten, IsPlainFormatter, WritesInCalls}
-use Rattle.tree_strings.specs.Joined.{joined, joined-push}
+use Rattle.tree_literals.specs.Joined.{joined, joined-push}
 use Rattle.tree_literals.specs.declared.shown.Shown.{Shown}
 
 -- the text was written through the same reference, unless it has failed

@@ -1,6 +1,6 @@
 -- Questions about references to types (GraphQL, October 2021, sections 3.11, 3.12 and 5.8.5).
 use Rattle.std.specs.Prelude.{◌≡◌, Bool, true, false}
-use Rattle.tree_strings.specs.in_names.Placed.{Text}
+use Rattle.graphql_names.specs.Placed.{Text}
 use Rattle.tree_literals.specs.TypeTree.{TypeTree, NamedTree, NonNullNamedTree, ListTree, NonNullListTree}
 
 module _ {P : Type 0} where

@@ -1,5 +1,5 @@
 -- References to types (GraphQL, October 2021, section 3.11 and 3.12).
-use Rattle.tree_strings.specs.in_names.Placed.{Place, Text, name_tree, unplaced_text}
+use Rattle.graphql_names.specs.Placed.{Place, Text, name_tree, unplaced_text}
 use Rattle.tree_literals.specs.declared.ty.«Type».{«Type»}
 use Rattle.tree_literals.specs.declared.ty.«Type».TheOpen.{Type-F, Named, NonNullNamed, List, NonNullList}
 use Rattle.tree_literals.specs.declared.ty.«Type».TheFolds.{fold-Type}

@@ -1,11 +1,11 @@
 -- Types and values (GraphQL, October 2021, sections 2.9 and 2.11).
 use Rattle.std.specs.Prelude.{ℕ, Bool, true, false, List, [], ◌∷◌, codes, Option, None, Some}
-use Rattle.tree_strings.specs.Joined.{joined, separated}
-use Rattle.tree_strings.specs.in_names.Placed.{Placed}
+use Rattle.tree_literals.specs.Joined.{joined, separated}
+use Rattle.graphql_names.specs.Placed.{Placed}
 use Rattle.tree_literals.specs.TypeTree.{TypeTree, NamedTree, NonNullNamedTree, ListTree, NonNullListTree}
 use Rattle.tree_literals.specs.ValueTree as value
 use Rattle.tree_literals.specs.ValueTree.{ValueTree, NullTree, EnumTree, VariableTree, StringTree, FloatTree, IntTree, BooleanTree, ObjectTree, ItemTrees, no_items, item_then, EntryTrees, no_entries, entry_then}
-use Rattle.tree_strings.specs.StringLayout.{quoted_text}
+use Rattle.tree_literals.specs.StringLayout.{quoted_text}
 
 abbrev pub type_text : {P : Type 0} → TypeTree P → List ℕ
 type_text (NamedTree n) = n.it

@@ -1,6 +1,6 @@
 -- Questions about values (GraphQL, October 2021, section 2.9).
 use Rattle.std.specs.Prelude.{ℕ, Bool, true, false, List, Option, None, Some, codes}
-use Rattle.tree_strings.specs.in_names.Placed.{Text}
+use Rattle.graphql_names.specs.Placed.{Text}
 use Rattle.tree_literals.specs.ValueTree.{ValueTree, NullTree, EnumTree, VariableTree, StringTree, FloatTree, IntTree, BooleanTree, ListTree, ObjectTree, ItemTrees, EntryTrees}
 
 module _ {P : Type 0} where

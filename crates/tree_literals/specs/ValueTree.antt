@@ -1,10 +1,10 @@
 -- Literal values and variables (GraphQL, October 2021, section 2.9).
 use Rattle.std.specs.Prelude.{ℕ, Bool, List, [], ◌∷◌}
 use Rattle.std.specs.String.{string_bytes}
-use Rattle.tree_strings.specs.in_names.Node.{content, place}
-use Rattle.tree_strings.specs.in_names.declared.name.Name.{Name}
-use Rattle.tree_strings.specs.in_names.declared.node.Node.{Node}
-use Rattle.tree_strings.specs.in_names.Placed.{Place, Text, name_tree, unplaced_text}
+use Rattle.graphql_names.specs.Node.{content, place}
+use Rattle.graphql_names.specs.declared.name.Name.{Name}
+use Rattle.graphql_names.specs.declared.node.Node.{Node}
+use Rattle.graphql_names.specs.Placed.{Place, Text, name_tree, unplaced_text}
 use Rattle.tree_literals.specs.declared.value.Value.{Value}
 use Rattle.tree_literals.specs.declared.value.Value.TheOpen.{Value-F, Null, Enum, Variable, String, Float, Int, Boolean, List as ListOf, Object}
 use Rattle.tree_literals.specs.declared.value.Value.TheFolds.{fold-Value}

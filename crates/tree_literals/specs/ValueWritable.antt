@@ -1,8 +1,8 @@
 -- Types and values that the grammar can write (GraphQL, October 2021, appendix B): what it asks of a tree beside its
 -- form. Names and numbers are well formed by their types.
-use Rattle.std.specs.Prelude.{ℕ, Bool, true, not, ◌&&◌, List, codes, nat_eq, Option, None, Some}
+use Rattle.std.specs.Prelude.{ℕ, Bool, true, false, not, ◌&&◌, List, codes, nat_eq, Option, None, Some}
 use Rattle.std.specs.Cmp.Lexicographic.{pointwise}
-use Rattle.tree_strings.specs.in_names.Placed.{Placed}
+use Rattle.graphql_names.specs.Placed.{Placed}
 use Rattle.tree_literals.specs.TypeTree.{TypeTree, NamedTree, NonNullNamedTree, ListTree as ListTypeTree, NonNullListTree}
 use Rattle.tree_literals.specs.ValueTree.{ValueTree, NullTree, EnumTree, VariableTree, StringTree, FloatTree, IntTree, BooleanTree, ListTree, ObjectTree, ItemTrees, no_items, item_then, EntryTrees, no_entries, entry_then}
 

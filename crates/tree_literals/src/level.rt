@@ -1,5 +1,10 @@
-//! The name of a level for the crates above.
+//! How deep a line stands.
 
-/// How many prefixes stand before a line.
-// An alias, since a re-exported type that holds itself has no name in contracts of a crate that does not list its crate.
-pub type Level<'a> = tree_strings::Level<'a>;
+/// How many prefixes stand before a line. It cannot overflow, since each level inside is a call.
+#[derive(Clone, Copy)]
+pub enum Level<'a> {
+    /// So many, from the start.
+    Outer(usize),
+    /// One more than the level round it.
+    In(&'a Level<'a>),
+}

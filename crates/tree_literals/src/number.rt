@@ -9,14 +9,14 @@ ghost use Rattle.std.specs.String.{string_bytes};
 ghost use Rattle.std.specs.Fmt.{signed_decimal};
 ghost use Rattle.std.specs.Option.{SomeIff};
 ghost use Rattle.std.proofs.Common.{rules};
-ghost use Rattle.tree_strings.specs.in_names.HashedText.{hashed_text};
+ghost use Rattle.graphql_names.specs.HashedText.{hashed_text};
 ghost use Rattle.tree_literals.specs.NumberSyntax.{is_int_value, is_float_value, IsIntValue, IsFloatValue, integer_value};
 
 use crate::number_parts::{digits_len, is_float_tail, is_natural, without_minus};
+use graphql_names::hash_text;
 use std::alloc::{AllocError, Global};
 use std::hash::{Hash, Hasher};
 use std::marker::Model;
-use tree_strings::hash_text;
 
 /// An integer as it is written (section 2.9.1). Contracts see its text, which is one Int token.
 pub struct IntValue {

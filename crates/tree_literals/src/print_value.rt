@@ -1,15 +1,16 @@
 //! Types and values.
 ghost use Rattle.std.specs.Prelude.{◌≡◌, ◌∷◌, ℕ, List, [], codes, None};
 ghost use Rattle.std.specs.Option.{option_map};
-ghost use Rattle.tree_strings.specs.in_names.Placed.{node_tree, Place};
-ghost use Rattle.tree_strings.specs.Joined.{joined, after, separated};
+ghost use Rattle.graphql_names.specs.Placed.{node_tree, Place};
+ghost use Rattle.tree_literals.specs.Joined.{joined, after, separated};
 ghost use Rattle.tree_literals.specs.TypeTree.{type_tree};
 ghost use Rattle.tree_literals.specs.ValueTree.{value_tree, item_trees, entry_trees};
 ghost use Rattle.tree_literals.specs.ValueLayout.{type_text, value_text, item_texts, entry_texts, named_value_text, boolean_text, default_text};
 
 use crate::ty::Type;
 use crate::value::Value;
-use tree_strings::{Name, Node, Sink, put_quoted};
+use crate::{Sink, put_quoted};
+use graphql_names::{Name, Node};
 
 /// A reference to a type. Public for the printers of the crates above.
 #[tactic(auto, using(crate::proofs::Trees::type_tree_rules))]

@@ -1,15 +1,17 @@
 //! A tree's text under a layout, written to a device or displayed.
 ghost use Rattle.std.specs.Prelude.{◌≡◌, ◌≤◌, ◌<◌, ◌^◌, OnOk, IfErr, Some, None, List, ℕ, codes, true, false, take, length};
 ghost use Rattle.std.specs.Option.{option_copied};
-ghost use Rattle.tree_strings.specs.in_names.Device.{device_failed};
-ghost use Rattle.tree_strings.specs.LineLayout.{Prefix, default_prefix};
-ghost use Rattle.tree_strings.specs.Levels.{level_depth};
+ghost use Rattle.graphql_names.specs.Device.{device_failed};
+ghost use Rattle.tree_literals.specs.LineLayout.{Prefix, default_prefix};
+ghost use Rattle.tree_literals.specs.Levels.{level_depth};
 ghost use Rattle.tree_literals.specs.Serialized.{serialized, GainsText};
 
+use crate::level::Level;
 use crate::shown::Shown;
+use crate::sink::{Cause, Printer, Sink, WriteFault};
+use graphql_names::Device;
 use std::fmt;
 use std::io::Write;
-use tree_strings::{Cause, Device, Level, Printer, Sink, WriteFault};
 
 /// A tree that has a text.
 pub trait Tree {

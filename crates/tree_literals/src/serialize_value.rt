@@ -1,16 +1,15 @@
 //! The texts of types and values by themselves.
 ghost use Rattle.std.specs.Prelude.{Some};
-ghost use Rattle.tree_strings.specs.LineLayout.{default_prefix, standing};
+ghost use Rattle.tree_literals.specs.LineLayout.{default_prefix, standing};
 ghost use Rattle.tree_literals.specs.TypeTree.{type_tree};
 ghost use Rattle.tree_literals.specs.ValueTree.{value_tree};
 ghost use Rattle.tree_literals.specs.ValueLayout.{type_text, value_text};
 
 use crate::print_value::{put_type, put_value};
-use crate::serialize::Tree;
 use crate::ty::Type;
 use crate::value::Value;
+use crate::{Level, Sink, Tree, put_start};
 use std::fmt;
-use tree_strings::{Level, Sink, put_start};
 
 impl Tree for Type {
     ghost text = { λ t prefix level. standing prefix level (type_text (type_tree t)) };

@@ -1,10 +1,10 @@
 //! A formatter as a sink.
 ghost use Rattle.std.specs.Prelude.{◌≡◌, ℕ, List, [], ◌∷◌, ◌++◌, IsTrue};
-ghost use Rattle.tree_strings.specs.Joined.{joined};
+ghost use Rattle.tree_literals.specs.Joined.{joined};
 ghost use Rattle.tree_literals.specs.Shown.{PutsShown, PutsShown-none, PutsShown-part, PutsShown-more};
 
+use crate::sink::Sink;
 use std::fmt;
-use tree_strings::Sink;
 
 /// A formatter, and whether it failed.
 #[derive(Drop)]

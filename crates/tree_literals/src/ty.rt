@@ -1,11 +1,11 @@
 //! References to types.
 ghost use Rattle.std.specs.Prelude.{◌≡◌, ◌↔◌, IfOk, IsTrue, not};
-ghost use Rattle.tree_strings.specs.in_names.Placed.{name_tree};
+ghost use Rattle.graphql_names.specs.Placed.{name_tree};
 ghost use Rattle.tree_literals.specs.TypeTree.{ListTree, type_tree};
 ghost use Rattle.tree_literals.specs.TypeQueries.{non_null_type, nullable_type, item_type_of, inner_name, has_mark, is_list_type, AreTypesCompatible};
 
+use graphql_names::Name;
 use std::alloc::{AllocError, Global};
-use tree_strings::Name;
 
 /// The name of a type.
 pub type NamedType = Name;

@@ -2,14 +2,14 @@
 ghost use Rattle.std.specs.Prelude.{◌≡◌, None, MatchOption, FitsSigned};
 ghost use Rattle.std.specs.Int.{w32};
 ghost use Rattle.std.specs.Option.{option_map, option_copied, SomeIff};
-ghost use Rattle.tree_strings.specs.in_names.Placed.{name_tree};
+ghost use Rattle.graphql_names.specs.Placed.{name_tree};
 ghost use Rattle.tree_literals.specs.ValueTree.{NullTree, BooleanTree, value_tree, item_trees, entry_trees};
 ghost use Rattle.tree_literals.specs.ValueQueries.{is_null_value, enum_name, variable_name, string_text, integer_text, boolean_value, list_items, object_entries, value_description};
 ghost use Rattle.tree_literals.specs.NumberSyntax.{integer_value};
 
 use crate::number::{FloatValue, IntValue};
+use graphql_names::{Name, Node};
 use std::alloc::AllocError;
-use tree_strings::{Name, Node};
 
 /// A literal value, or a variable (section 2.9).
 #[derive(PartialEq, Eq, Hash)]

@@ -1,14 +1,14 @@
 //! Whether the grammar can write a type or a value.
 ghost use Rattle.std.specs.Prelude.{◌≡◌, ◌&&◌, Bool, true, false, not};
 ghost use Rattle.std.specs.Option.{option_map};
-ghost use Rattle.tree_strings.specs.in_names.Placed.{node_tree, Place};
+ghost use Rattle.graphql_names.specs.Placed.{node_tree, Place};
 ghost use Rattle.tree_literals.specs.TypeTree.{type_tree};
 ghost use Rattle.tree_literals.specs.ValueTree.{value_tree, item_trees, entry_trees};
 ghost use Rattle.tree_literals.specs.ValueWritable.{can_be_enum, type_writable, value_writable, items_writable, entries_writable, default_writable};
 
 use crate::ty::Type;
 use crate::value::Value;
-use tree_strings::{Name, Node};
+use graphql_names::{Name, Node};
 
 /// No enum value is `true`, `false` or `null` (section 2.9.6).
 pub fn can_be_enum(name: &Name) -> bool

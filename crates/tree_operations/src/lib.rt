@@ -17,7 +17,6 @@ pub use print_operation::{begins_output, put_fragment, put_operation};
 pub use selection::{Field, FragmentSpread, InlineFragment, Selection};
 pub use tree_directives::{
     Argument, ArgumentByNameError, Cause, Directive, DirectiveDefinition, DirectiveList,
-    DirectiveLocation, FileId, FloatValue, InputValueDefinition, IntValue, Name, Named,
-    NamedDirectives, NamedType, Node, NodeStr, OperationType, Serialize, SourceSpan, Spent, Tree,
-    Type, Value, WriteFault, get_named_mut,
+    DirectiveLocation, InputValueDefinition, Named, NamedDirectives, OperationType, Serialize,
+    Tree, WriteFault, get_named_mut,
 };

@@ -1,5 +1,5 @@
-use Rattle.tree_operations.specs.in_literals.TypeTree.{type_tree}
-use Rattle.tree_operations.proofs.in_literals.TypeLaws.{compatible_itself, compatible_through, compatible_both_ways}
+use Rattle.tree_literals.specs.TypeTree.{type_tree}
+use Rattle.tree_literals.proofs.TypeLaws.{compatible_itself, compatible_through, compatible_both_ways}
 use Rattle.graphql_values.proofs.laws.assignable_types_are_ordered.Goals as goal
 
 pub returns : goal.returns

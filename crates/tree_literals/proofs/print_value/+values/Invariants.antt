@@ -1,7 +1,7 @@
 use Rattle.std.proofs.Common.{map, take, codes}
-use Rattle.tree_strings.specs.in_names.Node.{content}
+use Rattle.graphql_names.specs.Node.{content}
 use Rattle.tree_literals.specs.ValueTree.{value_tree}
-use Rattle.tree_strings.specs.Joined.{further_text}
+use Rattle.tree_literals.specs.Joined.{further_text}
 use Rattle.tree_literals.specs.ValueLayout.{value_text, named_value_text}
 use Rattle.tree_literals.proofs.print_value.+values.Given as goal
 
