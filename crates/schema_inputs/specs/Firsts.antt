@@ -1,4 +1,4 @@
--- Private: leads to `TypeBreaks`, `GivenBreaks` and `TakerBreaks`. What a map has under each name, of a list in which names may stand again: what is told of the first of the name.
+-- What a map has under each name, of a list in which names may stand again: what is told of the first of the name.
 use Rattle.std.specs.Prelude.{◌≡◌, ℕ, suc, List, [], ◌∷◌, bytes_eq, Option, None, Some, if◌then◌else◌}
 use Rattle.indexmap.specs.IndexMap.{IndexMap, get}
 use Rattle.graphql_names.specs.NameValue.{NameValue}
