@@ -19,7 +19,8 @@ use Rattle.rule_same_values.specs.in_definitions.in_schema_types.Addresses.{unde
 use Rattle.rule_same_values.proofs.in_definitions.Lists.{not_in_nil, Contains-first, only, mapped_some}
 use Rattle.rule_same_values.specs.in_document_definitions.Selected.{InOperation, StandingField}
 use Rattle.rule_same_values.specs.in_document_definitions.Reached.{Closed, first, next}
-use Rattle.rule_same_values.specs.in_document_definitions.Written.{fields_written, spreads_written, SpreadsSet, IsSetFrom, HasContent}
+use Rattle.rule_same_values.specs.in_document_definitions.Written.{spreads_written}
+use Rattle.rule_same_values.proofs.in_document_definitions.FieldsWritten.{fields_written, SpreadsSet, IsSetFrom, HasContent}
 use Rattle.rule_same_values.specs.in_document_definitions.PlainFields.{IsSelected}
 use Rattle.rule_same_values.specs.in_document_definitions.ReadFields.{ReadField, ReadSet, listed, fields_read, fields_in, spreads_in, field_read, list_read}
 use Rattle.rule_same_values.proofs.in_document_definitions.Unplaced.{contains_map, contains_unmap, closed_map, closed_unmap}

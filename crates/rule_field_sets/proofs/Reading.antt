@@ -9,7 +9,8 @@ use Rattle.document_typed_selections.specs.declared.selection.SelectionSet.{Sele
 use Rattle.document_walks.specs.Reached.{Member, members_of, members_in, members_along, selections_of, selections_in, selections_along, spread_names}
 use Rattle.rule_document_definitions.specs.in_document_meaning.MeantTree.{meant, meant_of_set, meant_of_all}
 use Rattle.rule_document_definitions.specs.Selected.{HasNone}
-use Rattle.rule_document_definitions.specs.Written.{Written, written_at, written_in, written_along, field_written, spread_written, fields_written, spreads_written}
+use Rattle.rule_document_definitions.specs.Written.{Written, written_at, written_in, written_along, spread_written, spreads_written}
+use Rattle.rule_document_definitions.proofs.FieldsWritten.{field_written, fields_written}
 use Rattle.rule_document_definitions.specs.ReadFields.{listed, fields_read, field_read, set_read, list_read}
 use Rattle.rule_document_definitions.proofs.ReadFacts.{flat_map-append, read_written, listed_read, nothing_read_of}
 use Rattle.rule_document_ground.specs.Fields.{fields_of}

@@ -1,4 +1,4 @@
--- Private: leads to the numbers of sets (GraphQL, October 2021, section 5.3.2). The sets that are found within a set, and the places
+-- The sets (GraphQL, October 2021, section 5.3.2) that are found within a set, and the places
 -- of fragments.
 use Rattle.std.specs.Prelude.{◌≡◌, ◌<◌, ℕ, false, List, map, flat_map, Option, Some, MatchOption, IsSome, Contains, slice_get}
 use Rattle.std.specs.List.{position}

@@ -9,7 +9,8 @@ use Rattle.rule_definitions.specs.in_schema_types.Addresses.{under}
 use Rattle.rule_definitions.proofs.Lists.{not_in_nil, Contains-cons, Contains-first, only, found_in, given_in}
 use Rattle.rule_document_definitions.specs.in_document_meaning.in_components.Names.{Entries}
 use Rattle.rule_document_definitions.specs.Reached.{first, next}
-use Rattle.rule_document_definitions.specs.Written.{Written, written_at, written_in, written_along, field_written, spread_written, fields_written}
+use Rattle.rule_document_definitions.specs.Written.{Written, written_at, written_in, written_along, spread_written}
+use Rattle.rule_document_definitions.proofs.FieldsWritten.{field_written, fields_written}
 use Rattle.rule_document_definitions.specs.ReadFields.{ReadField, ReadSet, nothing_read, fields_in, set_read, field_read, SpreadsRead, IsReadFrom, SelectsRead}
 use Rattle.rule_document_definitions.proofs.Unplaced.{contains_map, contains_unmap}
 use Rattle.rule_document_definitions.proofs.ReadFacts.{fields_of_read, spreads_of_read}

@@ -83,7 +83,7 @@ module _ (s : Judged) (d : MeantDocument Place) (o : MeantOperation Place) (old 
 
   -- where nothing is told, what was examined for shapes is settled, with what the operation has alone, and has what the operation starts with
   pub settled_closed : (was : Bool) → ∥ AreSettledIf s d was old ∥₁ → IsTrue was → (brokens_of told ≡ []) × (left ≡ false)
-      → ∥ (lone : List ReadField) × AreClosed s d o (with_alone (lists_examined new) lone) ∥₁
+      → ∥ ((lone : List ReadField) × AreClosed s d o (with_alone (lists_examined new) lone)) ∥₁
   settled_closed was settled clean none = ∥∥₁_map settled (λ h. let r = examined.1.1.settled (sym is_added ∙ none.0) none.1 (h clean) in closed_with_alone s d o new r.0.0.fields r.1.0)
 
   -- and where nothing is told the fields merge: no rule can fail

@@ -1,4 +1,4 @@
--- Private: leads to `pairs_kept` of `specs/NumberPairs.antt` and `numbers_in` of `specs/NumberSet.antt`. A set of numbers that is kept as bits.
+-- A set of numbers that is kept as bits: `NumberPairs` and `NumberSet` are made of these.
 use Rattle.std.specs.Prelude.{◌≡◌, ◌≢◌, ◌++◌, ℕ, ◌/◌, ◌%◌, ◌==◌, Bool, true, not, List, get_or, replicate}
 use Rattle.std.specs.List.{filter, range_with_len}
 use Rattle.std.specs.Int.{bit_at}

@@ -1,7 +1,7 @@
 -- What can be asked of the arguments of a field's definition (GraphQL, October 2021, section 3.6).
 use Rattle.std.specs.Prelude.{ℕ, List, [], ◌∷◌, Option, Some, None, if◌then◌else◌}
 use Rattle.std.specs.Str.{bytes_eq}
-use Rattle.tree_directives.specs.in_literals.in_names.Placed.{Placed}
+use Rattle.tree_literals.specs.in_names.Placed.{Placed}
 use Rattle.tree_directives.specs.DirectiveTree.{InputValueTree, InputValues}
 
 -- the first argument of that name

@@ -2,8 +2,8 @@
 -- what it asks of them beside their form.
 use Rattle.std.specs.Prelude.{Bool, not, ◌&&◌, ◌||◌, true, List}
 use Rattle.std.specs.List.{list_all}
-use Rattle.tree_directives.specs.in_literals.in_names.Placed.{Placed}
-use Rattle.tree_directives.specs.in_literals.ValueWritable.{can_be_enum}
+use Rattle.tree_literals.specs.in_names.Placed.{Placed}
+use Rattle.tree_literals.specs.ValueWritable.{can_be_enum}
 use Rattle.tree_directives.specs.DirectiveWritable.{is_none_of, directives_writable, input_values_writable}
 use Rattle.tree_type_members.specs.TypeSystemTree.{FieldDefinitionTree, EnumValueTree, SchemaParts, ScalarParts, FieldsParts, UnionParts, EnumParts, InputObjectParts}
 

@@ -1,8 +1,8 @@
 -- Private: leads to `fields_text` and `enum_text`. What printers of members write on the way.
 use Rattle.std.specs.Prelude.{ℕ, List, map}
-use Rattle.tree_directives.specs.in_literals.in_names.Placed.{node_tree}
-use Rattle.tree_directives.specs.in_literals.in_names.declared.node.Node.{Node}
-use Rattle.tree_directives.specs.in_literals.LineLayout.{Prefix, member_text, members_text, texts_of}
+use Rattle.tree_literals.specs.in_names.Placed.{node_tree}
+use Rattle.tree_literals.specs.in_names.declared.node.Node.{Node}
+use Rattle.tree_literals.specs.LineLayout.{Prefix, member_text, members_text, texts_of}
 use Rattle.tree_type_members.specs.TypeSystemTree.{field_definition_tree, enum_value_tree}
 use Rattle.tree_type_members.specs.TypeSystemLayout.{field_definition_text, enum_value_text}
 use Rattle.tree_type_members.specs.declared.field_definition.FieldDefinition.{FieldDefinition}

@@ -1,13 +1,13 @@
 -- Type system definitions and their extensions (GraphQL, October 2021, section 3).
 use Rattle.std.specs.Prelude.{ℕ, List, [], ◌∷◌, map, codes}
-use Rattle.tree_directives.specs.in_literals.in_names.Placed.{Text}
+use Rattle.tree_literals.specs.in_names.Placed.{Text}
 use Rattle.tree_directives.specs.DirectiveTree.{Directives}
-use Rattle.tree_directives.specs.in_literals.Joined.{joined, further_text}
-use Rattle.tree_directives.specs.in_literals.LineLayout.{Prefix, Leveled, set_text}
-use Rattle.tree_directives.specs.in_literals.StringLayout.{description_text}
-use Rattle.tree_directives.specs.in_literals.ValueLayout.{type_text}
+use Rattle.tree_literals.specs.Joined.{joined, further_text}
+use Rattle.tree_literals.specs.LineLayout.{Prefix, Leveled, set_text}
+use Rattle.tree_literals.specs.StringLayout.{description_text}
+use Rattle.tree_literals.specs.ValueLayout.{type_text}
 use Rattle.tree_directives.specs.DirectiveLayout.{directives_text}
-use Rattle.tree_directives.specs.in_literals.LineLayout.{texts_of}
+use Rattle.tree_literals.specs.LineLayout.{texts_of}
 use Rattle.tree_directives.specs.InputLayout.{input_value_text, argument_definitions_text}
 use Rattle.tree_directives.specs.OperationQueries.{operation_keyword}
 use Rattle.tree_type_members.specs.TypeSystemTree.{FieldDefinitionTree, EnumValueTree, RootOperationTree, SchemaParts, ScalarParts, FieldsParts, UnionParts, EnumParts, InputObjectParts}

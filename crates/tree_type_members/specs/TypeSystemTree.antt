@@ -1,8 +1,8 @@
 -- The parts of type system definitions and of their extensions (GraphQL, October 2021, section 3).
 use Rattle.std.specs.Prelude.{List, map, Option}
 use Rattle.std.specs.Option.{option_map}
-use Rattle.tree_directives.specs.in_literals.in_names.Placed.{Placed, Place, Text, name_tree, text_tree, node_tree, unplaced_text, unplaced_node}
-use Rattle.tree_directives.specs.in_literals.TypeTree.{TypeTree, type_tree, unplaced_type}
+use Rattle.tree_literals.specs.in_names.Placed.{Placed, Place, Text, name_tree, text_tree, node_tree, unplaced_text, unplaced_node}
+use Rattle.tree_literals.specs.TypeTree.{TypeTree, type_tree, unplaced_type}
 use Rattle.tree_directives.specs.DirectiveTree.{Directives, InputValues, directives_tree, input_value_tree, unplaced_directives, unplaced_input_value}
 use Rattle.tree_directives.specs.declared.operation_type.OperationType.{OperationType}
 use Rattle.tree_type_members.specs.declared.field_definition.FieldDefinition.{FieldDefinition}

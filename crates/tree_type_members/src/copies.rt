@@ -1,11 +1,12 @@
 //! Copies of parts of definitions.
 ghost use Rattle.std.specs.Prelude.{◌≡◌, IfOk};
 ghost use Rattle.std.specs.Option.{option_map};
-ghost use Rattle.tree_directives.specs.in_literals.in_names.Placed.{name_tree, text_tree};
+ghost use Rattle.tree_literals.specs.in_names.Placed.{name_tree, text_tree};
 ghost use Rattle.tree_directives.specs.DirectiveTree.{directives_tree};
 
 use std::alloc::AllocError;
-use tree_directives::{DirectiveList, Name, NodeStr};
+use tree_directives::DirectiveList;
+use tree_literals::{Name, NodeStr};
 
 /// The same description, with its place. No text is copied. For the crates of definitions above.
 pub fn clone_description(description: &Option<NodeStr>) -> Result<Option<NodeStr>, AllocError>

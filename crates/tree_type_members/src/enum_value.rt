@@ -4,7 +4,8 @@ ghost use Rattle.tree_type_members.specs.TypeSystemTree.{enum_value_tree};
 
 use crate::copies::clone_described;
 use std::alloc::AllocError;
-use tree_directives::{DirectiveList, Name, NodeStr};
+use tree_directives::DirectiveList;
+use tree_literals::{Name, NodeStr};
 
 /// `value @directives` (section 3.9).
 #[derive(PartialEq, Eq, Hash)]

@@ -1,15 +1,16 @@
 //! The fields of objects and interfaces.
 ghost use Rattle.std.specs.Prelude.{◌≡◌, IfOk};
 ghost use Rattle.std.specs.Option.{option_map};
-ghost use Rattle.tree_directives.specs.in_literals.in_names.Placed.{node_tree};
-ghost use Rattle.tree_directives.specs.in_literals.TypeTree.{type_tree};
+ghost use Rattle.tree_literals.specs.in_names.Placed.{node_tree};
+ghost use Rattle.tree_literals.specs.TypeTree.{type_tree};
 ghost use Rattle.tree_directives.specs.DirectiveTree.{input_value_tree, input_value_trees};
 ghost use Rattle.tree_type_members.specs.TypeSystemTree.{field_definition_tree};
 ghost use Rattle.tree_type_members.specs.ArgumentQueries.{argument_named};
 
 use crate::copies::clone_described;
 use std::alloc::AllocError;
-use tree_directives::{DirectiveList, InputValueDefinition, Name, Node, NodeStr, Type};
+use tree_directives::{DirectiveList, InputValueDefinition};
+use tree_literals::{Name, Node, NodeStr, Type};
 
 /// `name(arguments): ty @directives` (section 3.6).
 #[derive(PartialEq, Eq, Hash)]

@@ -21,10 +21,10 @@ pub use field_definition::FieldDefinition;
 pub use print_members::{put_field_set, put_input_set, put_value_set};
 pub use print_names::{put_head, put_names};
 pub use tree_directives::{
-    DirectiveList, InputValueDefinition, Name, NamedType, Node, NodeStr, OperationType,
-    directives_are_writable, input_values_are_writable, put_directive_definition, put_directives,
-    put_keyword,
+    DirectiveList, InputValueDefinition, OperationType, directives_are_writable,
+    input_values_are_writable, put_directive_definition, put_directives, put_keyword,
 };
+pub use tree_literals::{Name, NamedType, Node, NodeStr};
 pub use writable::{fields_are_writable, values_are_writable};
 
 // Of the crates beneath, for those above.

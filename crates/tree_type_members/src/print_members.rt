@@ -1,11 +1,11 @@
 //! Fields, enum values and input values, and the braces round them.
 ghost use Rattle.std.specs.Prelude.{map};
 ghost use Rattle.std.specs.Option.{option_copied};
-ghost use Rattle.tree_directives.specs.in_literals.in_names.Placed.{node_tree};
+ghost use Rattle.tree_literals.specs.in_names.Placed.{node_tree};
 ghost use Rattle.tree_directives.specs.DirectiveTree.{input_value_tree};
-ghost use Rattle.tree_directives.specs.in_literals.Levels.{level_depth};
-ghost use Rattle.tree_directives.specs.in_literals.LineLayout.{set_text};
-ghost use Rattle.tree_directives.specs.in_literals.LineLayout.{texts_of};
+ghost use Rattle.tree_literals.specs.Levels.{level_depth};
+ghost use Rattle.tree_literals.specs.LineLayout.{set_text};
+ghost use Rattle.tree_literals.specs.LineLayout.{texts_of};
 ghost use Rattle.tree_directives.specs.InputLayout.{input_value_text};
 ghost use Rattle.tree_type_members.specs.TypeSystemTree.{field_definition_tree, enum_value_tree};
 ghost use Rattle.tree_type_members.specs.TypeSystemLayout.{undescribed_field_text, field_definition_text, enum_value_text};
@@ -14,9 +14,9 @@ ghost use Rattle.tree_type_members.specs.Printed.{field_member_text, field_membe
 use crate::enum_value::EnumValueDefinition;
 use crate::field_definition::FieldDefinition;
 use tree_directives::{
-    InputValueDefinition, Level, Node, Sink, put_argument_definitions, put_break, put_description,
-    put_directives, put_input_members, put_type,
+    InputValueDefinition, put_argument_definitions, put_directives, put_input_members,
 };
+use tree_literals::{Level, Node, Sink, put_break, put_description, put_type};
 
 fn put_undescribed_field<S: Sink>(
     sink: &mut S,

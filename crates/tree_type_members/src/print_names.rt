@@ -1,11 +1,12 @@
 //! Names, and the heads of definitions.
 ghost use Rattle.std.specs.Prelude.{map};
-ghost use Rattle.tree_directives.specs.in_literals.in_names.Placed.{name_tree};
+ghost use Rattle.tree_literals.specs.in_names.Placed.{name_tree};
 ghost use Rattle.tree_directives.specs.DirectiveTree.{directives_tree};
-ghost use Rattle.tree_directives.specs.in_literals.Joined.{after, further_text};
+ghost use Rattle.tree_literals.specs.Joined.{after, further_text};
 ghost use Rattle.tree_type_members.specs.TypeSystemLayout.{name_text, names_text, head_text};
 
-use tree_directives::{DirectiveList, Name, NamedType, Sink, put_directives};
+use tree_directives::{DirectiveList, put_directives};
+use tree_literals::{Name, NamedType, Sink};
 
 fn put_next_name<S: Sink>(sink: &mut S, sign: &str, name: &Name)
     ensures { S.puts sink.old (after sign.now (name_text (name_tree name.now))) sink.new }

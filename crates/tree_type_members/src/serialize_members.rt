@@ -1,6 +1,6 @@
 //! The texts of fields and of enum values by themselves.
 ghost use Rattle.std.specs.Prelude.{Some};
-ghost use Rattle.tree_directives.specs.in_literals.LineLayout.{default_prefix, standing};
+ghost use Rattle.tree_literals.specs.LineLayout.{default_prefix, standing};
 ghost use Rattle.tree_type_members.specs.TypeSystemTree.{field_definition_tree, enum_value_tree};
 ghost use Rattle.tree_type_members.specs.TypeSystemLayout.{field_definition_text, enum_value_text};
 
@@ -8,7 +8,7 @@ use crate::enum_value::EnumValueDefinition;
 use crate::field_definition::FieldDefinition;
 use crate::print_members::{put_enum_value, put_field_definition};
 use std::fmt;
-use tree_directives::{Level, Sink, Tree, put_start};
+use tree_literals::{Level, Sink, Tree, put_start};
 
 impl Tree for FieldDefinition {
     ghost text = { λ t prefix level. standing prefix level (field_definition_text prefix (field_definition_tree t) level) };

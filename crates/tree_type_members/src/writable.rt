@@ -1,12 +1,13 @@
 //! Whether the grammar can write fields and enum values.
 ghost use Rattle.std.specs.Prelude.{◌≡◌, map};
-ghost use Rattle.tree_directives.specs.in_literals.in_names.Placed.{node_tree};
+ghost use Rattle.tree_literals.specs.in_names.Placed.{node_tree};
 ghost use Rattle.tree_type_members.specs.TypeSystemTree.{field_definition_tree, enum_value_tree};
 ghost use Rattle.tree_type_members.specs.PartsWritable.{field_definition_writable, field_definitions_writable, enum_value_writable, enum_values_writable};
 
 use crate::enum_value::EnumValueDefinition;
 use crate::field_definition::FieldDefinition;
-use tree_directives::{Node, can_be_enum, directives_are_writable, input_values_are_writable};
+use tree_directives::{directives_are_writable, input_values_are_writable};
+use tree_literals::{Node, can_be_enum};
 
 /// Whether the grammar can write each of the fields. For the crates of definitions above.
 pub fn fields_are_writable(fields: &[Node<FieldDefinition>]) -> bool

@@ -1,5 +1,5 @@
 use Rattle.tree_directives.specs.DirectiveTree.{input_value_tree}
-use Rattle.tree_directives.proofs.in_literals.in_names.Copies.{nodes-copies}
+use Rattle.tree_literals.proofs.in_names.Copies.{nodes-copies}
 use Rattle.tree_type_members.proofs.field_definition.clone_signature.Goals as goal
 
 pub returns : goal.returns

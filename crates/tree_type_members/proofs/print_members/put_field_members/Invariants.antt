@@ -1,9 +1,9 @@
 use Rattle.std.proofs.Common.{map, take}
 use Rattle.std.specs.Option.{option_copied}
-use Rattle.tree_directives.specs.in_literals.in_names.Placed.{node_tree}
-use Rattle.tree_directives.specs.in_literals.Levels.{level_depth}
-use Rattle.tree_directives.specs.in_literals.LineLayout.{members_text}
-use Rattle.tree_directives.specs.in_literals.LineLayout.{texts_of}
+use Rattle.tree_literals.specs.in_names.Placed.{node_tree}
+use Rattle.tree_literals.specs.Levels.{level_depth}
+use Rattle.tree_literals.specs.LineLayout.{members_text}
+use Rattle.tree_literals.specs.LineLayout.{texts_of}
 use Rattle.tree_type_members.specs.TypeSystemTree.{field_definition_tree}
 use Rattle.tree_type_members.specs.TypeSystemLayout.{field_definition_text}
 use Rattle.tree_type_members.proofs.print_members.put_field_members.Given as goal

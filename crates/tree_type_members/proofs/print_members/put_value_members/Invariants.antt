@@ -1,9 +1,9 @@
 use Rattle.std.proofs.Common.{map, take}
 use Rattle.std.specs.Option.{option_copied}
-use Rattle.tree_directives.specs.in_literals.in_names.Placed.{node_tree}
-use Rattle.tree_directives.specs.in_literals.Levels.{level_depth}
-use Rattle.tree_directives.specs.in_literals.LineLayout.{members_text}
-use Rattle.tree_directives.specs.in_literals.LineLayout.{texts_of}
+use Rattle.tree_literals.specs.in_names.Placed.{node_tree}
+use Rattle.tree_literals.specs.Levels.{level_depth}
+use Rattle.tree_literals.specs.LineLayout.{members_text}
+use Rattle.tree_literals.specs.LineLayout.{texts_of}
 use Rattle.tree_type_members.specs.TypeSystemTree.{enum_value_tree}
 use Rattle.tree_type_members.specs.TypeSystemLayout.{enum_value_text}
 use Rattle.tree_type_members.proofs.print_members.put_value_members.Given as goal

@@ -1,6 +1,6 @@
 use Rattle.std.proofs.Common.{map, take}
-use Rattle.tree_directives.specs.in_literals.in_names.Placed.{name_tree}
-use Rattle.tree_directives.specs.in_literals.Joined.{further_text}
+use Rattle.tree_literals.specs.in_names.Placed.{name_tree}
+use Rattle.tree_literals.specs.Joined.{further_text}
 use Rattle.tree_type_members.specs.TypeSystemLayout.{name_text}
 use Rattle.tree_type_members.proofs.print_names.put_further_names.Given as goal
 

@@ -1,5 +1,5 @@
 use Rattle.std.proofs.Common.{◌≡◌, map, drop}
-use Rattle.tree_directives.specs.in_literals.in_names.Placed.{node_tree}
+use Rattle.tree_literals.specs.in_names.Placed.{node_tree}
 use Rattle.tree_type_members.specs.TypeSystemTree.{field_definition_tree}
 use Rattle.tree_type_members.specs.PartsWritable.{field_definitions_writable}
 use Rattle.tree_type_members.proofs.writable.fields_are_writable.Given as goal

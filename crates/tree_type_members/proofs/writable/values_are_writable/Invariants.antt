@@ -1,5 +1,5 @@
 use Rattle.std.proofs.Common.{◌≡◌, map, drop}
-use Rattle.tree_directives.specs.in_literals.in_names.Placed.{node_tree}
+use Rattle.tree_literals.specs.in_names.Placed.{node_tree}
 use Rattle.tree_type_members.specs.TypeSystemTree.{enum_value_tree}
 use Rattle.tree_type_members.specs.PartsWritable.{enum_values_writable}
 use Rattle.tree_type_members.proofs.writable.values_are_writable.Given as goal

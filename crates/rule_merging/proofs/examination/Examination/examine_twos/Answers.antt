@@ -31,10 +31,10 @@ pairs_listed d os sets front v twos are within listed = part_listed d os sets (e
 
 -- the next node
 module _ (e : Examination) (xs : List ℕ) (i : ℕ) (h : i < length xs) (seen seen' : List ℕ) (was : seen ≡ take i xs) (pushed : seen' ≡ seen ++ get_or xs i 0 ∷ []) where
-  node : ℕ
+  abbrev node : ℕ
   node = get_or xs i 0
 
-  front : Sets
+  abbrev front : Sets
   front = meant_sets (sets_of e) (take i xs)
 
   is : node ≡ get_or xs i node

@@ -1,5 +1,5 @@
 use Rattle.std.proofs.Common.{◌≡◌, map, drop}
-use Rattle.tree_directives.specs.in_literals.in_names.Placed.{node_tree}
+use Rattle.tree_literals.specs.in_names.Placed.{node_tree}
 use Rattle.tree_directives.specs.DirectiveTree.{input_value_tree}
 use Rattle.tree_type_members.specs.TypeSystemTree.{field_definition_tree}
 use Rattle.tree_type_members.specs.ArgumentQueries.{argument_named}
