@@ -1,5 +1,5 @@
 -- Fields that are written in a set, and in the sets to which spreads lead.
-use Rattle.std.specs.Prelude.{◌≡◌, ℕ, List, flat_map, Some, option_map, option_to_list, Contains}
+use Rattle.std.specs.Prelude.{◌≡◌, ℕ, List, flat_map, None, Some, option_map, option_to_list, Contains}
 use Rattle.document_meaning.specs.in_components.Names.{Entries}
 use Rattle.document_meaning.specs.MeantTree.{MeantSet, MeantFragment, MeantDocument}
 use Rattle.rule_definitions.specs.in_schema_types.Addresses.{under}
