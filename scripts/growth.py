@@ -56,9 +56,7 @@ class Known(NamedTuple):
 
 # The families that are known to be worse than wanted.
 KNOWN = {
-    "repeat": Known(factor=3.1),
-    "pairs": Known(megabytes=116),
-    "tower": Known(factor=2.4),
+    "tower": Known(factor=2.7),
     "dag": Known(factor=3.1),
     "apply": Known(factor=3.5),
     "args": Known(factor=2.8),
