@@ -2,7 +2,7 @@
 """Whether want of memory is told at each allocation: refused.py [--sample N] [--jobs N] [--states] [PROGRAM [WORD]]
 
 PROGRAM is the built program of `graphql_checked_program`; without it the proved one that `rt ci` or `rt run` leaves in its `out/`. It is
-run on pairs of row files of `row_checker`, each time with one request for memory refused, and with all from one on, by a few lines of C
+run on rows of the whole checker (CALLS), each time with one request for memory refused, and with all from one on, by a few lines of C
 that are built by `cc` into a folder that is removed again and stand before the C library (LD_PRELOAD). Of the rows of WHOLE every
 request is refused in turn, both ways; of each other row N of them (12), spread evenly, the one way and the other in turn; of a
 row with several documents or limits the first that the program's words can name. With WORD only rows whose names have it are tried.
@@ -35,6 +35,9 @@ TOP = os.path.dirname(os.path.dirname(os.path.abspath(__file__)))
 DATA = os.path.join(TOP, "crates/row_checker/data")
 PROGRAM = os.path.join(TOP, "crates/graphql_checked_program/out/graphql_checked_program")
 ROW_PROGRAM = os.path.join(TOP, "crates/row_checker/out/row_checker")
+
+# The calls of the whole checker.
+CALLS = {"check_texts", "calls", "lent", "run", "all", "back", "series"}
 
 # The worked rows of which every request is refused: a field, extensions, merging, a block string, a fault.
 WHOLE = [
@@ -299,7 +302,8 @@ def chosen(program, shim, folder, word, is_states):
     """The runs to be tried of each row. Rows without a text or a limit that the program can take are left out."""
     for number, row in enumerate(rows()):
         words, room = row.words(), os.path.join(folder, str(number))
-        if word not in row.name or words is None or not row.values("document") or not row.values("schema"):
+        is_checked = CALLS.intersection(row.values("call")) and row.values("document") and row.values("schema")
+        if not is_checked or words is None or word not in row.name:
             continue
         if not is_states:
             yield Pair(program, shim, room, row, words)

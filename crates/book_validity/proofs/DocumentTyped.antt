@@ -12,10 +12,10 @@ use Rattle.schema_components.specs.Lists.{StandsAfter, has_name}
 use Rattle.schema_components.proofs.Firsts.{has_name-firsts}
 use Rattle.rule_definitions.proofs.Lists.{not_in_nil, Contains-cons, Contains-first, only, is_only, found_in, given_in, index_given}
 use Rattle.rule_definitions.proofs.Lookups.{among_found, among_given}
-use Rattle.rule_document_ground.specs.in_typing.Meanings.{Meanings}
-use Rattle.rule_document_ground.specs.in_typing.KeptDocument.{Based, based_operation, anonymous_here, named_here, fragment_here, text_or_empty, operation_name, fragment_name, kept_anonymous, kept_named, kept_operations, kept_fragments, is_operation}
-use Rattle.rule_document_ground.specs.in_typing.TypingFaults.{TypingFault, DefinitionBreaks, type_system_definition, ambiguous_anonymous_operation, operation_name_collision, fragment_name_collision, undefined_root_operation, undefined_type_in_named_fragment_type_condition, in_definition, in_operation, in_named_fragment, TypingRules}
-use Rattle.rule_document_ground.proofs.in_typing.DocumentFailures.{one-anonymous, one-named, one-fragment, first-found, first-given, kept-found, kept-given}
+use Rattle.verdict_definitions.specs.in_typing.Meanings.{Meanings}
+use Rattle.verdict_definitions.specs.in_typing.KeptDocument.{Based, based_operation, anonymous_here, named_here, fragment_here, text_or_empty, operation_name, fragment_name, kept_anonymous, kept_named, kept_operations, kept_fragments, is_operation}
+use Rattle.verdict_definitions.specs.in_typing.TypingFaults.{TypingFault, DefinitionBreaks, type_system_definition, ambiguous_anonymous_operation, operation_name_collision, fragment_name_collision, undefined_root_operation, undefined_type_in_named_fragment_type_condition, in_definition, in_operation, in_named_fragment, TypingRules}
+use Rattle.rule_selections.proofs.in_typing.DocumentFailures.{one-anonymous, one-named, one-fragment, first-found, first-given, kept-found, kept-given}
 use Rattle.book_validity.specs.Typing.{AreTyped, operation_names, fragment_names, IsTypedOperation, IsTypedFragment, IsTypedDefinition, IsTypedDocument}
 use Rattle.book_validity.specs.Laws.{TypedByTheBook}
 use Rattle.book_validity.proofs.Naming.{is_there, there, is_true}

@@ -21,8 +21,8 @@ use Rattle.schema_fold.specs.Made.{IsOfKind}
 use Rattle.schema_fold.specs.Fold.{fold, folded_type}
 use Rattle.schema_fold.proofs.OfKind.{folded_of_kind}
 use Rattle.schema_fold_types.proofs.Named.{find_firsts}
-use Rattle.rule_document_ground.specs.in_typing.Meanings.{meanings}
-use Rattle.rule_document_ground.proofs.in_typing.TypedPlaces.{document-typed}
+use Rattle.verdict_definitions.specs.in_typing.Meanings.{meanings}
+use Rattle.rule_selections.proofs.in_typing.TypedPlaces.{document-typed}
 use Rattle.rule_definitions.specs.Words.{Present}
 use Rattle.rule_definitions.specs.Judged.{judged}
 use Rattle.rule_definitions.specs.Names.{named_in, scalar_names}

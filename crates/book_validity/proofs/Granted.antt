@@ -6,7 +6,7 @@ use Rattle.schema_types.specs.Plain.{plain}
 use Rattle.schema_types.specs.Looks.{TypeLooks}
 use Rattle.schema_types.specs.declared.type_kind.TypeKind.TheVariants as kind
 use Rattle.document_meaning.specs.MeantTree.{Definition}
-use Rattle.rule_document_ground.specs.in_typing.Meanings.{meanings}
+use Rattle.verdict_definitions.specs.in_typing.Meanings.{meanings}
 use Rattle.rule_definitions.specs.Words.{Present}
 use Rattle.rule_definitions.specs.Judged.{Judged, judged}
 use Rattle.rule_definitions.specs.Names.{named_in, scalar_names}

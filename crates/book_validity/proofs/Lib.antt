@@ -32,4 +32,4 @@ pub mod FoldingFacts
 pub mod RefusedFacts
 pub mod ExceptionFacts
 pub mod YesRows
-pub use Rattle.rule_document_ground.proofs.in_typing as in_typing
+pub use Rattle.rule_selections.proofs.in_typing as in_typing

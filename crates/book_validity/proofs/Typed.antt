@@ -9,9 +9,9 @@ use Rattle.schema_types.specs.Looks.{TypeLooks}
 use Rattle.schema_types.specs.declared.type_kind.TypeKind.TheVariants as kind
 use Rattle.document_meaning.specs.MeantTree.{MeantSelection, MeantField, MeantSpread, MeantInline, MeantDocument}
 use Rattle.document_meaning.specs.Unplaced.{unplaced_operation, unplaced_document, unplaced_set, unplaced_meant}
-use Rattle.rule_document_ground.specs.in_typing.Meanings.{meanings, inner_type}
-use Rattle.rule_document_ground.specs.in_typing.KeptSelections.{is_leaf}
-use Rattle.rule_document_ground.specs.in_typing.TypedByPlace.{IsTyped, IsTypedDocument}
+use Rattle.verdict_definitions.specs.in_typing.Meanings.{meanings, inner_type}
+use Rattle.verdict_definitions.specs.in_typing.KeptSelections.{is_leaf}
+use Rattle.verdict_definitions.specs.in_typing.TypedByPlace.{IsTyped, IsTypedDocument}
 use Rattle.rule_definitions.specs.Judged.{Judged, judged}
 use Rattle.rule_document_definitions.specs.Selected.{Position, StandingField, HasNone, field_there, as_field, operations, own}
 use Rattle.rule_document_definitions.specs.Reached.{Reached}
@@ -19,7 +19,7 @@ use Rattle.rule_document_definitions.specs.Merging.{FieldsMerge}
 use Rattle.rule_document_definitions.specs.Verdict.{Merging}
 use Rattle.rule_document_definitions.proofs.Unplaced.{unplaced_standing, contains_unmap, reached_with_places}
 use Rattle.rule_document_definitions.proofs.UnplacedReached.{operations_same}
-use Rattle.rule_document_ground.proofs.TypedReached.{typed_reached}
+use Rattle.rule_selections.proofs.TypedReached.{typed_reached}
 use Rattle.book_validity.specs.Words.{Document, Operation, Field}
 use Rattle.book_validity.specs.FieldSelectionMerging.{IsScalarOrEnum, DoItsFieldsMerge}
 use Rattle.book_validity.specs.Document.{DoFieldsMerge}

@@ -4,10 +4,10 @@ use Rattle.std.proofs.lemmas.Option.{same_Some}
 use Rattle.tree_operations.specs.SelectionTree.{SelectionTree, FieldTree, SpreadTree, InlineTree, SelectionTrees, no_selections, selection_then}
 use Rattle.tree_operations.specs.OperationWritable.{has_selection}
 use Rattle.rule_definitions.specs.Words.{Present}
-use Rattle.rule_document_ground.specs.in_typing.MeantTree.{Definition}
-use Rattle.rule_document_ground.specs.in_typing.Meanings.{Meanings, inner_type}
-use Rattle.rule_document_ground.specs.in_typing.KeptSelections.{may_select}
-use Rattle.rule_document_ground.specs.in_typing.TypingFaults.{TypingFault, SelectionBreaks, undefined_field, subselection_on_scalar_type, subselection_on_enum_type, undefined_type_in_inline_fragment_type_condition, StandsIn, first, later, in_field, in_fragment, in_condition}
+use Rattle.verdict_definitions.specs.in_typing.MeantTree.{Definition}
+use Rattle.verdict_definitions.specs.in_typing.Meanings.{Meanings, inner_type}
+use Rattle.verdict_definitions.specs.in_typing.KeptSelections.{may_select}
+use Rattle.verdict_definitions.specs.in_typing.TypingFaults.{TypingFault, SelectionBreaks, undefined_field, subselection_on_scalar_type, subselection_on_enum_type, undefined_type_in_inline_fragment_type_condition, StandsIn, first, later, in_field, in_fragment, in_condition}
 use Rattle.book_validity.specs.Typing.{IsTyped, AreTyped}
 use Rattle.book_validity.specs.Laws.{SetsTypedByTheBook}
 

@@ -14,8 +14,10 @@ pub record IsValidImplementationField (s : Judged) (field implemented : FieldDef
   -- "field must include an argument of the same name for every argument defined in implementedField. That named argument on field
   -- must accept the same type (invariant) as that named argument on implementedField."
   pub arguments : Each implemented.arguments (λ w. Present (named input_name field.arguments (input_name w)) (λ v. w.it.ty.it ≡ v.it.ty.it))
+  -- Laxer: of a non-nullable type it may be with a default, by which it is not required (5.4.2.1: "non-null and does not have a default
+  -- value")
   -- "field may include additional arguments not defined in implementedField, but any additional argument must not be required, e.g.
-  -- must not be of a non-nullable type"; with a default it is not required (5.4.2.1: "non-null and does not have a default value")
+  -- must not be of a non-nullable type"
   pub additional : Each field.arguments (λ v. named input_name implemented.arguments (input_name v) ≡ None → is_required_input v.it ≡ false)
   -- "field must return a type which is equal to or a sub-type of (covariant) the return type of implementedField":
   -- IsValidImplementationFieldType(fieldType, implementedFieldType)

@@ -6,8 +6,8 @@ use Rattle.tree_definitions.specs.DefinitionTree.{DefinitionTree}
 use Rattle.schema_fold.specs.Listed.{Definitions}
 use Rattle.schema_fold.specs.BuildErrors.{FoldingRules}
 use Rattle.document_meaning.specs.MeantTree.{MeantSet}
-use Rattle.rule_document_ground.specs.in_typing.Meanings.{Meanings}
-use Rattle.rule_document_ground.specs.in_typing.TypingFaults.{TypingFault, SetFails, TypingRules}
+use Rattle.verdict_definitions.specs.in_typing.Meanings.{Meanings}
+use Rattle.verdict_definitions.specs.in_typing.TypingFaults.{TypingFault, SetFails, TypingRules}
 use Rattle.rule_definitions.specs.Judged.{Judged, judged}
 use Rattle.rule_definitions.specs.Rules.{SchemaRules}
 use Rattle.rule_document_definitions.specs.Named.{FragmentsFoundByName}

@@ -23,6 +23,6 @@ pub mod MergingLaws
 pub mod Laws
 pub mod Exceptions
 pub mod Refused
-pub use Rattle.rule_document_ground.specs.in_typing as in_typing
+pub use Rattle.verdict_definitions.specs.in_typing as in_typing
 pub use Rattle.verdict_definitions.specs as in_verdict_definitions
-pub use Rattle.rule_document_ground.specs.in_schema as in_schema
+pub use Rattle.verdict_definitions.specs.in_schema as in_schema

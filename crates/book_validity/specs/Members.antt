@@ -18,7 +18,8 @@ module _ (s : Judged) where
   abbrev pub IsNameAllowed : Address → List ℕ → Type 0
   IsNameAllowed at name = s.built_in at ≡ false → is_reserved name ≡ false
 
-  -- the type of the name is there and of such a kind; or it is a built-in scalar that is not there: of those only what is used is kept
+  -- the type of the name is there and of such a kind; or it is a built-in scalar that is not there: a schema that has been judged has
+  -- of these only what is used, while what texts fold to has them all
   abbrev pub IsOfKind : (TypeKind → Bool) → List ℕ → Type 0
   IsOfKind test n = Present (s.type_named n) (λ t. test t.kind ≡ true) ⊎ ((s.type_named n ≡ None) × Contains scalar_names n)
 

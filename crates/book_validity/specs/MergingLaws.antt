@@ -7,8 +7,8 @@ use Rattle.schema_built_in.specs.Table.{built_in_definitions}
 use Rattle.schema_fold.specs.Listed.{Definitions}
 use Rattle.schema_fold.specs.Fold.{fold}
 use Rattle.document_meaning.specs.Unplaced.{unplaced_document}
-use Rattle.rule_document_ground.specs.in_typing.Meanings.{meanings}
-use Rattle.rule_document_ground.specs.in_typing.KeptDocument.{kept_document}
+use Rattle.verdict_definitions.specs.in_typing.Meanings.{meanings}
+use Rattle.verdict_definitions.specs.in_typing.KeptDocument.{kept_document}
 use Rattle.rule_definitions.specs.Words.{IfPresent}
 use Rattle.rule_definitions.specs.Judged.{Judged, judged}
 use Rattle.rule_definitions.specs.Names.{named_in}

@@ -9,7 +9,8 @@ use Rattle.book_validity.specs.Words.{Document, Operation, Field, Selection, Nev
 pub record IsValidSubscription (d : Document) (o : Operation) : Type 0 where
   -- Stricter: fields are counted, not response keys, and each fragment at the root counts, whether or not it can apply there
   -- Laxer: so a field that can apply nowhere there serves as the "exactly one entry"
-  -- 5.2.3.1 Single Root Field: all its root fields, each once, are no more than one
+  -- 5.2.3.1 Single Root Field: all its root fields, each once, are no more than one. That there is one is no rule: no selection set is
+  -- empty (2.4), and no fragment reaches itself (5.5.2.2)
   pub single : (fs : List Field) → AreRootFields d o fs → length fs ≤ 1
   -- "which must not be an introspection field"
   pub no_introspection : (f : Field) → IsRootField d o f → Never (Contains meta_field_names (field_name f))

@@ -7,9 +7,9 @@ use Rattle.tree_operations.specs.OperationTree.{OperationTree, FragmentTree}
 use Rattle.tree_definitions.specs.DefinitionTree.{DefinitionTree, Operation, Fragment}
 use Rattle.schema_components.specs.Lists.{StandsAfter}
 use Rattle.rule_definitions.specs.Words.{Present, IfPresent}
-use Rattle.rule_document_ground.specs.in_typing.Meanings.{Meanings, inner_type}
-use Rattle.rule_document_ground.specs.in_typing.KeptSelections.{may_select}
-use Rattle.rule_document_ground.specs.in_typing.KeptDocument.{is_operation}
+use Rattle.verdict_definitions.specs.in_typing.Meanings.{Meanings, inner_type}
+use Rattle.verdict_definitions.specs.in_typing.KeptSelections.{may_select}
+use Rattle.verdict_definitions.specs.in_typing.KeptDocument.{is_operation}
 use Rattle.book_validity.specs.Words.{Never}
 
 module _ {P : Type 0} (m : Meanings) where

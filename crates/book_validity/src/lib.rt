@@ -12,4 +12,4 @@
 pub mod laws;
 
 // Of the crates beneath, for those above.
-pub use rule_document_ground::{BuilderRefusal, ExecutableDocumentBuilder, Schema};
+pub use verdict_definitions::{BuilderRefusal, ExecutableDocumentBuilder, Schema};

@@ -14,11 +14,11 @@ use Rattle.rule_definitions.specs.Kept.{validated}
 use Rattle.rule_definitions.specs.Rules.{SchemaRules}
 use Rattle.graphql_rules.specs.in_faults.DetailsTree.{of_folding}
 use Rattle.graphql_rules.specs.in_faults.DetailsView.{diagnostics_of}
-use Rattle.checker_texts.specs.in_verdict_definitions.Texts.{Tree}
-use Rattle.checker_texts.specs.in_verdict_definitions.Says.{AnyFault}
+use Rattle.checker_calls.specs.in_verdict_definitions.Texts.{Tree}
+use Rattle.checker_calls.specs.in_verdict_definitions.Says.{AnyFault}
 use Rattle.checker_schemas.specs.Finishing.{BuildsSchema, RefusesFolding, RefusalOfFolding, RefusesSchemaRules, RefusalOfSchemaRules, IsJudgedSchema, RefusalOfBuilder}
-use Rattle.checker_texts.specs.declared.refusal.Refusal.{Refusal}
-use Rattle.checker_texts.specs.declared.refusal.Refusal.TheVariants.{Faults, Memory, Failed}
+use Rattle.checker_calls.specs.declared.refusal.Refusal.{Refusal}
+use Rattle.checker_calls.specs.declared.refusal.Refusal.TheVariants.{Faults, Memory, Failed}
 use Rattle.rule_document_definitions.proofs.Unplaced.{contains_map, contains_unmap}
 
 -- a list without elements is made of one without

@@ -13,15 +13,15 @@ use Rattle.schema_building.specs.SourcesView.{with_sources}
 use Rattle.schema_building.specs.declared.refusal.BuilderRefusal.{BuilderRefusal}
 use Rattle.schema_building.specs.declared.refusal.BuilderRefusal.TheVariants as builder
 use Rattle.schema_building.proofs.Numbering.{count_append}
-use Rattle.checker_texts.specs.in_verdict_definitions.Texts.{Tree}
-use Rattle.checker_texts.specs.in_verdict_definitions.Meaning.{all_definitions}
-use Rattle.checker_texts.specs.in_verdict_definitions.Says.{spent}
-use Rattle.checker_texts.specs.TellsOnly.{TellsOnly}
-use Rattle.checker_texts.specs.TextsView.{all_sources}
+use Rattle.checker_calls.specs.in_verdict_definitions.Texts.{Tree}
+use Rattle.checker_calls.specs.in_verdict_definitions.Meaning.{all_definitions}
+use Rattle.checker_calls.specs.in_verdict_definitions.Says.{spent}
+use Rattle.checker_calls.specs.TellsOnly.{TellsOnly}
+use Rattle.checker_calls.specs.TextsView.{all_sources}
 use Rattle.checker_schemas.specs.Finishing.{IsFilled, RefusalOfNumbers, IsOfBuilder}
 use Rattle.checker_schemas.proofs.Sourcing.{with_append}
-use Rattle.checker_texts.specs.declared.refusal.Refusal.{Refusal}
-use Rattle.checker_texts.specs.declared.refusal.Refusal.TheVariants.{Faults, Memory, Failed}
+use Rattle.checker_calls.specs.declared.refusal.Refusal.{Refusal}
+use Rattle.checker_calls.specs.declared.refusal.Refusal.TheVariants.{Faults, Memory, Failed}
 
 -- where there are numbers for a list, there are for its front
 front_numbers : (number : ℕ) (front more : Tree) → HaveNumbers number (front ++ more) → HaveNumbers number front

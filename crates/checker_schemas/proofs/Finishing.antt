@@ -16,22 +16,22 @@ use Rattle.rule_definitions.specs.Rules.{SchemaRules, RulesFail, BoundFails}
 use Rattle.rule_definitions.specs.Told.{PlacedFault, Told}
 use Rattle.graphql_rules.specs.SchemaTold.{BreaksBesideCycles}
 use Rattle.graphql_rules.specs.in_faults.DetailsTree.{of_rule, of_folding}
-use Rattle.checker_texts.specs.in_verdict_definitions.Texts.{SourceText, Tree, Terms, ReadsAll, document_number, AreWithin, AreRead}
-use Rattle.checker_texts.specs.in_verdict_definitions.Meaning.{all_definitions, schema_of}
-use Rattle.checker_texts.specs.in_verdict_definitions.Says.{AnyFault, spent, FoldingFails, SchemaFails, SchemaRuleFailsBesideCycles}
-use Rattle.checker_texts.specs.in_verdict_definitions.Answer.{UnreadFaults, RefusesSchemas}
+use Rattle.checker_calls.specs.in_verdict_definitions.Texts.{SourceText, Tree, Terms, ReadsAll, document_number, AreWithin, AreRead}
+use Rattle.checker_calls.specs.in_verdict_definitions.Meaning.{all_definitions, schema_of}
+use Rattle.checker_calls.specs.in_verdict_definitions.Says.{AnyFault, spent, FoldingFails, SchemaFails, SchemaRuleFailsBesideCycles}
+use Rattle.checker_calls.specs.in_verdict_definitions.Answer.{UnreadFaults, RefusesSchemas}
 use Rattle.schema_building.specs.SourcesView.{with_sources}
-use Rattle.checker_texts.specs.TextSources.{Sources, text_sources}
-use Rattle.checker_texts.specs.Added.{IsNextNumber, AreAdded}
+use Rattle.checker_calls.specs.TextSources.{Sources, text_sources}
+use Rattle.checker_calls.specs.Added.{IsNextNumber, AreAdded}
 use Rattle.checker_schemas.specs.CheckedSchemaValue.{IsCheckedSchemaOf}
 use Rattle.checker_schemas.specs.Finishing.{IsFilled, RefusesFolding, RefusesSchemaRules, IsJudgedSchema, RefusesBuilder, RefusalOfNumbers, RefusalOfBuilder}
 use Rattle.checker_schemas.specs.Refusals.{RefusalOfSchemas}
-use Rattle.checker_texts.specs.declared.refusal.Refusal.{Refusal}
-use Rattle.checker_texts.specs.declared.refusal.Refusal.TheVariants.{Faults, Memory, Failed}
+use Rattle.checker_calls.specs.declared.refusal.Refusal.{Refusal}
+use Rattle.checker_calls.specs.declared.refusal.Refusal.TheVariants.{Faults, Memory, Failed}
 use Rattle.graphql_rules.specs.in_faults.DetailsView.{diagnostics_of}
 use Rattle.schema_components.proofs.Places.{not_in_nil, Contains-cons}
 use Rattle.checker_schemas.proofs.Sourcing.{all_sources_stay}
-use Rattle.checker_texts.proofs.Deciding.{no_member, none_told, one_list, are_read, are_within, no_unread, read_unread, says_unread}
+use Rattle.checker_calls.proofs.Deciding.{no_member, none_told, one_list, are_read, are_within, no_unread, read_unread, says_unread}
 
 -- ---- a builder that has the definitions of the texts
 

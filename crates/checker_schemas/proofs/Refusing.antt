@@ -2,15 +2,15 @@
 use Rattle.std.proofs.Common.{inl, inr, ◌≡◌, List, refl, subst}
 use Rattle.schema_building.specs.Numbers.{HaveNumbers}
 use Rattle.graphql_rules.specs.in_faults.DetailsView.{diagnostics_of}
-use Rattle.checker_texts.specs.in_verdict_definitions.Texts.{SourceText, Tree, Terms, AreRead}
-use Rattle.checker_texts.specs.in_verdict_definitions.Meaning.{all_definitions}
-use Rattle.checker_texts.specs.in_verdict_definitions.Judge.{AreSchemasAccepted, AreSchemasCertain}
-use Rattle.checker_texts.specs.in_verdict_definitions.Says.{AnyFault, FoldingFails, SchemaRuleFails, SchemaFails, SaysSchema}
-use Rattle.checker_texts.specs.in_verdict_definitions.Answer.{RefusesSchemas}
+use Rattle.checker_calls.specs.in_verdict_definitions.Texts.{SourceText, Tree, Terms, AreRead}
+use Rattle.checker_calls.specs.in_verdict_definitions.Meaning.{all_definitions}
+use Rattle.checker_calls.specs.in_verdict_definitions.Judge.{AreSchemasAccepted, AreSchemasCertain}
+use Rattle.checker_calls.specs.in_verdict_definitions.Says.{AnyFault, FoldingFails, SchemaRuleFails, SchemaFails, SaysSchema}
+use Rattle.checker_calls.specs.in_verdict_definitions.Answer.{RefusesSchemas}
 use Rattle.checker_schemas.specs.Refusals.{RefusalOfSchemas}
-use Rattle.checker_texts.specs.declared.refusal.Refusal.{Refusal}
-use Rattle.checker_texts.specs.declared.refusal.Refusal.TheVariants.{Faults, Memory, Failed}
-use Rattle.checker_texts.proofs.Deciding.{one_list, are_read, not_unread_from, none_told}
+use Rattle.checker_calls.specs.declared.refusal.Refusal.{Refusal}
+use Rattle.checker_calls.specs.declared.refusal.Refusal.TheVariants.{Faults, Memory, Failed}
+use Rattle.checker_calls.proofs.Deciding.{one_list, are_read, not_unread_from, none_told}
 
 module _ (terms : Terms) (texts : List SourceText) (certain : AreSchemasCertain terms texts) where
   abbrev accepted : AreSchemasAccepted terms texts

@@ -5,8 +5,8 @@ use Rattle.indexmap.specs.IndexMap.{insert_entry}
 use Rattle.tree_definitions.specs.Sources.{Source}
 use Rattle.graphql_read.specs.ReadFaults.{unnamed_source}
 use Rattle.schema_building.specs.SourcesView.{with_sources}
-use Rattle.checker_texts.specs.in_verdict_definitions.Texts.{SourceText}
-use Rattle.checker_texts.specs.TextSources.{Sources, text_sources}
+use Rattle.checker_calls.specs.in_verdict_definitions.Texts.{SourceText}
+use Rattle.checker_calls.specs.TextSources.{Sources, text_sources}
 
 -- those of two lists are those of one behind those of the other
 pub with_append : (old front more : Sources) → with_sources old (front ++ more) ≡ with_sources (with_sources old front) more

@@ -6,7 +6,7 @@ use Rattle.rule_definitions.specs.Rules.{RulesFail, BoundFails}
 use Rattle.rule_definitions.specs.Told.{PlacedFault, Told}
 use Rattle.graphql_rules.specs.in_faults.DetailsTree.{of_rule}
 use Rattle.graphql_rules.specs.SchemaTold.{RulesOrBoundFail, SchemaTold}
-use Rattle.checker_texts.specs.in_verdict_definitions.Says.{AnyFault}
+use Rattle.checker_calls.specs.in_verdict_definitions.Says.{AnyFault}
 use Rattle.checker_schemas.specs.Finishing.{RefusesSchemaRules}
 use Rattle.rule_document_definitions.proofs.Unplaced.{contains_map, contains_unmap}
 

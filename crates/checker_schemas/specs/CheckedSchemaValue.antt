@@ -2,11 +2,11 @@
 use Rattle.std.specs.Prelude.{◌≡◌, ℕ, List}
 use Rattle.graphql_names.specs.Placed.{Place}
 use Rattle.schema_types.specs.SchemaTree.{SchemaTree}
-use Rattle.checker_texts.specs.in_verdict_definitions.Texts.{SourceText, Tree, Terms, document_number}
-use Rattle.checker_texts.specs.in_verdict_definitions.Meaning.{schema_at_hand}
-use Rattle.checker_texts.specs.in_verdict_definitions.Judge.{AreSchemasAccepted}
-use Rattle.checker_texts.specs.in_verdict_definitions.Out.{Out}
-use Rattle.checker_texts.specs.TextSources.{Sources, text_sources}
+use Rattle.checker_calls.specs.in_verdict_definitions.Texts.{SourceText, Tree, Terms, document_number}
+use Rattle.checker_calls.specs.in_verdict_definitions.Meaning.{schema_at_hand}
+use Rattle.checker_calls.specs.in_verdict_definitions.Judge.{AreSchemasAccepted}
+use Rattle.checker_calls.specs.in_verdict_definitions.Out.{Out}
+use Rattle.checker_calls.specs.TextSources.{Sources, text_sources}
 
 -- a checked schema: how many brackets may be open at once, the number of a document, the schema over which documents are
 -- judged, its sources, and what is written of the schema as it was built

@@ -19,12 +19,12 @@ use Rattle.rule_definitions.specs.Told.{PlacedFault, Told}
 use Rattle.graphql_rules.specs.SchemaTold.{BreaksBesideCycles}
 use Rattle.graphql_rules.specs.in_faults.DetailsTree.{of_rule, of_folding}
 use Rattle.graphql_rules.specs.in_faults.DetailsView.{diagnostics_of}
-use Rattle.checker_texts.specs.in_verdict_definitions.Texts.{Tree}
-use Rattle.checker_texts.specs.in_verdict_definitions.Meaning.{all_definitions}
-use Rattle.checker_texts.specs.in_verdict_definitions.Says.{AnyFault, spent}
-use Rattle.checker_texts.specs.TellsOnly.{TellsOnly}
-use Rattle.checker_texts.specs.declared.refusal.Refusal.{Refusal}
-use Rattle.checker_texts.specs.declared.refusal.Refusal.TheVariants.{Faults, Memory, Failed}
+use Rattle.checker_calls.specs.in_verdict_definitions.Texts.{Tree}
+use Rattle.checker_calls.specs.in_verdict_definitions.Meaning.{all_definitions}
+use Rattle.checker_calls.specs.in_verdict_definitions.Says.{AnyFault, spent}
+use Rattle.checker_calls.specs.TellsOnly.{TellsOnly}
+use Rattle.checker_calls.specs.declared.refusal.Refusal.{Refusal}
+use Rattle.checker_calls.specs.declared.refusal.Refusal.TheVariants.{Faults, Memory, Failed}
 
 -- ---- the definitions of all texts
 

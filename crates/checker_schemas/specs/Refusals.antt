@@ -1,10 +1,10 @@
 -- What the refusals of schema texts say of them.
 use Rattle.std.specs.Prelude.{List}
 use Rattle.graphql_rules.specs.in_faults.DetailsView.{diagnostics_of}
-use Rattle.checker_texts.specs.in_verdict_definitions.Texts.{SourceText, Terms}
-use Rattle.checker_texts.specs.in_verdict_definitions.Answer.{RefusesSchemas}
-use Rattle.checker_texts.specs.declared.refusal.Refusal.{Refusal}
-use Rattle.checker_texts.specs.declared.refusal.Refusal.TheVariants.{Faults, Memory, Failed}
+use Rattle.checker_calls.specs.in_verdict_definitions.Texts.{SourceText, Terms}
+use Rattle.checker_calls.specs.in_verdict_definitions.Answer.{RefusesSchemas}
+use Rattle.checker_calls.specs.declared.refusal.Refusal.{Refusal}
+use Rattle.checker_calls.specs.declared.refusal.Refusal.TheVariants.{Faults, Memory, Failed}
 
 -- The schema texts are not accepted, and why.
 abbrev pub RefusalOfSchemas : Terms → List SourceText → Refusal → Type 0

@@ -3,21 +3,21 @@
 ghost use Rattle.std.specs.Prelude.{◌≡◌, ◌≢◌, [], false, map, OnOk, IfOk, IfErr};
 ghost use Rattle.tree_definitions.specs.DefinitionTree.{document_tree};
 ghost use Rattle.graphql_rules.specs.in_faults.DetailsView.{diagnostics_of};
-ghost use Rattle.checker_texts.specs.in_schema.BuilderOf.{builder_value};
-ghost use Rattle.checker_texts.specs.in_schema.SchemaOf.{schema_tree};
+ghost use Rattle.checker_calls.specs.in_schema.BuilderOf.{builder_value};
+ghost use Rattle.checker_calls.specs.in_schema.SchemaOf.{schema_tree};
 ghost use Rattle.schema_building.specs.SourcesView.{sources_view};
 ghost use Rattle.schema_building.specs.declared.refusal.BuilderRefusal.TheVariants.{Failed};
 ghost use Rattle.rule_definitions.specs.Judged.{judged};
 ghost use Rattle.rule_definitions.specs.Kept.{validated};
 ghost use Rattle.rule_definitions.specs.Rules.{SchemaRules};
-ghost use Rattle.checker_texts.specs.TextsView.{terms_of, texts_of, all_sources, IsReadingOf};
+ghost use Rattle.checker_calls.specs.TextsView.{terms_of, texts_of, all_sources, IsReadingOf};
 ghost use Rattle.checker_schemas.specs.CheckedSchemaValue.{IsCheckedSchemaOf};
 ghost use Rattle.checker_schemas.specs.JudgedView.{judged_value};
 ghost use Rattle.checker_schemas.specs.Refusals.{RefusalOfSchemas};
 ghost use Rattle.checker_schemas.specs.Finishing.{IsFilled, RefusalOfNumbers, IsOfBuilder, BuildsSchema, RefusalOfFolding, RefusalOfSchemaRules, IsJudgedSchema, RefusalOfBuilder};
 
 use crate::build_errors::schema_errors;
-use checker_texts::{Refusal, Schema, SchemaBuilder, SchemaTexts, next_number, only};
+use checker_calls::{Refusal, Schema, SchemaBuilder, SchemaTexts, next_number, only};
 use graphql_rules::{Details, DiagnosticList, validate_schema};
 use schema_building::BuilderRefusal;
 use schema_components::Extensions;

@@ -1,4 +1,5 @@
 pub mod TypedDocument
+pub mod DocumentView
 pub mod PlainDocument
 pub mod OperationsByName
 pub mod ToAst

@@ -1,4 +1,5 @@
 pub use Rattle.document_meaning.specs.MeantTree
+pub use Rattle.document_typed_operations.specs.DocumentView
 pub mod Meanings
 pub mod KeptSelections
 pub mod KeptDocument
@@ -14,7 +15,6 @@ pub mod SetFaults
 pub mod DefinedField
 pub mod Telling
 pub mod Steps
-pub mod DocumentView
 pub mod StepsView
 pub mod BuilderView
 pub use Rattle.graphql_schema.specs as in_schema

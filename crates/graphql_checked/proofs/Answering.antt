@@ -7,17 +7,17 @@ use Rattle.graphql_faults.specs.DetailsView.{diagnostics_of}
 use Rattle.book_validity.specs.in_verdict_definitions.Texts.{SourceText, Terms}
 use Rattle.book_validity.specs.in_verdict_definitions.Out.{Layout, layout_text}
 use Rattle.book_validity.specs.in_verdict_definitions.Answer.{WritesDocument}
-use Rattle.checker_answers.specs.declared.run_fault.Outcome.{Outcome}
-use Rattle.checker_answers.specs.declared.run_fault.Outcome.TheVariants.{Accepted}
-use Rattle.checker_answers.specs.declared.run_fault.RunFault.{RunFault}
+use Rattle.checker_calls.specs.declared.run_fault.Outcome.{Outcome}
+use Rattle.checker_calls.specs.declared.run_fault.Outcome.TheVariants.{Accepted}
+use Rattle.checker_calls.specs.declared.run_fault.RunFault.{RunFault}
 use Rattle.checker_schemas.specs.CheckedSchemaValue.{CheckedSchemaValue, IsCheckedSchemaOf}
 use Rattle.graphql_checked.specs.CheckerValue.{IsCheckedDocumentOf}
 use Rattle.checker_schemas.specs.Refusals.{RefusalOfSchemas}
 use Rattle.graphql_checked.specs.DocumentRefusals.{RefusalOfDocument}
 use Rattle.graphql_checked.specs.Run.{BytesOf, IsAnswerTo, AcceptsOrFails, IsWrittenAnswer}
-use Rattle.checker_answers.specs.Refusals.{IsAnswerOfRefusal}
-use Rattle.checker_answers.specs.in_checker_texts.declared.refusal.Refusal.{Refusal}
-use Rattle.checker_answers.specs.in_checker_texts.declared.refusal.Refusal.TheVariants.{Faults, Memory, Failed}
+use Rattle.checker_calls.specs.Refusals.{IsAnswerOfRefusal}
+use Rattle.checker_calls.specs.declared.refusal.Refusal.{Refusal}
+use Rattle.checker_calls.specs.declared.refusal.Refusal.TheVariants.{Faults, Memory, Failed}
 use Rattle.graphql_checked.proofs.Verdicts.{accepted_pair, yes_pair, refused_pair}
 
 module _ (terms : Terms) (texts : List SourceText) (text : SourceText) (schema : CheckedSchemaValue) (is : IsCheckedSchemaOf terms texts schema) where

@@ -13,8 +13,8 @@ use Rattle.rule_definitions.specs.Judged.{judged}
 use Rattle.rule_document_definitions.specs.DocumentFaults.{OfData, OfDocument, OfLimit}
 use Rattle.rule_document_definitions.specs.Told.{PlacedDocumentFault, places_in, IsValidDocument}
 use Rattle.rule_document_definitions.specs.Verdict.{WithinBounds}
-use Rattle.rule_lasting.specs.LastingRules.{LastingFails}
-use Rattle.rule_lasting.proofs.Reasons.{lasting_is_fault, cycle_is_fault}
+use Rattle.graphql_validation.specs.LastingRules.{LastingFails}
+use Rattle.graphql_validation.proofs.Reasons.{lasting_is_fault, cycle_is_fault}
 use Rattle.graphql_faults.specs.DetailsTree.{of_typing}
 use Rattle.graphql_faults.specs.DetailsView.{diagnostics_of}
 use Rattle.graphql_validation.specs.TellsDocument.{FailsBesides, SomeFails}
@@ -27,11 +27,11 @@ use Rattle.book_validity.specs.in_verdict_definitions.Answer.{UnreadAlone, Refus
 use Rattle.checker_schemas.specs.CheckedSchemaValue.{CheckedSchemaValue}
 use Rattle.graphql_checked.specs.CheckerValue.{IsCheckedDocumentOf}
 use Rattle.graphql_checked.specs.DocumentRefusals.{RefusalOfDocument, TypingOrLastingFails, RefusalWithLasting}
-use Rattle.checker_answers.specs.in_checker_texts.TellsOnly.{TellsOnly}
+use Rattle.checker_calls.specs.TellsOnly.{TellsOnly}
 use Rattle.graphql_checked.specs.Checking.{IsReadDocument, IsUnreadDocument, TypesDocument, RefusalOfTyping, RefusalOfRules}
-use Rattle.checker_answers.specs.in_checker_texts.declared.refusal.Refusal.{Refusal}
-use Rattle.checker_answers.specs.in_checker_texts.declared.refusal.Refusal.TheVariants.{Faults, Memory, Failed}
-use Rattle.checker_answers.proofs.in_checker_texts.Deciding.{one_tree, unread_not_read, is_read}
+use Rattle.checker_calls.specs.declared.refusal.Refusal.{Refusal}
+use Rattle.checker_calls.specs.declared.refusal.Refusal.TheVariants.{Faults, Memory, Failed}
+use Rattle.checker_calls.proofs.Deciding.{one_tree, unread_not_read, is_read}
 
 -- what is told in full, in the words of the rules on documents
 besides : (schema : SchemaTree Place) (document : MeantDocument Place) (fault : PlacedDocumentFault) → RuleFailsBeside (places_in schema) (judged schema) document fault → FailsBesides schema document fault

@@ -10,14 +10,14 @@ use Rattle.book_validity.specs.in_verdict_definitions.Texts.{SourceText, Terms}
 use Rattle.book_validity.specs.in_verdict_definitions.Judge.{IsCertain}
 use Rattle.book_validity.specs.in_verdict_definitions.Out.{Layout}
 use Rattle.book_validity.specs.in_verdict_definitions.Answer.{Answer}
-use Rattle.checker_answers.specs.Devices.{IsTextOf, TellsText, AreTextsOf, IsNotUtf8Of, IsNotUtf8At, HaveNotFailed}
-use Rattle.checker_answers.specs.ReadFaults.{IsTextFault, numbered_fault, IsReadFault, IsPutFault}
-use Rattle.checker_answers.specs.declared.read_device.TextFault.{TextFault}
-use Rattle.checker_answers.specs.declared.read_device.TextFault.TheVariants as text
-use Rattle.checker_answers.specs.declared.run_fault.Outcome.{Outcome}
-use Rattle.checker_answers.specs.declared.run_fault.Outcome.TheVariants.{Accepted, Refused}
-use Rattle.checker_answers.specs.declared.run_fault.RunFault.{RunFault}
-use Rattle.checker_answers.specs.declared.run_fault.RunFault.TheVariants.{Memory, Reader, NotUtf8, Writer}
+use Rattle.checker_calls.specs.Devices.{IsTextOf, TellsText, AreTextsOf, IsNotUtf8Of, IsNotUtf8At, HaveNotFailed}
+use Rattle.checker_calls.specs.ReadFaults.{IsTextFault, numbered_fault, IsReadFault, IsPutFault}
+use Rattle.checker_calls.specs.declared.read_device.TextFault.{TextFault}
+use Rattle.checker_calls.specs.declared.read_device.TextFault.TheVariants as text
+use Rattle.checker_calls.specs.declared.run_fault.Outcome.{Outcome}
+use Rattle.checker_calls.specs.declared.run_fault.Outcome.TheVariants.{Accepted, Refused}
+use Rattle.checker_calls.specs.declared.run_fault.RunFault.{RunFault}
+use Rattle.checker_calls.specs.declared.run_fault.RunFault.TheVariants.{Memory, Reader, NotUtf8, Writer}
 use Rattle.graphql_checked.specs.Run.{BytesOf, TellCertain, IsAnswerToCertain, AreAllRead, RunFaultIsDue, AcceptsOrFails}
 
 -- ---- what readers tell

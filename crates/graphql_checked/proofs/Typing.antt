@@ -18,7 +18,7 @@ use Rattle.rule_definitions.proofs.Lists.{Contains-first}
 use Rattle.rule_document_definitions.specs.Told.{PlacedDocumentFault, IsValidDocument}
 use Rattle.rule_document_definitions.specs.Verdict.{WithinBounds}
 use Rattle.rule_document_definitions.proofs.Unplaced.{contains_map, contains_unmap}
-use Rattle.rule_lasting.specs.LastingRules.{LastingFails, LastingOrCycleFails}
+use Rattle.graphql_validation.specs.LastingRules.{LastingFails, LastingOrCycleFails}
 use Rattle.graphql_validation.specs.TellsDocument.{DocumentTold}
 use Rattle.graphql_validation.specs.TellsLasting.{TellsLasting}
 use Rattle.graphql_validation.proofs.StandingFaults.{lasting_told}

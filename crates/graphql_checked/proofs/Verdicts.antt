@@ -19,14 +19,14 @@ use Rattle.graphql_checked.specs.CheckerAnswers.{IsCheckerAddRefusal, IsFinishRe
 use Rattle.checker_schemas.specs.Refusals.{RefusalOfSchemas}
 use Rattle.graphql_checked.specs.DocumentRefusals.{RefusalOfDocument}
 use Rattle.graphql_checked.specs.Verdicts.{IsVerdict}
-use Rattle.checker_answers.specs.Refusals.{refusal_verdict}
-use Rattle.checker_answers.specs.in_checker_texts.declared.refusal.Refusal.{Refusal}
-use Rattle.checker_answers.specs.in_checker_texts.declared.refusal.Refusal.TheVariants.{Faults, Memory, Failed}
-use Rattle.checker_answers.specs.declared.verdict.Verdict.{Verdict}
-use Rattle.checker_answers.specs.declared.verdict.Verdict.TheVariants.{Accepted}
-use Rattle.checker_answers.specs.declared.verdict.CheckError.{CheckError}
-use Rattle.checker_answers.specs.declared.verdict.CheckError.TheVariants as error
-use Rattle.checker_answers.proofs.in_checker_texts.Deciding.{one_list}
+use Rattle.checker_calls.specs.Refusals.{refusal_verdict}
+use Rattle.checker_calls.specs.declared.refusal.Refusal.{Refusal}
+use Rattle.checker_calls.specs.declared.refusal.Refusal.TheVariants.{Faults, Memory, Failed}
+use Rattle.checker_calls.specs.declared.verdict.Verdict.{Verdict}
+use Rattle.checker_calls.specs.declared.verdict.Verdict.TheVariants.{Accepted}
+use Rattle.checker_calls.specs.declared.verdict.CheckError.{CheckError}
+use Rattle.checker_calls.specs.declared.verdict.CheckError.TheVariants as error
+use Rattle.checker_calls.proofs.Deciding.{one_list}
 
 -- ---- a checker that is given texts
 

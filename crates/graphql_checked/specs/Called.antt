@@ -1,10 +1,10 @@
 -- What a call of `run` answers, under the layout and the limits that it is given.
 use Rattle.std.specs.Prelude.{ℕ, List, Option}
 use Rattle.graphql_names.specs.declared.device.Device.{Device}
-use Rattle.checker_settings.specs.Layouts.{prefix_of}
-use Rattle.checker_settings.specs.declared.layout.Layout.{Layout}
-use Rattle.checker_answers.specs.declared.run_fault.Outcome.{Outcome}
-use Rattle.checker_answers.specs.declared.run_fault.RunFault.{RunFault}
+use Rattle.checker_calls.specs.Layouts.{prefix_of}
+use Rattle.checker_calls.specs.declared.layout.Layout.{Layout}
+use Rattle.checker_calls.specs.declared.run_fault.Outcome.{Outcome}
+use Rattle.checker_calls.specs.declared.run_fault.RunFault.{RunFault}
 use Rattle.graphql_checked.specs.Run.{WritesAnswer, RunFaultIsDue}
 use Rattle.graphql_checked.specs.Verdicts.{first_terms}
 use Rattle.graphql_checked.specs.declared.checker.Limits.{Limits}

@@ -2,8 +2,8 @@
 use Rattle.std.specs.Prelude.{◌≡◌, true, false}
 use Rattle.graphql_checked.specs.CheckerValue.{CheckerValue}
 use Rattle.checker_schemas.specs.Refusals.{RefusalOfSchemas}
-use Rattle.checker_answers.specs.in_checker_texts.declared.refusal.Refusal.{Refusal}
-use Rattle.checker_answers.specs.in_checker_texts.declared.refusal.Refusal.TheVariants.{Faults, Memory, Failed}
+use Rattle.checker_calls.specs.declared.refusal.Refusal.{Refusal}
+use Rattle.checker_calls.specs.declared.refusal.Refusal.TheVariants.{Faults, Memory, Failed}
 
 -- Want of memory as a text is added: terms and texts stay, and the checker has failed from then on.
 abbrev pub IsCheckerAddRefusal : CheckerValue → CheckerValue → Refusal → Type 0

@@ -12,7 +12,7 @@ use Rattle.document_typed_operations.specs.declared.document.ExecutableDocument.
 use Rattle.schema_building.specs.SourcesView.{sources_view}
 use Rattle.rule_document_definitions.specs.Told.{PlacedDocumentFault, IsValidDocument}
 use Rattle.rule_document_definitions.specs.Verdict.{WithinBounds}
-use Rattle.rule_lasting.specs.LastingRules.{LastingFails}
+use Rattle.graphql_validation.specs.LastingRules.{LastingFails}
 use Rattle.document_meaning.specs.Unplaced.{unplaced_document}
 use Rattle.graphql_faults.specs.DetailsTree.{of_typing, of_document}
 use Rattle.graphql_faults.specs.DetailsView.{diagnostics_of}
@@ -21,12 +21,12 @@ use Rattle.book_validity.specs.in_verdict_definitions.Texts.{SourceText, Tree, R
 use Rattle.book_validity.specs.in_verdict_definitions.Meaning.{document_over}
 use Rattle.book_validity.specs.in_verdict_definitions.Says.{AnyFault, TypingFailsOver}
 use Rattle.book_validity.specs.in_verdict_definitions.Answer.{UnreadAlone}
-use Rattle.checker_answers.specs.in_checker_texts.TextSources.{text_sources}
+use Rattle.checker_calls.specs.TextSources.{text_sources}
 use Rattle.checker_schemas.specs.CheckedSchemaValue.{CheckedSchemaValue}
 use Rattle.graphql_checked.specs.CheckerValue.{IsCheckedDocumentOf}
 use Rattle.graphql_checked.specs.DocumentRefusals.{TypingOrLastingFails}
-use Rattle.checker_answers.specs.in_checker_texts.declared.refusal.Refusal.{Refusal}
-use Rattle.checker_answers.specs.in_checker_texts.declared.refusal.Refusal.TheVariants.{Faults, Memory, Failed}
+use Rattle.checker_calls.specs.declared.refusal.Refusal.{Refusal}
+use Rattle.checker_calls.specs.declared.refusal.Refusal.TheVariants.{Faults, Memory, Failed}
 
 -- ---- reading a document with the number that it has behind the schema texts, if one is left for it
 

@@ -9,11 +9,11 @@ use Rattle.book_validity.specs.in_verdict_definitions.Judge.{IsCertain}
 use Rattle.book_validity.specs.in_verdict_definitions.Out.{Layout, layout_text, as_lines}
 use Rattle.book_validity.specs.in_verdict_definitions.Answer.{WritesDocument, AcceptedBytes, RefusedBytes, Answer}
 use Rattle.book_validity.specs.Yes.{IsYes}
-use Rattle.checker_answers.specs.Devices.{IsTextOf, TellsText, AreTextsOf, IsReadToEnd, AreReadToEnd, IsNotUtf8Of, IsNotUtf8At, HasFailedAt}
-use Rattle.checker_answers.specs.declared.run_fault.Outcome.{Outcome}
-use Rattle.checker_answers.specs.declared.run_fault.Outcome.TheVariants.{Accepted, Refused}
-use Rattle.checker_answers.specs.declared.run_fault.RunFault.{RunFault}
-use Rattle.checker_answers.specs.declared.run_fault.RunFault.TheVariants.{Memory, Reader, NotUtf8, Writer}
+use Rattle.checker_calls.specs.Devices.{IsTextOf, TellsText, AreTextsOf, IsReadToEnd, AreReadToEnd, IsNotUtf8Of, IsNotUtf8At, HasFailedAt}
+use Rattle.checker_calls.specs.declared.run_fault.Outcome.{Outcome}
+use Rattle.checker_calls.specs.declared.run_fault.Outcome.TheVariants.{Accepted, Refused}
+use Rattle.checker_calls.specs.declared.run_fault.RunFault.{RunFault}
+use Rattle.checker_calls.specs.declared.run_fault.RunFault.TheVariants.{Memory, Reader, NotUtf8, Writer}
 use Rattle.checker_schemas.specs.CheckedSchemaValue.{CheckedSchemaValue}
 
 -- the bytes that go with an outcome for these texts

@@ -4,8 +4,8 @@ use Rattle.graphql_faults.specs.DetailsView.{diagnostics_of}
 use Rattle.book_validity.specs.in_verdict_definitions.Texts.{SourceText, Terms}
 use Rattle.book_validity.specs.in_verdict_definitions.Answer.{Refuses}
 use Rattle.book_validity.specs.Yes.{IsYes}
-use Rattle.checker_answers.specs.declared.verdict.Verdict.{Verdict}
-use Rattle.checker_answers.specs.declared.verdict.Verdict.TheVariants.{Accepted, Refused}
+use Rattle.checker_calls.specs.declared.verdict.Verdict.{Verdict}
+use Rattle.checker_calls.specs.declared.verdict.Verdict.TheVariants.{Accepted, Refused}
 
 -- texts and extensions are counted from 1
 abbrev pub first_terms : ℕ → Terms

@@ -6,13 +6,13 @@ ghost use Rattle.document_typed_operations.specs.TypedDocument.{typed_document_t
 ghost use Rattle.book_validity.specs.in_typing.DocumentView.{meant_document};
 ghost use Rattle.book_validity.specs.in_typing.DefinedByPlace.{IsDefinedDocument};
 ghost use Rattle.graphql_validation.specs.TellsDocument.{IsTypedUnder};
-ghost use Rattle.checker_answers.specs.in_checker_texts.TextSources.{text_sources};
-ghost use Rattle.checker_settings.specs.Layouts.{prefix_of};
+ghost use Rattle.checker_calls.specs.TextSources.{text_sources};
+ghost use Rattle.checker_calls.specs.Layouts.{prefix_of};
 ghost use Rattle.graphql_checked.specs.CheckedView.{schema_value, document_value};
 ghost use Rattle.graphql_checked.specs.CheckerValue.{IsCheckedDocumentOf, WritesCheckedDocument};
 
 use crate::checked_schema::CheckedSchema;
-use checker_settings::{Layout, written};
+use checker_calls::{Layout, written};
 use document_typed_operations::ExecutableDocument;
 use std::alloc::AllocError;
 use std::marker::Model;

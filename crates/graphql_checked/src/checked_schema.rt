@@ -6,13 +6,13 @@ ghost use Rattle.tree_definitions.specs.Sources.{sources_of};
 ghost use Rattle.schema_building.specs.SourcesView.{sources_view, with_sources};
 ghost use Rattle.graphql_faults.specs.DetailsView.{diagnostics_of};
 ghost use Rattle.book_validity.specs.in_schema.SchemaOf.{schema_tree};
-ghost use Rattle.checker_settings.specs.Layouts.{prefix_of};
+ghost use Rattle.checker_calls.specs.Layouts.{prefix_of};
 ghost use Rattle.book_validity.specs.in_typing.DocumentView.{meant_document};
 ghost use Rattle.book_validity.specs.in_typing.DefinedByPlace.{IsDefinedDocument};
 ghost use Rattle.document_typed_operations.specs.TypedDocument.{typed_document_tree};
 ghost use Rattle.book_validity.specs.in_verdict_definitions.Judge.{IsDocumentCertain};
 ghost use Rattle.book_validity.specs.in_verdict_definitions.Out.{layout_text};
-ghost use Rattle.checker_answers.specs.in_checker_texts.TextSources.{text_sources};
+ghost use Rattle.checker_calls.specs.TextSources.{text_sources};
 ghost use Rattle.graphql_checked.specs.CheckedView.{schema_value, document_value};
 ghost use Rattle.checker_schemas.specs.CheckedSchemaValue.{IsOfAcceptedTexts};
 ghost use Rattle.graphql_checked.specs.CheckerValue.{IsCheckedDocumentOf};
@@ -20,17 +20,18 @@ ghost use Rattle.rule_document_definitions.specs.Told.{IsValidDocument};
 ghost use Rattle.graphql_validation.specs.TellsDocument.{IsTypedUnder};
 ghost use Rattle.graphql_checked.specs.DocumentRefusals.{RefusalOfDocument, RefusalWithLasting};
 ghost use Rattle.graphql_checked.specs.Checking.{IsReadDocument, IsUnreadDocument, TypesDocument, RefusalOfTyping, RefusalOfRules};
-ghost use Rattle.checker_answers.specs.in_checker_texts.declared.refusal.Refusal.TheVariants.{Memory};
+ghost use Rattle.checker_calls.specs.declared.refusal.Refusal.TheVariants.{Memory};
 
 use crate::build_errors::document_errors;
 use crate::checked_document::CheckedDocument;
 use book_validity::{BuilderRefusal, ExecutableDocumentBuilder, Schema};
-use checker_answers::{Refusal, Unread, only, read};
-use checker_settings::{Layout, written};
+use checker_calls::{Layout, Refusal, Unread, only, read, written};
 use document_typed_operations::ExecutableDocument;
 use graphql_faults::{Details, DiagnosticList};
 use graphql_names::FileId;
-use graphql_validation::{PossibleTypes, tell_lasting_faults, validate_with_possible_types};
+use graphql_validation::{
+    IndexedSchema, PossibleTypes, SchemaInputs, tell_lasting_faults, validate_with_possible_types,
+};
 use std::alloc::{AllocError, Global};
 use std::marker::Model;
 use tree_definitions::Document;
@@ -48,6 +49,8 @@ pub struct CheckedSchema {
     pub(crate) schema: Schema,
     /// Its possible types, which are found once and serve each document.
     pub(crate) possible: PossibleTypes,
+    /// What it defines of many input values, which is found once as well.
+    pub(crate) inputs: SchemaInputs,
 }
 
 // Not derived: a derived drop is proved again in each crate that drops one.
@@ -60,6 +63,7 @@ impl Drop for CheckedSchema {
             written: _,
             schema: _,
             possible: _,
+            inputs: _,
         } = self;
     }
 }
@@ -71,6 +75,7 @@ impl Model for CheckedSchema {
     ghost use Rattle.book_validity.specs.in_schema.SchemaOf.{schema_tree};
     ghost use Rattle.rule_definitions.specs.Judged.{judged};
     ghost use Rattle.graphql_validation.specs.in_fragments.Possible.{ArePossible};
+    ghost use Rattle.graphql_validation.specs.in_values.in_inputs.Inputs.{AreInputsOf};
     ghost use Rattle.graphql_checked.specs.CheckedView.{CheckedSchemaParts, schema_value};
     ghost use Rattle.checker_schemas.specs.CheckedSchemaValue.{IsOfAcceptedTexts};
 
@@ -80,7 +85,7 @@ impl Model for CheckedSchema {
 
     ghost view = { λ s. record { nesting = s.nesting; number = s.number; schema = s.schema; written = s.written } };
 
-    ghost invariant = { λ s. IsOfAcceptedTexts (schema_value (record { nesting = s.nesting; number = s.number; schema = s.schema; written = s.written })) × ArePossible (judged (schema_tree s.schema)) s.possible };
+    ghost invariant = { λ s. IsOfAcceptedTexts (schema_value (record { nesting = s.nesting; number = s.number; schema = s.schema; written = s.written })) × (ArePossible (judged (schema_tree s.schema)) s.possible × AreInputsOf (schema_tree s.schema) s.inputs) };
 }
 
 impl CheckedSchema {
@@ -179,13 +184,8 @@ fn typed(schema: &CheckedSchema, tree: &Document) -> Result<ExecutableDocument, 
     let (document, mut faults) = build(schema, tree)?;
     if !faults.is_empty() {
         let possible = Some(&schema.possible);
-        tell_lasting_faults(
-            schema.alloc,
-            &mut faults,
-            &schema.schema,
-            possible,
-            &document,
-        )?;
+        let over = IndexedSchema::new(&schema.schema, &schema.inputs);
+        tell_lasting_faults(schema.alloc, &mut faults, &over, possible, &document)?;
         return Err(Refusal::Faults(faults));
     }
     Ok(document)
@@ -199,7 +199,8 @@ fn validate(schema: &CheckedSchema, document: &ExecutableDocument) -> Result<(),
     let alloc = schema.alloc;
     let mut faults = DiagnosticList::new(alloc);
     let possible = Some(&schema.possible);
-    validate_with_possible_types(alloc, &mut faults, &schema.schema, possible, document)?;
+    let over = IndexedSchema::new(&schema.schema, &schema.inputs);
+    validate_with_possible_types(alloc, &mut faults, &over, possible, document)?;
     if !faults.is_empty() {
         return Err(Refusal::Faults(faults));
     }

@@ -5,13 +5,13 @@ ghost use Rattle.book_validity.specs.in_verdict_definitions.Judge.{AreSchemasCer
 ghost use Rattle.graphql_checked.specs.CheckedView.{schema_value};
 ghost use Rattle.checker_schemas.specs.CheckedSchemaValue.{IsCheckedSchemaOf};
 ghost use Rattle.graphql_checked.specs.CheckerAnswers.{IsCheckerAddRefusal, IsFinishRefusal};
-ghost use Rattle.checker_answers.specs.in_checker_texts.declared.refusal.Refusal.TheVariants.{Memory};
+ghost use Rattle.checker_calls.specs.declared.refusal.Refusal.TheVariants.{Memory};
 
 use crate::checked_schema::CheckedSchema;
-use checker_answers::{Refusal, SchemaTexts};
+use checker_calls::{Refusal, SchemaTexts};
 use checker_schemas::schema_of_texts;
 use graphql_names::Files;
-use graphql_validation::PossibleTypes;
+use graphql_validation::{PossibleTypes, SchemaInputs};
 use schema_components::Extensions;
 use std::alloc::Global;
 use std::marker::Model;
@@ -35,7 +35,7 @@ pub struct Checker {
 impl Model for Checker {
     ghost use Rattle.std.specs.Prelude.{◌≡◌, false};
     ghost use Rattle.graphql_checked.specs.CheckerValue.{CheckerValue};
-    ghost use Rattle.checker_answers.specs.in_checker_texts.TextsView.{terms_of, texts_of, IsReadingOf};
+    ghost use Rattle.checker_calls.specs.TextsView.{terms_of, texts_of, IsReadingOf};
 
     ghost Value = { CheckerValue };
 
@@ -108,6 +108,11 @@ impl Checker {
         match schema_of_texts(self.texts) {
             Ok(judged) => {
                 let possible = PossibleTypes::new(alloc, &judged.schema)?;
+                let (types, directives) = (
+                    &judged.schema.types,
+                    &judged.schema.directive_definitions,
+                );
+                let inputs = SchemaInputs::new(alloc, types, directives)?;
                 Ok(CheckedSchema {
                     alloc,
                     nesting: judged.nesting,
@@ -115,6 +120,7 @@ impl Checker {
                     written: judged.written,
                     schema: judged.schema,
                     possible,
+                    inputs,
                 })
             }
             Err(refusal) => Err(refusal),

@@ -23,8 +23,9 @@ pub use book_validity::Schema;
 pub use checked_document::CheckedDocument;
 pub use checked_schema::CheckedSchema;
 pub use checker::{Checker, Limits};
-pub use checker_answers::{CheckError, Outcome, Refusal, RunFault, Verdict, exit_status};
-pub use checker_settings::{Layout, Settings};
+pub use checker_calls::{
+    CheckError, Layout, Outcome, Refusal, RunFault, Settings, Verdict, exit_status,
+};
 pub use document_typed_operations::ExecutableDocument;
 pub use graphql_faults::{Details, DiagnosticList};
 pub use run_texts::run;

@@ -3,8 +3,8 @@
 ghost use Rattle.std.specs.Prelude.{◌≡◌, false, OnOk, IfOk, IfErr, map, string_bytes};
 ghost use Rattle.std.specs.Option.{option_copied};
 ghost use Rattle.graphql_names.specs.Device.{device_failed};
-ghost use Rattle.checker_answers.specs.Devices.{HaveNotFailed};
-ghost use Rattle.checker_settings.specs.Layouts.{prefix_of};
+ghost use Rattle.checker_calls.specs.Devices.{HaveNotFailed};
+ghost use Rattle.checker_calls.specs.Layouts.{prefix_of};
 ghost use Rattle.book_validity.specs.in_verdict_definitions.Judge.{IsCertain};
 ghost use Rattle.graphql_checked.specs.CheckedView.{schema_value, document_value};
 ghost use Rattle.checker_schemas.specs.CheckedSchemaValue.{IsCheckedSchemaOf};
@@ -16,10 +16,9 @@ use crate::checked_document::CheckedDocument;
 use crate::checked_schema::CheckedSchema;
 use crate::checker::Limits;
 use crate::verdict::schema_of;
-use checker_answers::{
-    Outcome, RunFault, accepted, numbered, put, read_text, read_texts, refusal_answer,
+use checker_calls::{
+    Layout, Outcome, RunFault, accepted, numbered, put, read_text, read_texts, refusal_answer,
 };
-use checker_settings::Layout;
 use graphql_names::Device;
 use std::alloc::{AllocError, Global};
 use std::io::{Read, Write};

@@ -6,13 +6,13 @@ ghost use Rattle.graphql_checked.specs.CheckedView.{schema_value};
 ghost use Rattle.checker_schemas.specs.CheckedSchemaValue.{IsCheckedSchemaOf};
 ghost use Rattle.checker_schemas.specs.Refusals.{RefusalOfSchemas};
 ghost use Rattle.graphql_checked.specs.Verdicts.{first_terms, IsVerdict};
-ghost use Rattle.checker_answers.specs.in_checker_texts.declared.refusal.Refusal.TheVariants as refusal;
-ghost use Rattle.checker_answers.specs.declared.verdict.Verdict.TheVariants.{Accepted};
-ghost use Rattle.checker_answers.specs.declared.verdict.CheckError.TheVariants.{Memory};
+ghost use Rattle.checker_calls.specs.declared.refusal.Refusal.TheVariants as refusal;
+ghost use Rattle.checker_calls.specs.declared.verdict.Verdict.TheVariants.{Accepted};
+ghost use Rattle.checker_calls.specs.declared.verdict.CheckError.TheVariants.{Memory};
 
 use crate::checked_schema::CheckedSchema;
 use crate::checker::{Checker, Limits};
-use checker_answers::{CheckError, Refusal, Verdict, verdict_of};
+use checker_calls::{CheckError, Refusal, Verdict, verdict_of};
 use std::alloc::Global;
 use std::convert::AsStr;
 

@@ -9,8 +9,8 @@ use Rattle.verdict_definitions.specs.Judge.{IsCertain, AreSchemasCertain, IsDocu
 use Rattle.verdict_definitions.specs.Answer.{Refuses, WritesDocument}
 use Rattle.graphql_names.specs.Placed.{Place}
 use Rattle.document_meaning.specs.MeantTree.{MeantDocument}
-use Rattle.checker_texts.specs.declared.refusal.Refusal.{Refusal}
-use Rattle.checker_texts.specs.declared.refusal.Refusal.TheVariants.{Faults, Memory, Failed}
+use Rattle.checker_calls.specs.declared.refusal.Refusal.{Refusal}
+use Rattle.checker_calls.specs.declared.refusal.Refusal.TheVariants.{Faults, Memory, Failed}
 use Rattle.graphql_checked.specs.in_checker_schemas.Refusals.{RefusalOfSchemas}
 use Rattle.graphql_checked.specs.in_checker_schemas.CheckedSchemaValue.{IsCheckedSchemaOf}
 use Rattle.graphql_checked.specs.CheckedView.{CheckedSchemaParts, CheckedDocumentParts, schema_value, document_value}
@@ -18,10 +18,10 @@ use Rattle.graphql_checked.specs.CheckerValue.{IsCheckedDocumentOf, WritesChecke
 use Rattle.verdict_definitions.specs.Out.{Layout}
 use Rattle.graphql_checked.specs.DocumentRefusals.{RefusalOfDocument}
 use Rattle.graphql_checked.specs.Verdicts.{first_terms}
-use Rattle.checker_answers.specs.declared.verdict.Verdict.{Verdict}
-use Rattle.checker_answers.specs.declared.verdict.Verdict.TheVariants.{Accepted, Refused}
-use Rattle.checker_answers.specs.declared.verdict.CheckError.{CheckError}
-use Rattle.checker_answers.specs.declared.verdict.CheckError.TheVariants as error
+use Rattle.checker_calls.specs.declared.verdict.Verdict.{Verdict}
+use Rattle.checker_calls.specs.declared.verdict.Verdict.TheVariants.{Accepted, Refused}
+use Rattle.checker_calls.specs.declared.verdict.CheckError.{CheckError}
+use Rattle.checker_calls.specs.declared.verdict.CheckError.TheVariants as error
 use Rattle.graphql_checked.proofs.Verdicts.{yes_pair, refused_pair, certain_document, certain_schemas, schemas_not_failed, document_not_failed}
 use Rattle.graphql_checked_c.specs.declared.handle.Kept.{Kept}
 use Rattle.caller_memory.specs.Cut.{IsCut}

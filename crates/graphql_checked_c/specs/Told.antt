@@ -10,8 +10,8 @@ use Rattle.verdict_definitions.specs.Out.{Layout, layout_text}
 use Rattle.verdict_definitions.specs.Says.{AnyFault}
 use Rattle.verdict_definitions.specs.Answer.{RefusesSchemas, Refuses, RefusedBytes, WritesDocument, fault_line}
 use Rattle.graphql_checked.specs.in_book_validity.Yes.{IsYes}
-use Rattle.checker_texts.specs.declared.refusal.Refusal.{Refusal}
-use Rattle.checker_texts.specs.declared.refusal.Refusal.TheVariants.{Faults, Memory, Failed}
+use Rattle.checker_calls.specs.declared.refusal.Refusal.{Refusal}
+use Rattle.checker_calls.specs.declared.refusal.Refusal.TheVariants.{Faults, Memory, Failed}
 use Rattle.graphql_checked.specs.in_checker_schemas.CheckedSchemaValue.{IsCheckedSchemaOf}
 use Rattle.graphql_checked.specs.CheckedView.{CheckedSchemaParts, schema_value}
 use Rattle.graphql_checked.specs.Verdicts.{first_terms}

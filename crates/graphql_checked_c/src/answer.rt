@@ -2,9 +2,9 @@
 
 ghost use Rattle.std.specs.Prelude.{◌≡◌, ◌≢◌, []};
 ghost use Rattle.graphql_checked_c.specs.Told.{TellsRefusal};
-ghost use Rattle.checker_texts.specs.declared.refusal.Refusal.TheVariants.{Failed};
+ghost use Rattle.checker_calls.specs.declared.refusal.Refusal.TheVariants.{Failed};
 
-use checker_answers::refused;
+use checker_calls::refused;
 use graphql_checked::Refusal;
 use std::alloc::{AllocError, Global};
 

@@ -2,7 +2,7 @@
 
 ghost use Rattle.std.specs.Prelude.{◌≢◌, true, length, is_some, IfOk};
 ghost use Rattle.graphql_faults.specs.DetailsView.{diagnostics_of};
-ghost use Rattle.checker_texts.specs.declared.refusal.Refusal.TheVariants.{Failed};
+ghost use Rattle.checker_calls.specs.declared.refusal.Refusal.TheVariants.{Failed};
 ghost use Rattle.graphql_checked_c.specs.Json.{AreLines, IsJson};
 ghost use Rattle.graphql_checked_c.specs.Told.{AnswersPair, TellsJson};
 

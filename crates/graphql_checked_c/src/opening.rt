@@ -5,7 +5,7 @@ ghost use Rattle.verdict_definitions.specs.Judge.{AreSchemasCertain};
 ghost use Rattle.graphql_checked.specs.CheckedView.{schema_value};
 ghost use Rattle.graphql_checked.specs.in_checker_schemas.CheckedSchemaValue.{IsCheckedSchemaOf};
 ghost use Rattle.graphql_checked.specs.in_checker_schemas.Refusals.{RefusalOfSchemas};
-ghost use Rattle.checker_texts.specs.declared.refusal.Refusal.TheVariants as refusal;
+ghost use Rattle.checker_calls.specs.declared.refusal.Refusal.TheVariants as refusal;
 ghost use Rattle.graphql_checked.specs.Verdicts.{first_terms};
 ghost use Rattle.graphql_checked_c.specs.Told.{IsSchemaOfTexts, AnswersTexts};
 

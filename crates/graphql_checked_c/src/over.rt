@@ -1,7 +1,7 @@
 //! Documents over a schema that is held, and the texts of both.
 
 ghost use Rattle.std.specs.Prelude.{◌≡◌, [], None, IfSome, ◌⊎◌};
-ghost use Rattle.checker_settings.specs.Layouts.{prefix_of};
+ghost use Rattle.checker_calls.specs.Layouts.{prefix_of};
 ghost use Rattle.graphql_checked.specs.CheckedView.{document_value};
 ghost use Rattle.graphql_checked.specs.CheckerValue.{WritesCheckedDocument};
 ghost use Rattle.graphql_checked_c.specs.Told.{IsYesOver, IsDocumentText, IsSchemaText, IsNoPrefix, layout_of, TellsText, AnswersOver};

@@ -6,7 +6,7 @@ ghost use Rattle.graphql_checked_c.specs.Told.{IsYesOfPair, IsRefusedPair, IsRep
 use crate::answer::{ACCEPTED, Answer, MEMORY, NOT_UTF8, REFUSED, STACK, bare};
 use crate::json::json_texts;
 use caller_memory::{put, suffices};
-use checker_answers::refused;
+use checker_calls::refused;
 use graphql_checked::{CheckError, Limits, Verdict, check_texts};
 use std::alloc::{AllocError, Global};
 

@@ -7,7 +7,7 @@
 ghost use Rattle.std.specs.Prelude.{◌≡◌, ◌≢◌, false, IfOk};
 ghost use Rattle.clap.specs.Words.{kind_of};
 ghost use Rattle.graphql_names.specs.Device.{device_failed};
-ghost use Rattle.checker_answers.specs.ExitStatus.{status_of};
+ghost use Rattle.checker_calls.specs.ExitStatus.{status_of};
 
 use clap::Error;
 use clap::error::ErrorKind;

@@ -5,7 +5,7 @@
 //! Of a schema `validate_schema` tells all of them (`specs/SchemaTold.antt`), and leaves the types that are kept. Where it
 //! tells nothing, implementing is a strict order on interfaces, and each input type has a literal (`rule_schema_laws`).
 //!
-//! The rules are in inner crates side by side: `rule_types`, `rule_interfaces`, `rule_cycles`, `rule_uses`, `rule_values`.
+//! The rules are in inner crates side by side: `rule_types`, `rule_cycles`, `rule_uses`, `rule_values`.
 //! Begin with `schema.rt`.
 #![tactic(auto)]
 
@@ -18,7 +18,7 @@ mod schema;
 mod values;
 
 pub use given::{validate_arguments, validate_directives, validate_variable_usage};
-pub use rule_interfaces::is_valid_implementation_field_type;
+pub use rule_types::is_valid_implementation_field_type;
 pub use scalars::BuiltInScalars;
 pub use schema::validate_schema;
 pub use values::value_of_correct_type;

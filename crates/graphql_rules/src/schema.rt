@@ -15,9 +15,8 @@ use fault_data::Fault;
 use graphql_faults::DiagnosticList;
 use rule_cycles::laws::names_differ;
 use rule_cycles::{Schema, check_cycles};
-use rule_interfaces::check_interfaces;
-use rule_types::check_types;
-use rule_uses::check_schema_directives;
+use rule_types::{check_interfaces, check_types};
+use rule_uses::{IndexedSchema, SchemaInputs, check_schema_directives};
 use std::alloc::{AllocError, Global};
 
 /// Tells every fault of the rules on schemas (sections 3 and 5). Then it drops from the types each built-in scalar to
@@ -61,9 +60,11 @@ fn schema_faults(alloc: Global, schema: &Schema) -> Result<Vec<Fault>, AllocErro
     ensures { IfOk result (λ faults. TellsSchema (schema_tree schema.now) (faults_of faults)) }
 {
     let mut faults = Vec::new(alloc);
+    let inputs = SchemaInputs::new(alloc, &schema.types, &schema.directive_definitions)?;
     check_types(alloc, schema, &mut faults)?;
-    check_interfaces(alloc, schema, &mut faults)?;
+    check_interfaces(alloc, schema, &inputs, &mut faults)?;
     check_cycles(alloc, schema, &mut faults)?;
-    check_schema_directives(schema, &mut faults)?;
+    let indexed = IndexedSchema::new(schema, &inputs);
+    check_schema_directives(&indexed, &mut faults)?;
     Ok(faults)
 }

@@ -7,7 +7,7 @@ ghost use Rattle.graphql_rules.specs.ValueTold.{ValueTold, TypeAccepts};
 use graphql_faults::DiagnosticList;
 use graphql_names::Node;
 use rule_cycles::Schema;
-use rule_uses::{DefinedVariables, check_value};
+use rule_uses::{DefinedVariables, IndexedSchema, check_value};
 use std::alloc::{AllocError, Global};
 use tree_literals::{Type, Value};
 use tree_operations::VariableDefinition;
@@ -29,6 +29,7 @@ pub fn value_of_correct_type(
 {
     let mut faults = Vec::new(alloc);
     let variables = DefinedVariables::new(alloc, variables)?;
-    check_value(schema, ty, value, &variables, &mut faults)?;
+    let schema = IndexedSchema::plain(schema);
+    check_value(&schema, ty, value, &variables, &mut faults)?;
     list.append_faults(faults)
 }

@@ -15,9 +15,9 @@ use Rattle.rule_document_definitions.specs.Verdict.{FieldSetWithinBounds}
 use Rattle.rule_document_definitions.specs.Told.{PlacedDocumentFault, SetRulesFail, IsValidFieldSet}
 use Rattle.rule_document_definitions.proofs.Verdicts.{set_valid_where_nothing_is_told, set_within_bounds_where_nothing_is_told}
 use Rattle.rule_fragments.specs.Used.{AreUnderOwnNames}
-use Rattle.rule_subscriptions.specs.Nested.{NestsTooDeep}
+use Rattle.rule_fragments.specs.Nested.{NestsTooDeep}
 use Rattle.rule_selections.proofs.Typing.{field_set_reaches_typed}
-use Rattle.rule_fragments.specs.in_typing.Meanings.{meanings}
+use Rattle.rule_selections.specs.in_typing.Meanings.{meanings}
 use Rattle.schema_types.specs.Plain.{plain}
 use Rattle.graphql_validation.specs.Operations.{AreReachesTyped, TellsData, AllUnder, OperationFails, all_told}
 use Rattle.graphql_validation.specs.Told.{IsTypedSet, SetRulesOrBoundFail, TellsFieldSet}

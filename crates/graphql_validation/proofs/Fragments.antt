@@ -9,7 +9,7 @@ use Rattle.schema_types.specs.TypeView.{name_text}
 use Rattle.rule_fragments.proofs.in_schema.DistinctFacts.{distinct_entries}
 use Rattle.document_typed_operations.specs.TypedDocument.{TypedFragment, typed_fragment_tree, typed_document_tree}
 use Rattle.document_typed_operations.specs.declared.document.ExecutableDocument.{ExecutableDocument}
-use Rattle.rule_fragments.specs.in_typing.DocumentView.{meant_by_fragment, document_meant}
+use Rattle.rule_fragments.specs.in_typed_operations.DocumentView.{meant_by_fragment, document_meant}
 
 meant_keys : (es : Entries (Placed Place (TypedFragment Place))) → keys_of (map (λ e. (e.0, meant_by_fragment e.1)) es) ≡ keys_of es
 meant_keys [] = refl

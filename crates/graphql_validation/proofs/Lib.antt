@@ -9,4 +9,10 @@ pub mod FieldSets
 pub mod Telling
 pub mod MergedOperations
 pub mod WholeDocuments
+pub mod Fitting
+pub mod Staying
+pub mod Passing
+pub mod Reasons
+pub mod Filtered
+pub mod Kept
 pub mod StandingFaults

@@ -9,14 +9,14 @@ use Rattle.rule_definitions.specs.Told.{PlacedFault}
 use Rattle.rule_document_definitions.specs.DocumentFaults.{Broken, OfData, OfDocument, OfLimit}
 use Rattle.rule_document_definitions.specs.Selected.{operations}
 use Rattle.rule_document_definitions.specs.Told.{PlacedDocumentFault, places_in}
-use Rattle.rule_lasting.specs.LastingRules.{LastingDataBreaks, LastingSubscriptionBreaks, LastingFails, LastingOrCycleFails}
-use Rattle.rule_lasting.specs.Lasts.{fault_lasts, broken_lasts}
-use Rattle.rule_lasting.proofs.Filtered.{filtered, passing}
-use Rattle.rule_lasting.proofs.Passing.{data_passes, defer_passes, subscription_passes}
-use Rattle.rule_lasting.proofs.Kept.{data_right, broken_right, not_many}
-use Rattle.rule_lasting.proofs.Reasons.{of_variables}
+use Rattle.graphql_validation.specs.LastingRules.{LastingDataBreaks, LastingSubscriptionBreaks, LastingFails, LastingOrCycleFails}
+use Rattle.graphql_validation.specs.Lasts.{fault_lasts, broken_lasts}
+use Rattle.graphql_validation.proofs.Filtered.{filtered, passing}
+use Rattle.graphql_validation.proofs.Passing.{data_passes, defer_passes, subscription_passes}
+use Rattle.graphql_validation.proofs.Kept.{data_right, broken_right, not_many}
+use Rattle.graphql_validation.proofs.Reasons.{of_variables}
 use Rattle.graphql_validation.specs.Operations.{TellsData, AllUnder, OperationFails, all_told}
-use Rattle.rule_subscriptions.specs.Documents.{TellsBreaches}
+use Rattle.rule_fragments.specs.Documents.{TellsBreaches}
 use Rattle.graphql_validation.specs.TellsDocument.{TellsDocument}
 use Rattle.graphql_validation.specs.TellsLasting.{TellsLasting}
 use Rattle.graphql_validation.proofs.Telling.{data_in, broken_in, told_cases, bound_is}

@@ -15,7 +15,7 @@ use Rattle.rule_document_definitions.specs.Named.{FragmentsFoundByName}
 use Rattle.rule_document_definitions.specs.Told.{PlacedDocumentFault, DocumentFailsAlone, DocumentBoundFails, IsValidAlone}
 use Rattle.rule_document_definitions.proofs.Verdicts.{valid_alone_where_nothing_is_told, within_bounds_where_nothing_is_told}
 use Rattle.rule_fragments.specs.Used.{IsUsed}
-use Rattle.rule_subscriptions.specs.Nested.{NestsTooDeep}
+use Rattle.rule_fragments.specs.Nested.{NestsTooDeep}
 use Rattle.graphql_validation.specs.Operations.{TellsData, AllAlone, OperationFailsAlone, all_told}
 use Rattle.graphql_validation.proofs.Telling.{data_in, broken_in, limit_in, told_cases, bound_is}
 use Rattle.graphql_validation.proofs.Ordered.{beside_alone}

@@ -23,12 +23,12 @@ use Rattle.rule_document_definitions.proofs.MergingFacts.{merging_breaks_nothing
 use Rattle.rule_document_definitions.proofs.Verdicts.{valid_where_nothing_is_told, within_bounds_where_nothing_is_told}
 use Rattle.rule_fragments.specs.Used.{AreUnderOwnNames, IsUsed}
 use Rattle.rule_selections.proofs.Typing.{document_reaches_typed}
-use Rattle.rule_subscriptions.specs.Nested.{NestsTooDeep}
-use Rattle.rule_subscriptions.specs.Told.{AreAlike}
-use Rattle.rule_fragments.specs.in_typing.Meanings.{meanings}
+use Rattle.rule_fragments.specs.Nested.{NestsTooDeep}
+use Rattle.rule_fragments.specs.SubscriptionTold.{AreAlike}
+use Rattle.rule_selections.specs.in_typing.Meanings.{meanings}
 use Rattle.rule_merging.specs.Merged.{MergingFailsAt}
 use Rattle.graphql_validation.specs.Operations.{AreReachesTyped, TellsData, AllUnder, OperationFails, all_told}
-use Rattle.rule_subscriptions.specs.Documents.{TellsBreaches}
+use Rattle.rule_fragments.specs.Documents.{TellsBreaches}
 use Rattle.graphql_validation.specs.Told.{AnswersFragment}
 use Rattle.graphql_validation.specs.TellsDocument.{IsTypedUnder, FailsBesides, FailsBesideMerging, FailsInMerging, SomeFails, TellsDocument}
 use Rattle.graphql_validation.proofs.Ordered.{beside_under}

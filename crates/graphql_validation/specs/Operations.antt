@@ -8,7 +8,7 @@ use Rattle.schema_types.specs.SchemaTree.{SchemaTree}
 use Rattle.schema_types.specs.Plain.{plain}
 use Rattle.document_typed_selections.specs.TypedTree.{TypedSet}
 use Rattle.document_typed_operations.specs.TypedDocument.{TypedOperation}
-use Rattle.rule_fragments.specs.in_typing.Meanings.{meanings}
+use Rattle.rule_selections.specs.in_typing.Meanings.{meanings}
 use Rattle.document_meaning.specs.MeantTree.{MeantOperation, MeantFragment, MeantDocument}
 use Rattle.rule_definitions.specs.Judged.{judged}
 use Rattle.rule_definitions.specs.Told.{PlacedFault}

@@ -8,7 +8,7 @@ use Rattle.schema_types.specs.SchemaTree.{SchemaTree}
 use Rattle.schema_types.specs.Plain.{plain}
 use Rattle.document_typed_operations.specs.declared.operation.Fragment.{Fragment}
 use Rattle.document_meaning.specs.MeantTree.{MeantOperation, MeantDocument}
-use Rattle.rule_fragments.specs.in_typing.Meanings.{meanings}
+use Rattle.rule_selections.specs.in_typing.Meanings.{meanings}
 use Rattle.fault_data.specs.Adds.{Adds}
 use Rattle.fault_data.specs.FaultView.{faults_of}
 use Rattle.rule_merging.specs.in_faults.DetailsTree.{of_document}

@@ -5,8 +5,8 @@ use Rattle.schema_types.specs.SchemaTree.{SchemaTree}
 use Rattle.schema_types.specs.Plain.{plain}
 use Rattle.document_meaning.specs.MeantTree.{MeantOperation, MeantFragment, MeantDocument}
 use Rattle.document_meaning.specs.Unplaced.{unplaced_document}
-use Rattle.rule_fragments.specs.in_typing.Meanings.{meanings}
-use Rattle.rule_fragments.specs.in_typing.TypedByPlace.{IsTypedDocument}
+use Rattle.rule_selections.specs.in_typing.Meanings.{meanings}
+use Rattle.rule_selections.specs.in_typing.TypedByPlace.{IsTypedDocument}
 use Rattle.rule_document_definitions.specs.DocumentFaults.{Broken, OfData, OfDocument, OfLimit}
 use Rattle.rule_document_definitions.specs.DocumentRules.{DeferredBreaks}
 use Rattle.rule_document_definitions.specs.Fragments.{ReachesItself, UnusedFragmentAt}
@@ -17,8 +17,8 @@ use Rattle.rule_document_definitions.specs.Subscriptions.{SubscriptionBreaks}
 use Rattle.rule_document_definitions.specs.Told.{PlacedDocumentFault, DocumentFails, DocumentMergingFails, DocumentBoundFails, IsValidDocument, places_alone}
 use Rattle.rule_document_definitions.specs.Verdict.{WithinBounds}
 use Rattle.rule_fragments.specs.Used.{IsUsed}
-use Rattle.rule_subscriptions.specs.Nested.{NestsTooDeep}
-use Rattle.rule_subscriptions.specs.Told.{AreAlike}
+use Rattle.rule_fragments.specs.Nested.{NestsTooDeep}
+use Rattle.rule_fragments.specs.SubscriptionTold.{AreAlike}
 use Rattle.rule_merging.specs.in_faults.DetailsTree.{of_document}
 use Rattle.graphql_validation.specs.Operations.{OperationFails}
 use Rattle.graphql_validation.specs.Told.{Telling, AnswersFragment}

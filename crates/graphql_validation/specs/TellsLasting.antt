@@ -4,7 +4,7 @@ use Rattle.graphql_names.specs.Placed.{Place}
 use Rattle.schema_types.specs.SchemaTree.{SchemaTree}
 use Rattle.document_meaning.specs.MeantTree.{MeantDocument}
 use Rattle.rule_document_definitions.specs.Told.{PlacedDocumentFault}
-use Rattle.rule_lasting.specs.LastingRules.{LastingFails, LastingOrCycleFails}
+use Rattle.graphql_validation.specs.LastingRules.{LastingFails, LastingOrCycleFails}
 use Rattle.rule_merging.specs.in_faults.DetailsTree.{of_document, Telling}
 use Rattle.graphql_validation.specs.TellsDocument.{IsTypedUnder}
 

@@ -7,8 +7,8 @@ use Rattle.document_typed_selections.specs.TypedTree.{typed_set_tree}
 use Rattle.document_typed_operations.specs.declared.document.FieldSet.{FieldSet}
 use Rattle.document_meaning.specs.MeantTree.{MeantSet, MeantFragment, MeantDocument, meant_of_set}
 use Rattle.document_meaning.specs.Unplaced.{unplaced_document, unplaced_set}
-use Rattle.rule_fragments.specs.in_typing.Meanings.{meanings}
-use Rattle.rule_fragments.specs.in_typing.TypedByPlace.{IsSetOn}
+use Rattle.rule_selections.specs.in_typing.Meanings.{meanings}
+use Rattle.rule_selections.specs.in_typing.TypedByPlace.{IsSetOn}
 use Rattle.rule_definitions.specs.Told.{PlacedFault}
 use Rattle.rule_document_definitions.specs.DocumentFaults.{OfData, OfDocument, OfLimit}
 use Rattle.rule_document_definitions.specs.FieldSets.{document_of_set}
@@ -21,7 +21,7 @@ use Rattle.rule_merging.specs.in_faults.DetailsTree.{of_document}
 pub use Rattle.rule_merging.specs.in_faults.DetailsTree.{Telling}
 use Rattle.rule_fragments.specs.Used.{IsUsed, AreUnderOwnNames}
 use Rattle.rule_fragments.specs.Told.{Answers}
-use Rattle.rule_subscriptions.specs.Nested.{NestsTooDeep}
+use Rattle.rule_fragments.specs.Nested.{NestsTooDeep}
 use Rattle.graphql_validation.specs.Operations.{OperationFailsAlone}
 
 -- a fault that says that the fragment reaches itself, or that ways of spreads from there are too long

@@ -1,6 +1,6 @@
 //! What is judged without a schema, operation by operation.
 ghost use Rattle.std.specs.Prelude.{IfOk, OnOk};
-ghost use Rattle.rule_fragments.specs.in_typing.DocumentView.{document_meant, operation_meant};
+ghost use Rattle.rule_fragments.specs.in_typed_operations.DocumentView.{document_meant, operation_meant};
 ghost use Rattle.fault_data.specs.Adds.{Adds};
 ghost use Rattle.fault_data.specs.FaultView.{faults_of};
 ghost use Rattle.graphql_validation.specs.Steps.{FindsAlone, NotesReached, FindsAllAlone, NotesAllReached, TellsAlone};

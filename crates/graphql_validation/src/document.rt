@@ -2,7 +2,7 @@
 ghost use Rattle.std.specs.Prelude.{◌≡◌, ◌↔◌, [], false, IsTrue, OnErr, OnOk};
 ghost use Rattle.std.specs.Option.{option_copied};
 ghost use Rattle.rule_fragments.specs.in_schema.SchemaOf.{schema_tree};
-ghost use Rattle.rule_fragments.specs.in_typing.DocumentView.{document_meant};
+ghost use Rattle.rule_fragments.specs.in_typed_operations.DocumentView.{document_meant};
 ghost use Rattle.rule_document_definitions.specs.Selected.{operations};
 ghost use Rattle.fault_data.specs.FaultView.{faults_of};
 ghost use Rattle.rule_merging.specs.in_faults.DetailsView.{diagnostics_of, BeginsAs};
@@ -17,9 +17,9 @@ use crate::told::append_all;
 use crate::under_schema::faults_under;
 use document_typed_operations::ExecutableDocument;
 use fault_data::Fault;
-use rule_fragments::{PossibleTypes, Schema};
+use rule_fragments::{PossibleTypes, Schema, document_breaches, passes_path_bound};
 use rule_merging::{Breach, DiagnosticList, FieldsInSetCanMerge};
-use rule_subscriptions::{document_breaches, passes_path_bound};
+use rule_selections::{IndexedSchema, SchemaInputs};
 use std::alloc::{AllocError, Global};
 
 /// Whether there is nothing to tell.
@@ -62,15 +62,17 @@ pub fn validate_executable_document(
     ensures accepts { OnOk result (ValidMeansSilence (schema_tree schema.now) (document_meant document.now) (diagnostics_of list.old) (diagnostics_of list.new)) }
     ensures begins { OnErr result (BeginsAs (diagnostics_of list.old) (diagnostics_of list.new)) }
 {
-    validate_with_possible_types(alloc, list, schema, None, document)
+    let inputs = SchemaInputs::new(alloc, &schema.types, &schema.directive_definitions)?;
+    let schema = IndexedSchema::new(schema, &inputs);
+    validate_with_possible_types(alloc, list, &schema, None, document)
 }
 
-/// What [`validate_executable_document`] tells, where the possible types of the schema may be there already: then they are not
-/// found again.
+/// What [`validate_executable_document`] tells, where what the schema defines of many input values is there already, and the
+/// possible types of the schema may be: then they are not found again.
 pub fn validate_with_possible_types(
     alloc: Global,
     list: &mut DiagnosticList,
-    schema: &Schema,
+    schema: &IndexedSchema<'_>,
     possible: Option<&PossibleTypes>,
     document: &ExecutableDocument,
 ) -> Result<(), AllocError>
@@ -86,7 +88,7 @@ pub fn validate_with_possible_types(
     let breaches = document_breaches(alloc, document)?;
     let is_passed = passes_path_bound(document);
     if is_nothing(&faults, &breaches, is_passed) {
-        return merge_operations(alloc, list, schema, document);
+        return merge_operations(alloc, list, schema.schema(), document);
     }
     append_all(list, faults, breaches, is_passed)
 }

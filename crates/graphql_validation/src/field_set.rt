@@ -6,7 +6,7 @@ ghost use Rattle.rule_document_definitions.specs.FieldSets.{document_of_set};
 ghost use Rattle.rule_merging.specs.in_faults.DetailsView.{diagnostics_of, BeginsAs};
 ghost use Rattle.document_typed_operations.specs.TypedDocument.{typed_operation_tree};
 ghost use Rattle.document_typed_selections.specs.TypedTree.{typed_set_tree};
-ghost use Rattle.rule_fragments.specs.in_typing.DocumentView.{document_meant};
+ghost use Rattle.rule_fragments.specs.in_typed_operations.DocumentView.{document_meant};
 ghost use Rattle.graphql_validation.specs.Operations.{query_on};
 ghost use Rattle.graphql_validation.specs.Told.{set_meant, TypedFieldSetTold, SilenceMeansValidSet, ValidSetMeansSilence};
 
@@ -15,9 +15,9 @@ use crate::under_schema::faults_under;
 use document_typed_operations::{ExecutableDocument, FieldSet, Operation, OperationMap};
 use graphql_names::Node;
 use indexmap::IndexMap;
-use rule_fragments::Schema;
+use rule_fragments::{Schema, passes_path_bound};
 use rule_merging::DiagnosticList;
-use rule_subscriptions::passes_path_bound;
+use rule_selections::{IndexedSchema, SchemaInputs};
 use std::alloc::{AllocError, Global};
 use tree_directives::{DirectiveList, OperationType};
 
@@ -64,7 +64,9 @@ pub fn validate_field_set(
 {
     // As a document of one query, so that no rule is written a second time for sets.
     let document = document_of_set(alloc, field_set)?;
-    let faults = faults_under(alloc, schema, None, &document)?;
+    let inputs = SchemaInputs::new(alloc, &schema.types, &schema.directive_definitions)?;
+    let schema = IndexedSchema::new(schema, &inputs);
+    let faults = faults_under(alloc, &schema, None, &document)?;
     let is_passed = passes_path_bound(&document);
     append_all(list, faults, Vec::new(alloc), is_passed)
 }

@@ -2,19 +2,19 @@
 ghost use Rattle.std.specs.Prelude.{OnErr, OnOk};
 ghost use Rattle.std.specs.Option.{option_copied};
 ghost use Rattle.rule_fragments.specs.in_schema.SchemaOf.{schema_tree};
-ghost use Rattle.rule_fragments.specs.in_typing.DocumentView.{document_meant};
+ghost use Rattle.rule_fragments.specs.in_typed_operations.DocumentView.{document_meant};
 ghost use Rattle.rule_merging.specs.in_faults.DetailsView.{diagnostics_of, BeginsAs};
 ghost use Rattle.rule_definitions.specs.Judged.{judged};
 ghost use Rattle.rule_fragments.specs.Possible.{ArePossibleIfFound};
 ghost use Rattle.graphql_validation.specs.TellsLasting.{TypedLastingTold};
 
+use crate::filters::{keep_lasting_breaches, keep_lasting_faults};
 use crate::told::append_all;
 use crate::under_schema::faults_under;
 use document_typed_operations::ExecutableDocument;
-use rule_fragments::{PossibleTypes, Schema};
-use rule_lasting::{keep_lasting_breaches, keep_lasting_faults};
+use rule_fragments::{PossibleTypes, document_breaches};
 use rule_merging::DiagnosticList;
-use rule_subscriptions::document_breaches;
+use rule_selections::IndexedSchema;
 use std::alloc::{AllocError, Global};
 
 /// Tells of a document of which something may be left out, as typing does, what is wrong with it whatever that was: what
@@ -25,7 +25,7 @@ use std::alloc::{AllocError, Global};
 pub fn tell_lasting_faults(
     alloc: Global,
     list: &mut DiagnosticList,
-    schema: &Schema,
+    schema: &IndexedSchema<'_>,
     possible: Option<&PossibleTypes>,
     document: &ExecutableDocument,
 ) -> Result<(), AllocError>

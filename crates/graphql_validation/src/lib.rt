@@ -3,17 +3,23 @@
 //! For the layers above: a call adds to a list what breaks the rules of its document, each fault at its place, and nothing
 //! else (`specs/Told.antt`, `specs/TellsDocument.antt`); it adds nothing exactly when all rules hold, apart from memory and
 //! the bounds. What breaks a rule is a predicate named after its variant, in `rule_document_definitions`. Who checks many
-//! documents over a schema finds its `PossibleTypes` once, and passes them to `validate_with_possible_types`.
+//! documents over a schema finds its `PossibleTypes` and `SchemaInputs` once, and passes them to `validate_with_possible_types`.
 //!
-//! The rules are in inner crates side by side: `rule_variables`, `rule_selections`, `rule_fragments` and
-//! `rule_subscriptions`; what an operation reaches is found once, by `rule_document_ground`. Fields are merged
+//! The rules are in inner crates side by side: `rule_variables`, `rule_selections` and `rule_fragments`, which has those on
+//! subscriptions too; what an operation reaches is found once, by `rule_document_ground`. Fields are merged
 //! by `rule_merging`, operation by operation; a field where it is selected is a `FieldSelection`, of `rule_document_ground`.
-//! Begin with `document.rt`, `field_set.rt` and `standalone.rt`; `lasting.rt` judges what typing left of a document.
+//! Begin with `document.rt`, `field_set.rt` and `standalone.rt`.
+//!
+//! `lasting.rt` judges what typing left of a document: of faults of rules that stay broken whatever is added to a document, since
+//! what is not there cannot be why they are there. `specs/Parts.antt` says when a document is part of another,
+//! `specs/LastingRules.antt` which rules these are, and `laws.rt` that they stay broken in every document that the document is
+//! part of. `filters.rt` keeps their faults among others.
 #![tactic(auto)]
 
 mod alone;
 mod document;
 mod field_set;
+mod filters;
 mod found;
 mod lasting;
 pub mod laws;
@@ -26,4 +32,5 @@ pub use field_set::validate_field_set;
 pub use lasting::tell_lasting_faults;
 pub use rule_fragments::{FieldSelection, PossibleTypes};
 pub use rule_merging::FieldsInSetCanMerge;
+pub use rule_selections::{IndexedSchema, SchemaInputs};
 pub use standalone::validate_standalone_executable;

@@ -1,6 +1,6 @@
 //! Every rule on a document without a schema.
 ghost use Rattle.std.specs.Prelude.{OnErr, OnOk};
-ghost use Rattle.rule_fragments.specs.in_typing.DocumentView.{document_meant};
+ghost use Rattle.rule_fragments.specs.in_typed_operations.DocumentView.{document_meant};
 ghost use Rattle.rule_merging.specs.in_faults.DetailsView.{diagnostics_of, BeginsAs};
 ghost use Rattle.graphql_validation.specs.Told.{NamedAloneTold, SilenceMeansValidAlone, ValidAloneMeansSilence};
 
@@ -8,8 +8,8 @@ use crate::alone::faults_alone;
 use crate::found::fragments_differ;
 use crate::told::append_all;
 use document_typed_operations::ExecutableDocument;
+use rule_fragments::{deferred_breaches, passes_path_bound};
 use rule_merging::DiagnosticList;
-use rule_subscriptions::{deferred_breaches, passes_path_bound};
 use std::alloc::{AllocError, Global};
 
 /// Tells what breaks the rules that need no schema (sections 5.4.2, 5.5, 5.6.3, 5.7.1 and 5.8): UniqueArgument,

@@ -5,7 +5,7 @@ ghost use Rattle.fault_data.specs.Adds.{Adds};
 ghost use Rattle.fault_data.specs.FaultView.{faults_of};
 ghost use Rattle.rule_definitions.specs.Judged.{judged};
 ghost use Rattle.rule_fragments.specs.in_schema.SchemaOf.{schema_tree};
-ghost use Rattle.rule_fragments.specs.in_typing.DocumentView.{document_meant, operation_meant};
+ghost use Rattle.rule_fragments.specs.in_typed_operations.DocumentView.{document_meant, operation_meant};
 ghost use Rattle.rule_fragments.specs.Possible.{ArePossibleIfFound};
 ghost use Rattle.graphql_validation.specs.Steps.{FindsUnder, NotesUnder, StayPossible, FindsAllUnder, NotesAllUnder, TellsUnder};
 
@@ -13,17 +13,15 @@ use crate::found::{Found, check_fragments, note_fragments};
 use document_typed_operations::{ExecutableDocument, FragmentMap, Operation};
 use fault_data::Fault;
 use graphql_names::Node;
-use rule_fragments::{
-    PossibleTypes, Schema, check_applications, check_spreads, for_document, reach,
-};
-use rule_selections::{check_selections, settled_fragments};
+use rule_fragments::{PossibleTypes, check_applications, check_spreads, for_document, reach};
+use rule_selections::{IndexedSchema, check_selections, settled_fragments};
 use rule_variables::{check_variables, check_variables_alone};
 use std::alloc::{AllocError, Global};
 
 /// Adds the faults of an operation under a schema, and notes the fragments that it reaches, where these fragments replace
 /// those of its document. The possible types of the schema are found where it first needs them.
 fn check_operation(
-    schema: &Schema,
+    schema: &IndexedSchema<'_>,
     possible: &mut Option<PossibleTypes>,
     fragments: &FragmentMap,
     operation: &Node<Operation>,
@@ -40,14 +38,20 @@ fn check_operation(
     check_variables(schema, operation, &mut found.faults)?;
     check_selections(schema, operation, &reach, &mut found.faults)?;
     check_spreads(fragments, &reach, &mut found.faults)?;
-    check_applications(schema, possible, fragments, &reach, &mut found.faults)?;
+    check_applications(
+        schema.schema(),
+        possible,
+        fragments,
+        &reach,
+        &mut found.faults,
+    )?;
     note_fragments(&reach, &mut found.used)
 }
 
 /// Adds the faults of each operation under a schema, and notes the fragments that one of them reaches, where these
 /// fragments replace those of the document.
 fn check_operations(
-    schema: &Schema,
+    schema: &IndexedSchema<'_>,
     possible: &mut Option<PossibleTypes>,
     document: &ExecutableDocument,
     fragments: &FragmentMap,
@@ -69,7 +73,7 @@ fn check_operations(
 /// none, never.
 pub(crate) fn faults_under(
     alloc: Global,
-    schema: &Schema,
+    schema: &IndexedSchema<'_>,
     possible: Option<&PossibleTypes>,
     document: &ExecutableDocument,
 ) -> Result<Vec<Fault>, AllocError>

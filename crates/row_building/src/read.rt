@@ -49,7 +49,9 @@ fn by_input(
 fn push_answer(alloc: Global, call: &str, text: &str, nesting: usize, answer: &mut Answer) {
     match call {
         "parse_type" => push_type(alloc, text, nesting, answer),
-        "parse_selections" => push_selections(alloc, text, nesting, answer),
+        "parse_selections" | "response_names" => {
+            push_selections(alloc, call, text, nesting, answer)
+        }
         "next_token" => push_tokens(text, answer),
         _ => push_document(alloc, call, text, nesting, answer),
     }
@@ -72,9 +74,10 @@ fn push_type(alloc: Global, text: &str, nesting: usize, answer: &mut Answer) {
     }
 }
 
-/// Adds what each selection that is read prints on a line of its own.
-fn push_selections(alloc: Global, text: &str, nesting: usize, answer: &mut Answer) {
+/// Adds what each selection that is read prints on a line of its own, or the response name of each field.
+fn push_selections(alloc: Global, call: &str, text: &str, nesting: usize, answer: &mut Answer) {
     match parse_selections(alloc, text, FileId(1), nesting) {
+        Ok(selections) if call == "response_names" => push_response_names(&selections, answer),
         Ok(selections) => push_lines(&selections, answer),
         Err(fault) => push_fault(fault, &mut answer.status),
     }
@@ -85,6 +88,17 @@ fn push_lines(selections: &[Selection], answer: &mut Answer) {
     for selection in selections {
         let shown = selection.serialize().no_indent();
         answer.text.show_between("", &shown, "\n");
+    }
+    answer.status.put("0");
+}
+
+/// Adds the response name of each field on a line of its own.
+fn push_response_names(selections: &[Selection], answer: &mut Answer) {
+    for selection in selections {
+        if let Some(field) = selection.as_field() {
+            let name = field.content().response_name();
+            answer.text.show_between("", name, "\n");
+        }
     }
     answer.status.put("0");
 }

@@ -1,9 +1,9 @@
 //! Schemas that are built, and written out.
 
+use crate::building::Built;
 use crate::extended::push_extended;
 use graphql_schema::Schema;
 use row_files::{Answer, push_faults};
-use row_schemas::Built;
 use std::alloc::{AllocError, Global};
 use tree_literals::Tree;
 

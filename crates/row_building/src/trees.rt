@@ -3,6 +3,7 @@
 use crate::print::judge_tree;
 use graphql_names::{FileId, Name, Node};
 use graphql_read::{parse_document, parse_type};
+use graphql_values::ty;
 use row_files::{Case, Field, Problem, Tally, text_of};
 use std::alloc::{AllocError, Global};
 use tree_definitions::{Definition, Document};
@@ -17,6 +18,7 @@ pub(crate) fn by_tree(alloc: Global, case: Case<'_>, tally: &mut Tally) -> Resul
         "directive without locations" => by_directive(alloc, case, tally),
         "document without definitions" => by_no_definitions(alloc, case, tally),
         "least integer" => by_integer(alloc, case, tally),
+        "type by macro" => by_macro(alloc, case, tally),
         _ => by_text(alloc, case, field, tally),
     }
 }
@@ -43,6 +45,12 @@ fn by_no_definitions(alloc: Global, case: Case<'_>, tally: &mut Tally) -> Result
 /// Judges what the row asks of the least integer of 32 bits.
 fn by_integer(alloc: Global, case: Case<'_>, tally: &mut Tally) -> Result<(), Problem> {
     let tree = Value::Int(IntValue::from_i32(alloc, i32::MIN)?);
+    judge_tree(alloc, case, &tree, tree.is_writable(), tally)
+}
+
+/// Judges what the row asks of a type that the macro makes.
+fn by_macro(alloc: Global, case: Case<'_>, tally: &mut Tally) -> Result<(), Problem> {
+    let tree = ty!(alloc, [[[Obj ] !]]!)?;
     judge_tree(alloc, case, &tree, tree.is_writable(), tally)
 }
 

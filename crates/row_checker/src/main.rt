@@ -1,52 +1,50 @@
-//! Rows of schema texts and documents that the checker judges. Its words name the files of its `data/`. What needs no call of
-//! the checker is in `row_texts`.
+//! All rows. Its words name the files of its `data/`. How the calls of rows answer is in `row_building`, `row_rules` and `row_texts`;
+//! here is what needs the checker, or every rule: the calls of `Library`.
 #![tactic(auto)]
 
 mod answers;
+mod checks;
+mod library;
+mod rules;
 
-use crate::answers::{push_around, schema_of};
-use graphql_checked::{CheckError, Limits, Outcome, RunFault, Verdict, check_texts, run};
-use graphql_names::{Cut, Device};
-use row_texts::{Asked, Checks, Texts, Told, judge_texts};
+use crate::library::Library;
+use row_files::{Calls, Case, Problem, Tally, judge_files};
+use row_rules::{Building, Judging};
+use row_texts::Checking;
 use std::alloc::Global;
 use std::process::ExitCode;
 
-/// The calls of the checker, and where memory comes from.
+/// The calls of all rows.
 #[derive(Clone, Copy)]
-struct Checking {
-    alloc: Global,
+struct AllCalls<'a> {
+    judging: Judging<'a, Library>,
+    checking: Checking<'a, Library>,
 }
 
-impl Checks for Checking {
-    fn check_texts(&self, texts: Texts<'_>) -> Result<Verdict, CheckError> {
-        let limits = Limits {
-            nesting: texts.asked.nesting,
-        };
-        check_texts(self.alloc, texts.schemas, texts.document, limits)
+impl Calls for AllCalls<'_> {
+    fn names_of(&self, call: &str) -> Option<&'static [&'static str]> {
+        Building
+            .names_of(call)
+            .or(self.judging.names_of(call))
+            .or(self.checking.names_of(call))
     }
 
-    fn judge(&self, texts: Texts<'_>, told: &mut Told) {
-        match schema_of(self.alloc, texts.schemas, texts.asked) {
-            Ok(schema) => push_around(&schema, texts, told),
-            Err(refusal) => told.refuse(&refusal),
+    fn judge(&self, alloc: Global, case: Case<'_>, tally: &mut Tally) -> Result<(), Problem> {
+        if Building.names_of(case.call).is_some() {
+            Building.judge(alloc, case, tally)
+        } else if self.judging.names_of(case.call).is_some() {
+            self.judging.judge(alloc, case, tally)
+        } else {
+            self.checking.judge(alloc, case, tally)
         }
-    }
-
-    fn run(
-        &self,
-        schemas: &mut [Device<Cut<&[u8]>>],
-        document: &mut Device<Cut<&[u8]>>,
-        asked: Asked,
-        out: &mut Device<Cut<&mut Vec<u8>>>,
-    ) -> Result<Outcome, RunFault> {
-        let limits = Limits {
-            nesting: asked.nesting,
-        };
-        run(self.alloc, schemas, document, limits, asked.layout, out)
     }
 }
 
 fn main(rt: HostRuntime) -> ExitCode {
-    let checking = Checking { alloc: rt.alloc() };
-    judge_texts(&rt, &checking)
+    let library = Library { alloc: rt.alloc() };
+    let calls = AllCalls {
+        judging: Judging { rules: &library },
+        checking: Checking { checks: &library },
+    };
+    judge_files(&rt, &calls)
 }

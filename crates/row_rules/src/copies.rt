@@ -39,8 +39,8 @@ fn tell_the_same(alloc: Global, one: &DiagnosticData, other: &DiagnosticData) ->
     told.as_str() == other_told.as_str()
 }
 
-/// Adds what is told of a number that is too large for Float, which no text breaks: of a copy, and of what is copied. Both are
-/// moved from another list.
+/// Adds what is told of a number that is too large for Float, and of selections that are nested too deeply, which no text breaks:
+/// of a copy, and of what is copied. They are moved from another list.
 pub(crate) fn push_never(alloc: Global, text: &str, answer: &mut Answer) -> Result<(), AllocError> {
     let mut told = DiagnosticList::new(alloc);
     tell_never(alloc, text, &mut told)?;
@@ -50,12 +50,18 @@ pub(crate) fn push_never(alloc: Global, text: &str, answer: &mut Answer) -> Resu
     Ok(())
 }
 
-/// Tells twice that the number is too large for Float, once by a copy.
+/// Tells that the number is too large for Float, and that selections are nested too deeply.
 fn tell_never(alloc: Global, text: &str, list: &mut DiagnosticList) -> Result<(), AllocError> {
     let value = String::from_str(alloc, text)?;
+    tell_twice(DiagnosticData::FloatCoercionError { value }, list)?;
+    tell_twice(DiagnosticData::RecursionError, list)
+}
+
+/// Tells the data twice, once by a copy.
+fn tell_twice(data: DiagnosticData, list: &mut DiagnosticList) -> Result<(), AllocError> {
     let fault = Fault {
         location: None,
-        data: DiagnosticData::FloatCoercionError { value },
+        data,
     };
     list.push_fault(fault.clone()?)?;
     list.push_fault(fault)

@@ -2,8 +2,7 @@
 //! argument of the schema rows of usage ask for.
 
 use graphql_names::{FileId, Node};
-use graphql_read::parse_type;
-use graphql_schema::Schema;
+use row_building::{Schema, parse_type};
 use row_files::{Case, Problem, read_of};
 use std::alloc::Global;
 use tree_directives::{Argument, DirectiveLocation, InputValueDefinition};

@@ -5,7 +5,7 @@ use graphql_documents::{
     SelectionSetExt,
 };
 use graphql_names::{Node, name};
-use graphql_schema::Schema;
+use row_building::Schema;
 use row_files::{Answer, Lines, Problem};
 use std::alloc::{AllocError, Global};
 use tree_directives::{Argument, Directive};

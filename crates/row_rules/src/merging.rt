@@ -1,35 +1,33 @@
 //! Merging by itself, operation by operation.
 
+use crate::judged::Judged;
+use crate::rules::Rules;
 use crate::told::{push_returned, push_told};
 use graphql_documents::ExecutableDocument;
 use graphql_faults::DiagnosticList;
-use graphql_schema::Schema;
-use graphql_validation::FieldsInSetCanMerge;
+use row_building::Schema;
 use row_files::{Answer, Case, Problem, number, says};
-use std::alloc::Global;
 
 /// Adds what does not merge in each operation, in order, then whether the value that judges them is clean after each, and
 /// how often it compared shapes, where the row asks for another number.
-pub(crate) fn push_merging(
-    alloc: Global,
-    case: Case<'_>,
+pub(crate) fn push_merging<R: Rules>(
+    judged: &Judged<'_, R>,
     schema: &Schema,
     document: &ExecutableDocument,
     answer: &mut Answer,
 ) -> Result<(), Problem> {
+    let (alloc, case) = (judged.alloc, judged.case);
     let mut list = DiagnosticList::new(alloc);
-    let mut merging = FieldsInSetCanMerge::new(alloc, schema, document);
     let mut cleans = Vec::new(alloc);
-    for operation in document.operations.iter() {
-        merging.validate_operation(operation, &mut list)?;
-        cleans.push(merging.is_clean())?;
-    }
+    let comparisons = judged
+        .rules
+        .merging(schema, document, &mut cleans, &mut list)?;
     if says(case.row, "returns", "yes")? {
         return push_returned(alloc, case, &list, answer);
     }
     push_told(alloc, case, &list, answer)?;
     push_cleans(&cleans, answer);
-    push_comparisons(case, merging.comparisons(), answer)
+    push_comparisons(case, comparisons, answer)
 }
 
 /// Adds to the status whether the value is clean after each operation.

@@ -1,26 +1,26 @@
 //! Schemas that are judged as a whole.
 
 use crate::copies::push_in_order;
+use crate::judged::Judged;
+use crate::rules::Rules;
 use graphql_faults::DiagnosticList;
-use graphql_rules::{BuiltInScalars, validate_schema};
-use graphql_schema::Schema;
-use row_files::{Answer, Case, Lines, Problem, number};
-use std::alloc::Global;
+use row_building::Schema;
+use row_files::{Answer, Lines, Problem, number};
 
 /// Adds what breaks a rule in the schema, or in so many of its types as the row says, after the scalars that are left or
 /// noted where the call asks for them.
-pub(crate) fn push_rules(
-    alloc: Global,
-    case: Case<'_>,
+pub(crate) fn push_rules<R: Rules>(
+    judged: &Judged<'_, R>,
     schema: &mut Schema,
     answer: &mut Answer,
 ) -> Result<(), Problem> {
+    let (alloc, case) = (judged.alloc, judged.case);
     schema.types.truncate(number(case.row, "types", "most")?);
     let mut list = DiagnosticList::new(alloc);
-    validate_schema(alloc, &mut list, schema)?;
+    judged.rules.schema(schema, &mut list)?;
     match case.call {
         "kept" => push_scalars(schema, &mut answer.text),
-        "noted" => push_noted(schema, &mut answer.text),
+        "noted" => judged.rules.push_noted(schema, &mut answer.text),
         _ => {}
     }
     push_in_order(alloc, &list, answer);
@@ -31,16 +31,6 @@ pub(crate) fn push_rules(
 fn push_scalars(schema: &Schema, lines: &mut Lines) {
     for ty in schema.types.values() {
         if ty.is_scalar() {
-            lines.show_between("", ty.name(), "\n");
-        }
-    }
-}
-
-/// Adds the name of each type that is noted as one of the five built-in scalars, a line each.
-fn push_noted(schema: &Schema, lines: &mut Lines) {
-    let mut scalars = BuiltInScalars::new();
-    for ty in schema.types.values() {
-        if scalars.record_type_ref(schema, ty.name()) {
             lines.show_between("", ty.name(), "\n");
         }
     }

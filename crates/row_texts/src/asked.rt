@@ -1,6 +1,6 @@
 //! What a row asks of the checker.
 
-use checker_settings::Layout;
+use checker_calls::Layout;
 use row_files::{Case, Field, Problem, Way, number, text_of};
 
 /// The fields that rows of the call may have beside those of every row. None where there is no such call.

@@ -2,11 +2,11 @@
 
 ghost use Rattle.std.specs.Prelude.{◌≡◌, false};
 ghost use Rattle.graphql_names.specs.Device.{device_failed};
-ghost use Rattle.checker_answers.specs.Devices.{HaveNotFailed};
+ghost use Rattle.checker_calls.specs.Devices.{HaveNotFailed};
 
 use crate::asked::Asked;
 use crate::told::Told;
-use checker_answers::{CheckError, Outcome, RunFault, Verdict};
+use checker_calls::{CheckError, Outcome, RunFault, Verdict};
 use graphql_names::{Cut, Device};
 
 /// The texts that a call is given, and on which terms they are judged.

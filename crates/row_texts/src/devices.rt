@@ -3,7 +3,7 @@
 ghost use Rattle.std.specs.Prelude.{◌≡◌, false, All, IfOk};
 ghost use Rattle.graphql_names.specs.Device.{device_failed};
 
-use checker_answers::{Outcome, RunFault, exit_status};
+use checker_calls::{Outcome, RunFault, exit_status};
 use graphql_names::{Cut, Device};
 use row_files::{Lines, Plan, reader};
 use std::alloc::{AllocError, Global};

@@ -7,19 +7,13 @@ use crate::checks::{Checks, Texts};
 use crate::judged::Judged;
 use crate::told::Told;
 use crate::words::push_verdict;
-use row_files::{Calls, Case, Problem, Tally, Way, compare, judge_files, text_of};
+use row_files::{Calls, Case, Problem, Tally, Way, compare, text_of};
 use std::alloc::Global;
-use std::process::ExitCode;
-
-/// Judges the files that the words name by the calls of this checker, and prints what there is to tell, as `judge_files` does.
-pub fn judge_texts<C: Checks>(rt: &HostRuntime, checks: &C) -> ExitCode {
-    judge_files(rt, &Checking { checks })
-}
 
 /// The calls of a checker.
 #[derive(Clone, Copy)]
-struct Checking<'a, C> {
-    checks: &'a C,
+pub struct Checking<'a, C> {
+    pub checks: &'a C,
 }
 
 impl<C: Checks> Calls for Checking<'_, C> {

@@ -1,8 +1,8 @@
 //! Rows of schema texts and documents that a checker judges: on which terms a row wants its texts judged, in which ways they go
 //! to the checker, and what its answers are in words.
 //!
-//! For the program of rows over the checker, which says how each call answers (`Checks`): `judge_texts` judges its files by these.
-//! Whatever needs no call of the checker stands here, so that it is proved beside the checker and not after it.
+//! For the program of rows, which says how the checker answers (`Checks`): `Checking` has the calls over these. Whatever needs no call
+//! of the checker stands here, so that it is proved beside the checker and not after it.
 //!
 //! Begin with `checks.rt` and `judging.rt`.
 #![tactic(auto)]
@@ -21,5 +21,5 @@ mod words;
 
 pub use asked::{Asked, layouts};
 pub use checks::{Checks, Texts};
-pub use judging::judge_texts;
+pub use judging::Checking;
 pub use told::Told;

@@ -1,8 +1,6 @@
 //! Answers in words.
 
-use checker_answers::{CheckError, Verdict};
-use checker_settings::Layout;
-use checker_texts::Refusal;
+use checker_calls::{CheckError, Layout, Refusal, Verdict};
 use graphql_faults::DiagnosticList;
 use graphql_names::{FileId, SourceSpan};
 use row_files::{Answer, Lines};

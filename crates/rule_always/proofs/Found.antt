@@ -11,7 +11,7 @@ use Rattle.rule_cycle_search.proofs.Lists.{not_in_nil, Contains-cons, Contains-f
 use Rattle.document_meaning.specs.MeantTree.{MeantSelection, MeantOperation, MeantFragment, MeantDocument, meant_of_set}
 use Rattle.document_typed_selections.specs.TypedTree.{TypedSet}
 use Rattle.document_typed_operations.specs.TypedDocument.{TypedDocumentTree}
-use Rattle.rule_document_ground.specs.in_typing.DocumentView.{meant_document}
+use Rattle.rule_document_ground.specs.in_typed_operations.DocumentView.{meant_document}
 use Rattle.document_walks.specs.Reached.{Fragments, NamedSet, document_fragments, fragment_named as named_set_of}
 use Rattle.rule_document_definitions.specs.Selected.{Standing, InOperation, InFragment, spread_name, operation_name, fragment_named}
 use Rattle.rule_document_definitions.specs.DeferUses.{ReachedAlways}

@@ -9,7 +9,7 @@ use Rattle.graphql_names.specs.Placed.{Placed}
 use Rattle.rule_cycle_search.proofs.Lists.{Contains-first, mapped_some}
 use Rattle.document_meaning.specs.MeantTree.{MeantFragment, MeantDocument, meant_of_set}
 use Rattle.document_typed_operations.specs.TypedDocument.{TypedFragment, TypedDocumentTree}
-use Rattle.rule_document_ground.specs.in_typing.DocumentView.{meant_by_fragment, meant_document}
+use Rattle.rule_document_ground.specs.in_typed_operations.DocumentView.{meant_by_fragment, meant_document}
 use Rattle.document_walks.specs.Reached.{NamedSet, Fragments, document_fragments, fragment_named as named_set_of}
 use Rattle.rule_document_definitions.specs.Selected.{fragment_named}
 

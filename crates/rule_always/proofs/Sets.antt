@@ -24,7 +24,7 @@ use Rattle.document_typed_operations.specs.declared.operation.Operation.{Operati
 use Rattle.document_typed_operations.specs.declared.operation.Fragment.{Fragment}
 use Rattle.document_typed_operations.specs.declared.document.ExecutableDocument.{ExecutableDocument}
 use Rattle.document_meaning.specs.MeantTree.{MeantSelection, MeantSet, MeantOperation, MeantFragment, meant, meant_of_set, meant_of_all}
-use Rattle.rule_document_ground.specs.in_typing.DocumentView.{meant_by_operation, meant_by_fragment, document_meant}
+use Rattle.rule_document_ground.specs.in_typed_operations.DocumentView.{meant_by_operation, meant_by_fragment, document_meant}
 use Rattle.rule_document_definitions.specs.Selected.{operations, fragments}
 use Rattle.rule_document_definitions.specs.Limits.{path_bound}
 use Rattle.rule_always.specs.Inside.{contents_in, contents_along, contents_of, contents_below}

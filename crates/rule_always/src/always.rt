@@ -7,7 +7,7 @@ ghost use Rattle.rule_document_definitions.specs.DeferUses.{literal_if};
 ghost use Rattle.document_meaning.specs.MeantTree.{meant_of_set};
 ghost use Rattle.document_typed_selections.specs.TypedTree.{typed_set_tree};
 ghost use Rattle.document_walks.specs.WalkView.{fragments_tree};
-ghost use Rattle.rule_document_ground.specs.in_typing.DocumentView.{document_meant, operation_meant};
+ghost use Rattle.rule_document_ground.specs.in_typed_operations.DocumentView.{document_meant, operation_meant};
 ghost use Rattle.rule_document_ground.specs.NotedNames.{noted_names};
 ghost use Rattle.rule_always.specs.Always.{always_in, AreAlways, to_enter};
 ghost use Rattle.rule_always.specs.Inside.{contents_of};

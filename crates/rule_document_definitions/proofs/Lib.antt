@@ -42,5 +42,6 @@ pub mod Reflexive
 pub mod Elsewhere
 pub mod PlainFacts
 pub mod Merges
+pub mod FieldsWritten
 pub mod WrittenFacts
 pub mod ReadFacts

@@ -12,18 +12,25 @@ use Rattle.rule_definitions.specs.Judged.{Judged}
 use Rattle.rule_definitions.specs.in_schema_types.Addresses.{under}
 use Rattle.rule_definitions.proofs.Lists.{mapped_some}
 use Rattle.rule_document_definitions.specs.Selected.{HasNone, InOperation, StandingField, operation_name}
+use Rattle.rule_document_definitions.specs.Chains.{Merge}
 use Rattle.rule_document_definitions.specs.Reached.{IsFieldOf}
 use Rattle.rule_document_definitions.specs.SameValues.{SameGiven, SameArguments, plain_given}
 use Rattle.rule_document_definitions.specs.Merging.{FieldsMerge, Below, Starts, SameKey, MayShare, SameShape, SameName, SameNameAndArguments}
 use Rattle.rule_document_definitions.specs.Contents.{content, unplaced_content}
 use Rattle.rule_document_definitions.specs.Settled.{StandWhere, StartsStand}
-use Rattle.rule_document_definitions.specs.Written.{written_at, written_along, field_written, spread_written, fields_written, spreads_written, SpreadsSet, IsSetFrom}
-use Rattle.rule_document_definitions.specs.ReadFields.{ReadField, read_field, ReadSet, nothing_read, read_set, ReadFields, no_reads, read_then, listed, joined, fields_in, spreads_in, head_read, whole_set, fields_read_at, fields_read, fields_read_along, set_read, list_read, field_read, fragments_read, ReadSameKey, ReadMayShare, ReadSameShape, ReadSameName, ReadSameNameAndArguments, SpreadsRead, IsReadFrom, SelectsRead, ReadBelow, ReadStarts, ReadsMerge, AreReadShapesStanding, AreReadSelectionsStanding, ReadFieldsMerge}
+use Rattle.rule_document_definitions.specs.Written.{written_at, written_along, spread_written, spreads_written}
+use Rattle.rule_document_definitions.proofs.FieldsWritten.{field_written, fields_written, SpreadsSet, IsSetFrom}
+use Rattle.rule_document_definitions.specs.ReadFields.{ReadField, read_field, ReadSet, nothing_read, read_set, ReadFields, no_reads, read_then, listed, joined, fields_in, spreads_in, head_read, whole_set, fields_read_at, fields_read, fields_read_along, set_read, list_read, field_read, fragments_read, ReadSameKey, ReadMayShare, ReadSameShape, ReadSameName, ReadSameNameAndArguments, SpreadsRead, IsReadFrom, SelectsRead, ReadBelow, ReadStarts, AreReadShapesStanding, AreReadSelectionsStanding, ReadFieldsMerge}
 use Rattle.rule_document_definitions.proofs.Along.{merge_back, merge_on}
 use Rattle.rule_document_definitions.proofs.Unplaced.{contains_map, contains_unmap, closed_map, closed_unmap, under_same}
 use Rattle.rule_document_definitions.proofs.MergingUnplaced.{twice, given_same}
 use Rattle.rule_document_definitions.proofs.SettledFacts.{standing_merge}
 use Rattle.rule_document_definitions.proofs.WrittenFacts.{written_from}
+
+-- the same as `FieldsMerge`, of chains of what is read
+pub record ReadsMerge {P : Type 0} (s : Judged) (d : MeantDocument P) (o : MeantOperation P) : Type 0 where
+  pub shapes : Merge (ReadBelow d) ReadSameKey (ReadStarts d o) (ReadSameShape s)
+  pub selections : Merge (ReadBelow d) (ReadMayShare s) (ReadStarts d o) ReadSameNameAndArguments
 
 -- ---- lists
 

@@ -7,7 +7,8 @@ use Rattle.rule_definitions.proofs.Lists.{not_in_nil, Contains-cons, Contains-fi
 use Rattle.rule_document_definitions.specs.Selected.{Position, InOperation, InFragment, SelectionAt, Standing, StandingField, stand, standing_in, field_there, as_field, in_inline, spread_name, fragment_named}
 use Rattle.rule_document_definitions.specs.Reached.{Closed, first, next, InFragmentOf}
 use Rattle.rule_document_definitions.specs.Contents.{content}
-use Rattle.rule_document_definitions.specs.Written.{Written, written_at, written_in, written_along, field_written, spread_written, IsSetFrom, IsWrittenFrom, HasContent}
+use Rattle.rule_document_definitions.specs.Written.{Written, written_at, written_in, written_along, spread_written}
+use Rattle.rule_document_definitions.proofs.FieldsWritten.{field_written, IsSetFrom, IsWrittenFrom, HasContent}
 
 -- what an option has
 from_option : {A : Type 0} (o : Option A) (x : A) → Contains (option_to_list o) x → o ≡ Some x

@@ -13,7 +13,6 @@ use Rattle.rule_definitions.specs.in_schema_types.Addresses.{under}
 use Rattle.rule_document_definitions.specs.Selected.{StandingField}
 use Rattle.rule_document_definitions.specs.Reached.{Closed}
 use Rattle.rule_document_definitions.specs.SameValues.{SameArguments}
-use Rattle.rule_document_definitions.specs.Chains.{Merge}
 use Rattle.rule_document_definitions.specs.Merging.{IsAbstract, SameType, FieldsMerge}
 use Rattle.rule_document_definitions.specs.Settled.{IsSettledIn, StandWhere, StartsStand}
 use Rattle.rule_document_definitions.specs.Written.{spreads_written}
@@ -150,11 +149,6 @@ module _ {P : Type 0} (d : MeantDocument P) where
     -- by keys and parents, in name and arguments
     abbrev pub AreReadSelectionsStanding : (ReadField → ReadField → Type 0) → Type 0
     AreReadSelectionsStanding Stand = IsSettledIn ReadBelow (ReadMayShare s) ReadSameNameAndArguments Stand
-
--- the same as `FieldsMerge`, of chains of what is read
-pub record ReadsMerge {P : Type 0} (s : Judged) (d : MeantDocument P) (o : MeantOperation P) : Type 0 where
-  pub shapes : Merge (ReadBelow d) ReadSameKey (ReadStarts d o) (ReadSameShape s)
-  pub selections : Merge (ReadBelow d) (ReadMayShare s) (ReadStarts d o) ReadSameNameAndArguments
 
 -- where fields that go together and are in one of these lists are settled by what is read of them, and all that starts stands with all
 -- that starts and goes together with it, the fields merge

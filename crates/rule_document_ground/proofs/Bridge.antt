@@ -13,7 +13,7 @@ use Rattle.document_walks.specs.Reached.{NamedSet, Fragments, Member as TypedMem
 use Rattle.document_walks.proofs.Finding.{some_is}
 use Rattle.document_walks.proofs.WalkLaws.{from_one, to_all}
 use Rattle.rule_document_definitions.specs.in_document_meaning.MeantTree.{MeantSelection, MeantFragment, MeantDocument, meant, meant_of_set}
-use Rattle.document_typing.specs.DocumentView.{meant_by_fragment}
+use Rattle.document_walks.specs.in_typed_operations.DocumentView.{meant_by_fragment}
 use Rattle.rule_document_definitions.specs.Selected.{Position, InFragment, SelectionAt, Standing, StandingField, standing_in, spread_name, fragment_named}
 use Rattle.rule_document_definitions.specs.Reached.{Closed, first, next, LeadsInto}
 use Rattle.rule_document_ground.specs.Reach.{Member, IsReach}

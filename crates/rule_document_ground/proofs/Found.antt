@@ -19,7 +19,7 @@ use Rattle.document_walks.specs.in_typed_operations.declared.operation.Fragment.
 use Rattle.document_walks.specs.Reached.{Fragments, Member as TypedMember, IsReached, IsReachedFragment}
 use Rattle.document_walks.specs.WalkView.{fragments_tree, lent_member}
 use Rattle.rule_document_definitions.specs.in_document_meaning.MeantTree.{MeantFragment, MeantDocument, meant, meant_of_set}
-use Rattle.document_typing.specs.DocumentView.{meant_by_fragment}
+use Rattle.document_walks.specs.in_typed_operations.DocumentView.{meant_by_fragment}
 use Rattle.rule_document_definitions.specs.Selected.{Position, Standing, standing_in}
 use Rattle.rule_document_ground.specs.Reach.{Member, member_of, meant_fragments, IsReach}
 use Rattle.rule_document_ground.specs.Gathered.{fragments_under}

@@ -10,7 +10,7 @@ use Rattle.document_walks.specs.in_typed_operations.declared.document.Executable
 use Rattle.document_walks.specs.in_typed_operations.declared.operation.Fragment.{Fragment}
 use Rattle.document_walks.specs.in_typed_operations.declared.operation.Operation.{Operation}
 use Rattle.rule_document_definitions.specs.in_document_meaning.MeantTree.{MeantDocument, meant_of_set}
-use Rattle.document_typing.specs.DocumentView.{meant_by_operation, meant_by_fragment, meant_document}
+use Rattle.document_walks.specs.in_typed_operations.DocumentView.{meant_by_operation, meant_by_fragment, meant_document}
 use Rattle.rule_document_definitions.specs.Selected.{Position, InOperation, standing_in, operation_name}
 use Rattle.rule_document_definitions.specs.FieldSets.{document_of_set}
 use Rattle.rule_document_ground.specs.Reach.{IsReach, meant_fragments, reached_members, reached_fragments_of, IsReachOf}

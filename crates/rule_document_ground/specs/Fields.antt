@@ -1,5 +1,5 @@
 -- What contracts see of a field where it is selected (GraphQL, October 2021, section 5.3.2).
-use Rattle.std.specs.Prelude.{List, map, None}
+use Rattle.std.specs.Prelude.{map, None}
 use Rattle.graphql_names.specs.Node.{content as content_of_node, place}
 use Rattle.graphql_names.specs.Placed.{Place, node_tree}
 use Rattle.tree_type_members.specs.TypeSystemTree.{field_definition_tree, unplaced_field_definition}
@@ -12,7 +12,7 @@ use Rattle.document_typed_selections.specs.TypedParts.{typed_head}
 use Rattle.document_walks.specs.in_typed_operations.TypedDocument.{typed_fragment_tree}
 use Rattle.document_walks.specs.in_typed_operations.declared.operation.Fragment.{Fragment}
 use Rattle.rule_document_definitions.specs.in_document_meaning.MeantTree.{MeantFragment, meant_of_set}
-use Rattle.document_typing.specs.DocumentView.{meant_by_fragment}
+use Rattle.document_walks.specs.in_typed_operations.DocumentView.{meant_by_fragment}
 use Rattle.rule_document_definitions.specs.Selected.{InOperation, StandingField}
 use Rattle.rule_document_definitions.specs.Contents.{unplaced_content}
 use Rattle.indexmap.specs.IndexMap.{IndexMap}
@@ -28,9 +28,6 @@ field_of x = record {
   head = typed_head (content_of_node x.field.now);
   set = meant_of_set (typed_set_tree (content_of_node x.field.now).selection_set);
 }
-
-abbrev pub fields_of : List FieldSelection → List (StandingField Place)
-fields_of xs = map field_of xs
 
 -- what it says: what equality and hash read
 abbrev pub content_of : FieldSelection → StandingField (Unit {0})

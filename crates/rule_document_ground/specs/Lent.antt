@@ -1,4 +1,4 @@
--- Private: leads to `specs/Fields.antt`. The fields among the selections that a walk lends.
+-- The fields among the selections that a walk lends.
 use Rattle.std.specs.Prelude.{List, flat_map, option_to_list, None}
 use Rattle.graphql_names.specs.Placed.{Place}
 use Rattle.rule_document_definitions.specs.in_document_meaning.MeantTree.{meant}

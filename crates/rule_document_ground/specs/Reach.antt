@@ -11,7 +11,7 @@ use Rattle.document_walks.specs.in_typed_operations.declared.operation.Fragment.
 use Rattle.graphql_names.specs.NameValue.{NameValue}
 use Rattle.graphql_names.specs.declared.node.Node.{Node}
 use Rattle.rule_document_definitions.specs.in_document_meaning.MeantTree.{MeantSelection, MeantOperation, MeantFragment, MeantDocument, meant}
-use Rattle.document_typing.specs.DocumentView.{meant_by_fragment}
+use Rattle.document_walks.specs.in_typed_operations.DocumentView.{meant_by_fragment}
 use Rattle.rule_definitions.specs.Words.{Present}
 use Rattle.rule_document_definitions.specs.Selected.{InOperation, Standing, StandingField, field_there, spread_name, fragment_named, own}
 use Rattle.rule_document_definitions.specs.Reached.{Closed, LeadsInto}

@@ -5,8 +5,7 @@
 //! - `reach` gives two lists, the selections with the types of their sets and the fragments that are spread, which are all
 //!   that is reached and no more (`IsReach` of `specs/Reach.antt`), in every document with these fragments: for an operation
 //!   that is `IsReachOf`, and a field set has a document without fragments (`proofs/OfDocuments.antt`). What is said of the
-//!   members of the lists is said at all that is reached, and back (`proofs/AtReaches.antt`). What is reached in a typed
-//!   document or field set is typed (`proofs/TypedReached.antt`).
+//!   members of the lists is said at all that is reached, and back (`proofs/AtReaches.antt`).
 //! - Contracts see a field that is selected as `field_of`, and its contents as `content_of` (`specs/Fields.antt`): equality
 //!   and hash are those of the contents, so that fields in different places of a document count as one where they say the
 //!   same.
@@ -31,4 +30,4 @@ pub use noted_names::{has_name, note_name};
 pub use reaching::reach;
 
 // Of the crates beneath, for those above.
-pub use document_typing::{BuilderRefusal, ExecutableDocumentBuilder, Schema};
+pub use graphql_schema::Schema;

@@ -1,14 +1,20 @@
 -- Sums over the items of a list, and lists item by item.
 use Rattle.std.proofs.Common.{◌≡◌, ◌∙◌, ℕ, suc, ◌+◌, ◌<◌, Bool, true, false, not, cond, List, [], ◌∷◌, ◌++◌, map, filter, flat_map, length, get_or, take, drop, refl, sym, ap, append-nil, add-one, arith}
 use Rattle.std.specs.List.{sum}
+use Rattle.std.specs.List.Sorted.{IsPermutation}
 use Rattle.std.proofs.lemmas.List.{map-append}
 use Rattle.std.proofs.lemmas.List.Concat.{flat_map-append}
 use Rattle.std.proofs.lemmas.List.Sums.{sum-map, sum_by-append}
+use Rattle.std.proofs.lemmas.List.Sorted.{sum_by-IsPermutation}
 use Rattle.std.proofs.Math.Seq.{drop-cons}
 use Rattle.rule_field_groups.proofs.Lists.{taken_more}
 
 pub sums : {X : Type 0} (f : X → ℕ) (xs ys : List X) → sum (map f (xs ++ ys)) ≡ sum (map f xs) + sum (map f ys)
 sums f xs ys = omega (arith, sum-map f (xs ++ ys), sum-map f xs, sum-map f ys, sum_by-append f xs ys)
+
+-- in another order
+pub sums_order : {X : Type 0} (f : X → ℕ) (xs ys : List X) → IsPermutation xs ys → sum (map f ys) ≡ sum (map f xs)
+sums_order f xs ys order = sum-map f ys ∙ sum_by-IsPermutation f xs ys order ∙ sym (sum-map f xs)
 
 pub drop_first : {X : Type 0} (xs : List X) (i : ℕ) (x : X) → i < length xs → x ≡ get_or xs i x → drop i xs ≡ x ∷ drop (i + 1) xs
 drop_first xs i x h e = drop-cons xs i x h ∙ (rw add-one (ap (λ y. y ∷ drop (suc i) xs) (sym e)))

@@ -6,12 +6,13 @@ pub mod Telling
 pub mod Shaped
 pub mod ShapesTold
 pub mod Lists
-pub mod Walking
 pub mod Sets
 pub mod Under
-pub mod Reaching
-pub mod Plain
-pub mod Selected
-pub mod PairedFacts
--- For the layer above.
-pub use Rattle.rule_document_ground.proofs as in_ground
+pub mod NodeFacts
+pub mod Walking
+pub mod Remembering
+pub mod Looking
+pub use Rattle.rule_field_sets.proofs as in_sets
+pub use Rattle.rule_same_values.proofs.in_document_definitions as in_document_definitions
+pub use Rattle.rule_same_values.proofs.in_definitions as in_definitions
+pub use Rattle.rule_same_values.proofs.in_definitions.in_schema_types.in_components as in_components

@@ -2,11 +2,11 @@
 use Rattle.std.proofs.Common.{◌≡◌, ◌⊎◌, ◌∙◌, List, [], ◌∷◌, ◌++◌, map, Contains, refl, sym, ap, inl, inr}
 use Rattle.std.proofs.lemmas.List.{map-append}
 use Rattle.std.proofs.lemmas.List.Elements.{Contains-append_left}
-use Rattle.schema_components.proofs.Places.{not_in_nil, only, Contains-first}
-use Rattle.rule_document_definitions.proofs.Unplaced.{contains_map, contains_unmap}
+use Rattle.rule_same_values.proofs.in_definitions.in_schema_types.in_components.Places.{not_in_nil, only, Contains-first}
+use Rattle.rule_same_values.proofs.in_document_definitions.Unplaced.{contains_map, contains_unmap}
 use Rattle.std.proofs.lemmas.Simd.{map-map}
-use Rattle.rule_document_ground.specs.Fields.{field_of, fields_of}
-use Rattle.rule_document_ground.specs.declared.field_selection.FieldSelection.{FieldSelection}
+use Rattle.rule_field_groups.specs.Members.{field_of, fields_of}
+use Rattle.rule_field_sets.specs.declared.member.Member.{Member}
 use Rattle.rule_field_groups.specs.declared.groups.OwnFields.{OwnFields}
 use Rattle.rule_field_groups.specs.KeyGroups.{with_own}
 
@@ -28,13 +28,13 @@ module _ {X : Type 0} where
   of_parts shared (first ∷ owns) part c = let o = contains_unmap (λ l. shared ++ l) (first ∷ owns) part c in inr (o.0, (o.1.0, sym o.1.1))
 
 -- fields of parts are parts of fields
-fields_parts : (shared : List FieldSelection) (owns : List (List FieldSelection)) → map fields_of (with_own shared owns) ≡ with_own (fields_of shared) (map fields_of owns)
+fields_parts : (shared : List Member) (owns : List (List Member)) → map fields_of (with_own shared owns) ≡ with_own (fields_of shared) (map fields_of owns)
 fields_parts shared [] = refl
 fields_parts shared (own ∷ owns) = each (own ∷ owns)
   where
-    each : (ls : List (List FieldSelection)) → map fields_of (map (λ l. shared ++ l) ls) ≡ map (λ l. fields_of shared ++ l) (map fields_of ls)
+    each : (ls : List (List Member)) → map fields_of (map (λ l. shared ++ l) ls) ≡ map (λ l. fields_of shared ++ l) (map fields_of ls)
     each [] = refl
     each (l ∷ ls) = λ i. map-append field_of shared l i ∷ each ls i
 
-pub own_fields_parts : (shared : List FieldSelection) (owns : List OwnFields) → map fields_of (with_own shared (map (λ o. o.fields.items) owns)) ≡ with_own (fields_of shared) (map (λ o. fields_of o.fields.items) owns)
+pub own_fields_parts : (shared : List Member) (owns : List OwnFields) → map fields_of (with_own shared (map (λ o. o.fields.items) owns)) ≡ with_own (fields_of shared) (map (λ o. fields_of o.fields.items) owns)
 own_fields_parts shared owns = fields_parts shared (map (λ (o : OwnFields). o.fields.items) owns) ∙ ap (with_own (fields_of shared)) (map-map fields_of (λ (o : OwnFields). o.fields.items) owns)

@@ -1,151 +1,167 @@
--- Sets of selections by what they say: those of a group, each once.
-use Rattle.std.proofs.Common.{◌≡◌, ◌⊎◌, ◌∙◌, ℕ, ◌+◌, ◌<◌, Bool, true, false, List, [], ◌∷◌, ◌++◌, length, get_or, take, Contains, refl, sym, ap, subst, append-nil, inl, inr, if◌then◌else◌, true≢false}
-use Rattle.std.specs.List.{list_any}
-use Rattle.std.proofs.lemmas.Slice.Eq.{bytes_eq-Decides}
+-- Sets by their nodes: those of a group, each number once.
+use Rattle.std.proofs.Common.{◌≡◌, ◌⊎◌, ◌∙◌, ℕ, ◌+◌, ◌<◌, Bool, true, false, not, Option, None, Some, List, [], ◌∷◌, ◌++◌, length, get_or, take, Contains, refl, sym, ap, subst, append-nil, inl, inr, if◌then◌else◌, true≢false}
+use Rattle.std.specs.List.{AllZip, list_any}
+use Rattle.std.specs.Prelude.{nat_eq}
+use Rattle.std.proofs.lemmas.Bool.Decides.{Decides-eqb}
 use Rattle.std.proofs.lemmas.List.{map-append}
-use Rattle.std.proofs.lemmas.List.Elements.{Contains-append_left, Contains-append_cases}
+use Rattle.std.proofs.lemmas.List.Elements.{Contains-append_left, Contains-append_cases, AllZip-push}
+use Rattle.std.proofs.lemmas.Map.Views.{Contains-from_any, list_any-from_Contains}
+use Rattle.std.proofs.lemmas.Cmp.{nat_eq_equiv}
 use Rattle.indexmap.specs.IndexSet.{insert_key}
 use Rattle.graphql_names.specs.Placed.{Place}
-use Rattle.rule_definitions.proofs.Lists.{not_in_nil, only}
-use Rattle.rule_document_definitions.specs.PlainFields.{PlainSet}
-use Rattle.document_typed_selections.specs.TypedTree.{TypedSelection, TypedField, TypedSpread, TypedInline, TypedSet, typed_set, TypedSelections, no_typed, typed_then, typed_set_tree, holds_none, unplaced_typed_selection, unplaced_typed_set, unplaced_typed_selections}
-use Rattle.rule_field_groups.specs.declared.below.SelectedSet.{SelectedSet}
-use Rattle.document_typed_selections.proofs.TypedEquality.{set_eq-Decides}
-use Rattle.document_meaning.specs.MeantTree.{MeantSelection, MeantField, MeantSpread, MeantInline, MeantSet, meant_set, MeantSelections, no_meant, meant_then, meant, meant_of_set, meant_of_all}
-use Rattle.document_meaning.specs.Unplaced.{unplaced_meant, unplaced_set, unplaced_members}
-use Rattle.rule_document_definitions.specs.Selected.{StandingField}
-use Rattle.rule_document_definitions.proofs.Unplaced.{contains_map}
-use Rattle.rule_document_ground.specs.Fields.{field_of, fields_of}
-use Rattle.rule_document_ground.specs.declared.field_selection.FieldSelection.{FieldSelection}
-use Rattle.rule_field_groups.specs.contracts.below.SelectedSetPartialEq.TheImpl as selected
-use Rattle.rule_field_groups.specs.contracts.own.SelectionSourcePartialEq.TheImpl as source
-use Rattle.rule_field_groups.specs.declared.own.SelectionSource.{SelectionSource}
-use Rattle.rule_field_groups.specs.declared.own.SelectionSource.TheVariants as rust
-use Rattle.rule_field_groups.specs.Own.{OfSet, OfFragment, unplaced_source, source_meant}
-use Rattle.rule_field_groups.specs.Below.{meant_at, meant_sets, plain_sets, IsBare, AreSetsOf, NotesSet}
-use Rattle.rule_field_groups.proofs.Lists.{any_among, in_last, taken_more}
+use Rattle.rule_same_values.specs.in_meaning.MeantTree.{MeantSet, meant_set, no_meant, meant_then, meant_of_set}
+use Rattle.rule_same_values.proofs.in_definitions.Lists.{not_in_nil, only}
+use Rattle.rule_same_values.specs.in_document_definitions.ReadFields.{ReadSet, list_read}
+use Rattle.rule_same_values.specs.in_document_definitions.Selected.{StandingField, HasNone}
+use Rattle.rule_same_values.proofs.in_document_definitions.Unplaced.{contains_map}
+use Rattle.rule_field_sets.specs.Nodes.{AreSets, HasMember, IsNodeBelow, own_set, set_nodes}
+use Rattle.rule_field_sets.specs.Read.{set_at, set_content_at, node_read}
+use Rattle.rule_field_sets.specs.declared.field_sets.FieldSets.{FieldSets}
+use Rattle.rule_field_sets.specs.declared.member.Member.{Member}
+use Rattle.rule_field_sets.proofs.Meaning.{set_of_node}
+use Rattle.rule_field_groups.specs.Members.{field_of, fields_of, meant_sets, read_sets}
+use Rattle.rule_field_groups.specs.Below.{IsBare, AreSetsOf, NotesSet}
+use Rattle.rule_field_groups.specs.Under.{AreNumbered, AddsNode}
+use Rattle.rule_field_groups.specs.declared.below.SetsBelow.{SetsBelow}
+use Rattle.rule_field_groups.proofs.Lists.{in_last, taken_more, beside}
 
--- ---- what a typed set without places means
+-- ---- the set of a member
 
-abbrev mutual
-  meant_plain : TypedSelection (Unit {0}) → MeantSelection (Unit {0})
-  meant_plain (TypedField p d h s) = MeantField p d.it h (meant_plain_set s)
-  meant_plain (TypedSpread p n ds) = MeantSpread p n ds
-  meant_plain (TypedInline p c ds s) = MeantInline p c ds (meant_plain_set s)
+-- one without selections
+pub bare_of_none : {P : Type 0} (s : MeantSet P) → HasNone s → IsBare s
+bare_of_none (meant_set t no_meant) none = tt
+bare_of_none (meant_set t (meant_then s ss)) none = absurd none
 
-  meant_plain_set : TypedSet (Unit {0}) → MeantSet (Unit {0})
-  meant_plain_set (typed_set ty ss) = meant_set ty.it (meant_plain_all ss)
+pub none_of_bare : {P : Type 0} (s : MeantSet P) → IsBare s → HasNone s
+none_of_bare (meant_set t no_meant) bare = tt
+none_of_bare (meant_set t (meant_then s ss)) bare = absurd bare
 
-  meant_plain_all : TypedSelections (Unit {0}) → MeantSelections (Unit {0})
-  meant_plain_all no_typed = no_meant
-  meant_plain_all (typed_then s ss) = meant_then (meant_plain s) (meant_plain_all ss)
+module _ (w : FieldSets) (are : AreSets w) (m : Member) (has : HasMember w m) where
+  -- as it is told by the member's node
+  below_of : (o : Option ℕ) → m.below ≡ o → IsNodeBelow (set_nodes w) has.0 (own_set m.selection) o
+  below_of o e = subst (IsNodeBelow (set_nodes w) has.0 (own_set m.selection)) e ((are.nodes has.0 has.1.0 has.1.1.0).below m has.1.1.1)
 
--- the same selection with this set in the place of its own
-abbrev with_set : MeantSelection (Unit {0}) → MeantSet (Unit {0}) → MeantSelection (Unit {0})
-with_set (MeantField p d h s) v = MeantField p d h v
-with_set (MeantInline p c ds s) v = MeantInline p c ds v
-with_set s v = s
+  -- it has no selections where there is no node of it
+  pub member_bare : m.below ≡ None → IsBare (field_of m).set
+  member_bare e = bare_of_none (field_of m).set (below_of None e)
 
-module _ {P : Type 0} where
-  mutual
-    meant_of_plain : (s : TypedSelection P) → meant_plain (unplaced_typed_selection s) ≡ unplaced_meant (meant s)
-    meant_of_plain (TypedField p d h s) = ap (with_set (unplaced_meant (meant (TypedField p d h s)))) (set_of_plain s)
-    meant_of_plain (TypedSpread p n ds) = refl
-    meant_of_plain (TypedInline p c ds s) = ap (with_set (unplaced_meant (meant (TypedInline p c ds s)))) (set_of_plain s)
+  -- else it is that of the node, and has some
+  pub member_below : (n : ℕ) → m.below ≡ Some n → set_at w n ≡ (field_of m).set
+  member_below n e =
+      let v = (below_of (Some n) e).1.1 in
+      set_of_node w n v.0 v.1.0 ∙ ap meant_of_set v.1.1
 
-    set_of_plain : (s : TypedSet P) → meant_plain_set (unplaced_typed_set s) ≡ unplaced_set (meant_of_set s)
-    set_of_plain (typed_set ty ss) = ap (λ v. meant_set ty.it v) (all_of_plain ss)
+  pub member_some : (n : ℕ) → m.below ≡ Some n → HasNone (field_of m).set → ⊥
+  member_some n e = (below_of (Some n) e).0
 
-    all_of_plain : (ss : TypedSelections P) → meant_plain_all (unplaced_typed_selections ss) ≡ unplaced_members (meant_of_all ss)
-    all_of_plain no_typed = refl
-    all_of_plain (typed_then s ss) = λ i. meant_then (meant_of_plain s i) (all_of_plain ss i)
+-- ---- numbers of sets
 
--- ---- equal sets
+same_number : (m n : ℕ) → nat_eq m n ≡ true → m ≡ n
+same_number m n e = (Decides-eqb m n).0 e
 
-abbrev pub set_key_eq : SelectedSet → SelectedSet → Bool
-set_key_eq = selected.ghosts.eq
+-- a number that is found is there
+pub number_among : (ns : List ℕ) (n : ℕ) → list_any (nat_eq n) ns ≡ true → Contains ns n
+number_among ns n e = Contains-from_any same_number n ns e
 
-pub same_sets : (a b : SelectedSet) → set_key_eq a b ≡ true → unplaced_set (meant_at a) ≡ unplaced_set (meant_at b)
-same_sets a b e = sym (set_of_plain (typed_set_tree a.set.now)) ∙ ap meant_plain_set ((set_eq-Decides a.set.now b.set.now).0 e) ∙ set_of_plain (typed_set_tree b.set.now)
+-- one that is put in stands there, or goes last
+pub number_there : (old new : List ℕ) (n : ℕ) (is_new : Bool) → is_new ≡ not (list_any (nat_eq n) old) → new ≡ insert_key nat_eq old n → is_new ≡ false → Contains old n × (new ≡ old)
+number_there old new n is_new tells is told = by (list_any (nat_eq n) old) refl
+  where
+    by : (b : Bool) → list_any (nat_eq n) old ≡ b → Contains old n × (new ≡ old)
+    by true e = (number_among old n e, is ∙ ap (λ b. if b then old else old ++ n ∷ []) e)
+    by false e = absurd (true≢false (sym (sym told ∙ tells ∙ ap not e)))
 
--- ---- equal sources
-
-abbrev pub source_eq : SelectionSource → SelectionSource → Bool
-source_eq = source.ghosts.eq
-
-pub same_sources : (a b : SelectionSource) → source_eq a b ≡ true → unplaced_source (source_meant a) ≡ unplaced_source (source_meant b)
-same_sources (rust.Set a) (rust.Set b) e = ap (λ s. OfSet s) (same_sets a b e)
-same_sources (rust.Fragment a) (rust.Fragment b) e = ap (λ n. OfFragment n) ((bytes_eq-Decides a.now.text b.now.text).0 e)
-same_sources (rust.Set a) (rust.Fragment b) e = absurd (true≢false (sym e))
-same_sources (rust.Fragment a) (rust.Set b) e = absurd (true≢false (sym e))
-
--- ---- sets without selections
-
-pub bare_so : (t : TypedSet Place) → holds_none t ≡ true → IsBare (meant_of_set t)
-bare_so (typed_set ty no_typed) e = tt
-bare_so (typed_set ty (typed_then s ss)) e = absurd (true≢false (sym e))
+pub number_new : (old new : List ℕ) (n : ℕ) (is_new : Bool) → is_new ≡ not (list_any (nat_eq n) old) → new ≡ insert_key nat_eq old n → is_new ≡ true → (Contains old n → ⊥) × (new ≡ old ++ n ∷ [])
+number_new old new n is_new tells is told = by (list_any (nat_eq n) old) refl
+  where
+    by : (b : Bool) → list_any (nat_eq n) old ≡ b → (Contains old n → ⊥) × (new ≡ old ++ n ∷ [])
+    by true e = absurd (true≢false (sym told ∙ tells ∙ ap not e))
+    by false e = (
+      λ c. true≢false (sym (list_any-from_Contains nat_eq_equiv n old c) ∙ e),
+      is ∙ ap (λ b. if b then old else old ++ n ∷ []) e,
+    )
 
 -- ---- sets of a group
 
 no_sets : AreSetsOf [] []
 no_sets = record { within = λ s c. not_in_nil s c; covers = λ f c. not_in_nil f c }
 
-pub sets_begun : (sets : List SelectedSet) → sets ≡ [] → AreSetsOf [] (meant_sets sets)
-sets_begun sets e = subst (λ l. AreSetsOf [] (meant_sets l)) (sym e) no_sets
-
 -- what is among sets is among more of them
-pub among_more : {field : StandingField Place} (old new : List (MeantSet Place)) → NotesSet field old new → (v : PlainSet) → Contains (plain_sets old) v → Contains (plain_sets new) v
+pub among_more : {field : StandingField Place} (old new : List (MeantSet Place)) → NotesSet field old new → (v : ReadSet) → Contains (read_sets old) v → Contains (read_sets new) v
 among_more old new notes v c =
-    subst (λ l. Contains (plain_sets l) v) (sym notes.is) (subst (λ l. Contains l v) (sym (map-append unplaced_set old notes.added)) (Contains-append_left (plain_sets old) (plain_sets notes.added) v c))
+    subst (λ l. Contains (read_sets l) v) (sym notes.is) (subst (λ l. Contains l v) (sym (map-append list_read old notes.added)) (Contains-append_left (read_sets old) (read_sets notes.added) v c))
 
--- a set that is equal to one of them says the same as one of them
-pub said_there : (others : List SelectedSet) (set : SelectedSet) → list_any (set_key_eq set) others ≡ true → {v : PlainSet} → unplaced_set (meant_at set) ≡ v → Contains (plain_sets (meant_sets others)) v
-said_there others set there says =
-    let y = any_among (set_key_eq set) others there in
-    subst (Contains (plain_sets (meant_sets others))) (sym (same_sets set y.0 y.1.1) ∙ says) (contains_map unplaced_set (meant_sets others) (meant_at y.0) (contains_map meant_at others y.0 y.1.0))
+-- the set of a field that has no selections
+pub bare_noted : (field : StandingField Place) (sets : List (MeantSet Place)) → IsBare field.set → NotesSet field sets sets
+bare_noted field sets bare = record { added = []; is = sym (append-nil sets); its = λ s c. not_in_nil s c; there = inl bare }
 
--- ---- the set of a field
+-- with it the sets are those of one field more
+sets_more : (field : StandingField Place) (group : List (StandingField Place)) (old new : List (MeantSet Place)) → NotesSet field old new → AreSetsOf group old → AreSetsOf (group ++ field ∷ []) new
+sets_more field group old new notes so_far = record {
+  within = λ s c. elim (Contains-append_cases old notes.added s (subst (λ l. Contains l s) notes.is c)) [
+    | inl a ↦ let f = so_far.within s a in (f.0, (Contains-append_left group (field ∷ []) f.0 f.1.0, f.1.1))
+    | inr b ↦ (field, (in_last group field, notes.its s b))
+  ];
+  covers = λ f c. elim (Contains-append_cases group (field ∷ []) f c) [
+    | inl a ↦ elim (so_far.covers f a) [ inl bare ↦ inl bare | inr there ↦ inr (among_more old new notes (list_read f.set) there) ]
+    | inr r ↦ subst (λ (x : StandingField Place). IsBare x.set ⊎ Contains (read_sets new) (list_read x.set)) (sym (only field f r)) notes.there
+  ];
+}
 
-module _ (field : StandingField Place) where
-  -- that has no selections
-  pub bare_noted : (sets : List (MeantSet Place)) → IsBare field.set → NotesSet field sets sets
-  bare_noted sets bare = record { added = []; is = sym (append-nil sets); its = λ s c. not_in_nil s c; there = inl bare }
+module _ (w : FieldSets) where
+  -- the set of the node is read as the number
+  abbrev reads_so : ℕ → ℕ → Type 0
+  reads_so n i = set_content_at w n ≡ node_read w i
 
-  -- that is put among others, or says the same as one of them
-  pub set_noted : (old new : List SelectedSet) (set : SelectedSet) → meant_at set ≡ field.set → new ≡ insert_key set_key_eq old set → NotesSet field (meant_sets old) (meant_sets new)
-  set_noted old new set same is = subst (λ l. NotesSet field (meant_sets old) (meant_sets l)) (sym is) (by (list_any (set_key_eq set) old) refl)
-    where
-      by : (b : Bool) → list_any (set_key_eq set) old ≡ b → NotesSet field (meant_sets old) (meant_sets (if b then old else old ++ set ∷ []))
-      by true i = record {
+  -- none
+  pub none_numbered : (found : SetsBelow) → found.numbers.keys ≡ [] → found.nodes.items ≡ [] → AreNumbered w found
+  none_numbered found numbers nodes =
+      subst (λ l. AllZip reads_so l found.nodes.items) (sym numbers)
+      (subst (AllZip reads_so []) (sym nodes) tt)
+
+  pub sets_begun : (nodes : List ℕ) → nodes ≡ [] → AreSetsOf [] (meant_sets w nodes)
+  sets_begun nodes e = subst (λ l. AreSetsOf [] (meant_sets w l)) (sym e) no_sets
+
+  -- field by field
+  pub sets_step : (group : List Member) (old new : List ℕ) (i : ℕ) (x : Member) → i < length group → x ≡ get_or group i x
+      → NotesSet (field_of x) (meant_sets w old) (meant_sets w new) → AreSetsOf (fields_of (take i group)) (meant_sets w old) → AreSetsOf (fields_of (take (i + 1) group)) (meant_sets w new)
+  sets_step group old new i x h e notes so_far =
+      subst (λ l. AreSetsOf l (meant_sets w new)) (sym (ap fields_of (taken_more group i x h e) ∙ map-append field_of (take i group) (x ∷ [])))
+      (sets_more (field_of x) (fields_of (take i group)) (meant_sets w old) (meant_sets w new) notes so_far)
+
+  -- a set that is read as a number that is there is read as the set of the node beside it
+  pub read_there : (found : SetsBelow) → AreNumbered w found → (number node : ℕ) → Contains found.numbers.keys number → set_content_at w number ≡ node_read w node
+      → {s : MeantSet Place} → set_at w node ≡ s → Contains (read_sets (meant_sets w found.nodes.items)) (list_read s)
+  read_there found are number node there reads same =
+      let i = beside reads_so found.numbers.keys found.nodes.items are number there in
+      subst (Contains (read_sets (meant_sets w found.nodes.items))) (sym i.1.1 ∙ reads ∙ ap list_read same)
+      (contains_map list_read (meant_sets w found.nodes.items) (set_at w i.0) (contains_map (set_at w) found.nodes.items i.0 i.1.0))
+
+  module _ (old new : SetsBelow) (number node : ℕ) (adds : AddsNode number node old new) (are : AreNumbered w old) (reads : set_content_at w number ≡ node_read w node) where
+    -- the set of a field that is that of the node
+    pub set_noted : (field : StandingField Place) → set_at w node ≡ field.set → NotesSet field (meant_sets w old.nodes.items) (meant_sets w new.nodes.items)
+    set_noted field same = elim adds [
+      | inl a ↦ record {
         added = [];
-        is = sym (append-nil (meant_sets old));
+        is = ap (meant_sets w) a.1.1 ∙ sym (append-nil (meant_sets w old.nodes.items));
         its = λ s c. not_in_nil s c;
-        there = inr (said_there old set i (ap unplaced_set same));
+        there = inr (subst (λ l. Contains (read_sets (meant_sets w l)) (list_read field.set)) (sym a.1.1) (read_there old are number node a.0 reads same));
       }
-      by false i = record {
-        added = meant_at set ∷ [];
-        is = map-append meant_at old (set ∷ []);
-        its = λ s c. sym same ∙ sym (only (meant_at set) s c);
-        there = inr (subst (Contains (plain_sets (meant_sets (old ++ set ∷ [])))) (ap unplaced_set same)
-            (contains_map unplaced_set (meant_sets (old ++ set ∷ [])) (meant_at set) (contains_map meant_at (old ++ set ∷ []) set (in_last old set))));
+      | inr b ↦ record {
+        added = set_at w node ∷ [];
+        is = ap (meant_sets w) b.1.1 ∙ map-append (set_at w) old.nodes.items (node ∷ []);
+        its = λ s c. sym same ∙ sym (only (set_at w node) s c);
+        there = inr (subst (λ l. Contains (read_sets (meant_sets w l)) (list_read field.set)) (sym b.1.1)
+            (subst (Contains (read_sets (meant_sets w (old.nodes.items ++ node ∷ [])))) (ap list_read same)
+            (contains_map list_read (meant_sets w (old.nodes.items ++ node ∷ [])) (set_at w node) (contains_map (set_at w) (old.nodes.items ++ node ∷ []) node (in_last old.nodes.items node)))));
       }
+    ]
 
-  -- with it the sets are those of one field more
-  sets_more : (group : List (StandingField Place)) (old new : List (MeantSet Place)) → NotesSet field old new → AreSetsOf group old → AreSetsOf (group ++ field ∷ []) new
-  sets_more group old new notes so_far = record {
-    within = λ s c. elim (Contains-append_cases old notes.added s (subst (λ l. Contains l s) notes.is c)) [
-      | inl a ↦ let f = so_far.within s a in (f.0, (Contains-append_left group (field ∷ []) f.0 f.1.0, f.1.1))
-      | inr b ↦ (field, (in_last group field, notes.its s b))
-    ];
-    covers = λ f c. elim (Contains-append_cases group (field ∷ []) f c) [
-      | inl a ↦ elim (so_far.covers f a) [ inl bare ↦ inl bare | inr there ↦ inr (among_more old new notes (unplaced_set f.set) there) ]
-      | inr r ↦ subst (λ (x : StandingField Place). IsBare x.set ⊎ Contains (plain_sets new) (unplaced_set x.set)) (sym (only field f r)) notes.there
-    ];
-  }
-
--- field by field
-pub sets_step : (group : List FieldSelection) (old new : List SelectedSet) (i : ℕ) (x : FieldSelection) → i < length group → x ≡ get_or group i x
-    → NotesSet (field_of x) (meant_sets old) (meant_sets new) → AreSetsOf (fields_of (take i group)) (meant_sets old) → AreSetsOf (fields_of (take (i + 1) group)) (meant_sets new)
-sets_step group old new i x h e notes so_far =
-    subst (λ l. AreSetsOf l (meant_sets new)) (sym (ap fields_of (taken_more group i x h e) ∙ map-append field_of (take i group) (x ∷ [])))
-    (sets_more (field_of x) (fields_of (take i group)) (meant_sets old) (meant_sets new) notes so_far)
+    pub numbered_more : AreNumbered w new
+    numbered_more = elim adds [
+      | inl a ↦ by (sym a.1.0) (sym a.1.1) are
+      | inr b ↦ by (sym b.1.0) (sym b.1.1) (AllZip-push reads_so old.numbers.keys old.nodes.items number node are reads)
+    ]
+      where
+        by : {ns is : List ℕ} → ns ≡ new.numbers.keys → is ≡ new.nodes.items → AllZip reads_so ns is → AllZip reads_so new.numbers.keys new.nodes.items
+        by {ns} {is} e f all = subst (λ l. AllZip reads_so l new.nodes.items) e (subst (AllZip reads_so ns) f all)

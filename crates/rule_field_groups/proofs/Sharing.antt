@@ -7,15 +7,15 @@ use Rattle.std.proofs.lemmas.List.Elements.{Contains-append_left, Contains-appen
 use Rattle.std.proofs.lemmas.List.Sums.{sum_by-cons}
 use Rattle.std.proofs.lemmas.Slice.Eq.{bytes_eq-Decides}
 use Rattle.graphql_names.specs.Placed.{Place}
-use Rattle.schema_components.proofs.Places.{not_in_nil, only, Contains-cons, Contains-first}
-use Rattle.rule_definitions.specs.Judged.{Judged}
-use Rattle.rule_document_definitions.specs.Groups.{AreGroups}
-use Rattle.rule_document_definitions.specs.Selected.{StandingField, response_key}
-use Rattle.rule_document_definitions.proofs.Unplaced.{contains_map, contains_unmap}
-use Rattle.rule_document_ground.specs.Fields.{field_of, fields_of}
-use Rattle.rule_document_ground.specs.declared.field_selection.FieldSelection.{FieldSelection}
-use Rattle.rule_document_definitions.specs.Sharing.{AreKeyGroups, AreShareGroups, IsOn}
-use Rattle.rule_document_definitions.proofs.SharingFacts.{key_groups, share_groups}
+use Rattle.rule_same_values.proofs.in_definitions.in_schema_types.in_components.Places.{not_in_nil, only, Contains-cons, Contains-first}
+use Rattle.rule_same_values.specs.in_definitions.Judged.{Judged}
+use Rattle.rule_same_values.specs.in_document_definitions.Groups.{AreGroups}
+use Rattle.rule_same_values.specs.in_document_definitions.Selected.{StandingField, response_key}
+use Rattle.rule_same_values.proofs.in_document_definitions.Unplaced.{contains_map, contains_unmap}
+use Rattle.rule_field_groups.specs.Members.{field_of, fields_of}
+use Rattle.rule_field_sets.specs.declared.member.Member.{Member}
+use Rattle.rule_same_values.specs.in_document_definitions.Sharing.{AreKeyGroups, AreShareGroups, IsOn}
+use Rattle.rule_same_values.proofs.in_document_definitions.SharingFacts.{key_groups, share_groups}
 use Rattle.rule_field_groups.specs.Compared.{compared}
 use Rattle.rule_field_groups.specs.Kinds.{is_abstract}
 use Rattle.rule_field_groups.specs.Passes.{Together}
@@ -37,7 +37,7 @@ so_named n m e = (bytes_eq-Decides n m).1 e
 
 -- ---- by keys
 
-pub are_key_groups : (list : List FieldSelection) (groups : List (List FieldSelection)) → AreFiled key_of list groups → AreKeyGroups (fields_of list) (map fields_of groups)
+pub are_key_groups : (list : List Member) (groups : List (List Member)) → AreFiled key_of list groups → AreKeyGroups (fields_of list) (map fields_of groups)
 are_key_groups list groups filed = record {
   has = λ f c.
       let x = contains_unmap field_of list f c in
@@ -65,49 +65,49 @@ are_key_groups list groups filed = record {
 -- ---- by parents
 
 module _ (s : Judged) where
-  module _ (list shared : List FieldSelection) (owns : List (List FieldSelection)) (is : shared ≡ filter (is_shared s) list)
+  module _ (list shared : List Member) (owns : List (List Member)) (is : shared ≡ filter (is_shared s) list)
       (filed : AreFiled parent_of (filter (λ x. not (is_shared s x)) list) owns) where
-    in_shared : (y : FieldSelection) → Contains list y → is_shared s y ≡ true → Contains shared y
+    in_shared : (y : Member) → Contains list y → is_shared s y ≡ true → Contains shared y
     in_shared y c e = subst (λ l. Contains l y) (sym is) (in_filter (is_shared s) list y c e)
 
-    of_shared : (y : FieldSelection) → Contains shared y → Contains list y × (is_shared s y ≡ true)
+    of_shared : (y : Member) → Contains shared y → Contains list y × (is_shared s y ≡ true)
     of_shared y c = of_filter (is_shared s) list y (subst (λ l. Contains l y) is c)
 
-    abbrev objects : List FieldSelection
+    abbrev objects : List Member
     objects = filter (λ x. not (is_shared s x)) list
 
-    in_objects : (y : FieldSelection) → Contains list y → is_shared s y ≡ false → Contains objects y
+    in_objects : (y : Member) → Contains list y → is_shared s y ≡ false → Contains objects y
     in_objects y c e = in_filter (λ x. not (is_shared s x)) list y c (ap not e)
 
     -- a field that is not shared has a part
-    its_part : (x : FieldSelection) → Contains list x → is_shared s x ≡ false
-        → (part : List FieldSelection) × (Contains (with_own shared owns) part × ((y : FieldSelection) → Contains list y → IsOnOne s (parent_of x) y → Contains part y))
+    its_part : (x : Member) → Contains list x → is_shared s x ≡ false
+        → (part : List Member) × (Contains (with_own shared owns) part × ((y : Member) → Contains list y → IsOnOne s (parent_of x) y → Contains part y))
     its_part x c e =
         let own = filter (has parent_of (parent_of x)) objects in
         let there = filed.has_all x (in_objects x c e) in
         (shared ++ own, (part_of_own shared owns own there, λ y k on. by y k on (is_shared s y) refl))
       where
-        by : (y : FieldSelection) → Contains list y → IsOnOne s (parent_of x) y → (b : Bool) → is_shared s y ≡ b → Contains (shared ++ filter (has parent_of (parent_of x)) objects) y
+        by : (y : Member) → Contains list y → IsOnOne s (parent_of x) y → (b : Bool) → is_shared s y ≡ b → Contains (shared ++ filter (has parent_of (parent_of x)) objects) y
         by y k on true i = Contains-append_left shared (filter (has parent_of (parent_of x)) objects) y (in_shared y k i)
         by y k (inl same) false i =
             Contains-append_right shared (filter (has parent_of (parent_of x)) objects) y (in_filter (has parent_of (parent_of x)) objects y (in_objects y k i) (so_named (parent_of x) (parent_of y) (sym same)))
         by y k (inr a) false i = absurd (true≢false (sym (so_is_abstract s (parent_of y) a) ∙ i))
 
     -- what is on the type of a shared field is shared
-    all_shared_there : (x : FieldSelection) → is_shared s x ≡ true → (y : FieldSelection) → Contains list y → IsOnOne s (parent_of x) y → Contains shared y
+    all_shared_there : (x : Member) → is_shared s x ≡ true → (y : Member) → Contains list y → IsOnOne s (parent_of x) y → Contains shared y
     all_shared_there x e y k (inl same) = in_shared y k (ap (is_abstract s) same ∙ e)
     all_shared_there x e y k (inr a) = in_shared y k (so_is_abstract s (parent_of y) a)
 
-    has_part : (x : FieldSelection) → Contains list x → (b : Bool) → is_shared s x ≡ b
-        → (part : List FieldSelection) × (Contains (with_own shared owns) part × ((y : FieldSelection) → Contains list y → IsOnOne s (parent_of x) y → Contains part y))
+    has_part : (x : Member) → Contains list x → (b : Bool) → is_shared s x ≡ b
+        → (part : List Member) × (Contains (with_own shared owns) part × ((y : Member) → Contains list y → IsOnOne s (parent_of x) y → Contains part y))
     has_part x c true e = let p = part_of_shared shared owns in (p.0, (p.1.0, λ y k on. p.1.1 y (all_shared_there x e y k on)))
     has_part x c false e = its_part x c e
 
-    on_any : (n : List ℕ) (y : FieldSelection) → Contains shared y → Contains list y × IsOnOne s n y
+    on_any : (n : List ℕ) (y : Member) → Contains shared y → Contains list y × IsOnOne s n y
     on_any n y c = let p = of_shared y c in (p.0, inr (is_abstract_so s (parent_of y) p.1))
 
-    of_part : (part : List FieldSelection) → (part ≡ shared) ⊎ ((own : List FieldSelection) × (Contains owns own × (part ≡ shared ++ own)))
-        → (parent : List ℕ) × ((y : FieldSelection) → Contains part y → Contains list y × IsOnOne s parent y)
+    of_part : (part : List Member) → (part ≡ shared) ⊎ ((own : List Member) × (Contains owns own × (part ≡ shared ++ own)))
+        → (parent : List ℕ) × ((y : Member) → Contains part y → Contains list y × IsOnOne s parent y)
     of_part part (inl e) = ([], λ y c. on_any [] y (subst (λ l. Contains l y) e c))
     of_part part (inr (own, (there, e))) =
         let n = filed.only own there in (
@@ -139,15 +139,15 @@ module _ (s : Judged) where
 
 module _ (pass : Pass) (s : Judged) where
   -- the parts of each of these groups, one after the other
-  pub record ArePartsOfEach (keyed : List (List FieldSelection)) (parts : List (List FieldSelection)) : Type 0 where
-    pub all : (key : List FieldSelection) → Contains keyed key → (own : List (List FieldSelection)) × (ArePartsFor pass s key own × ((g : List FieldSelection) → Contains own g → Contains parts g))
-    pub from : (part : List FieldSelection) → Contains parts part
-        → (key : List FieldSelection) × (Contains keyed key × ((own : List (List FieldSelection)) × (ArePartsFor pass s key own × Contains own part)))
+  pub record ArePartsOfEach (keyed : List (List Member)) (parts : List (List Member)) : Type 0 where
+    pub all : (key : List Member) → Contains keyed key → (own : List (List Member)) × (ArePartsFor pass s key own × ((g : List Member) → Contains own g → Contains parts g))
+    pub from : (part : List Member) → Contains parts part
+        → (key : List Member) × (Contains keyed key × ((own : List (List Member)) × (ArePartsFor pass s key own × Contains own part)))
 
   pub parts_none : ArePartsOfEach [] []
   parts_none = record { all = λ key c. absurd (not_in_nil key c); from = λ part c. absurd (not_in_nil part c) }
 
-  pub parts_more : (keyed parts : List (List FieldSelection)) (key : List FieldSelection) (own : List (List FieldSelection)) → ArePartsOfEach keyed parts → ArePartsFor pass s key own → ArePartsOfEach (keyed ++ key ∷ []) (parts ++ own)
+  pub parts_more : (keyed parts : List (List Member)) (key : List Member) (own : List (List Member)) → ArePartsOfEach keyed parts → ArePartsFor pass s key own → ArePartsOfEach (keyed ++ key ∷ []) (parts ++ own)
   parts_more keyed parts key own so_far are = record {
     all = λ k c. elim (Contains-append_cases keyed (key ∷ []) k c) [
       | inl a ↦ let p = so_far.all k a in (p.0, (p.1.0, λ g h. Contains-append_left parts own g (p.1.1 g h)))
@@ -160,7 +160,7 @@ module _ (pass : Pass) (s : Judged) where
   }
 
 -- where shapes are compared, the groups by keys
-keyed_parts : (s : Judged) (list : List FieldSelection) (keyed parts : List (List FieldSelection)) → AreFiled key_of list keyed → ArePartsOfEach Shapes s keyed parts → AreFiled key_of list parts
+keyed_parts : (s : Judged) (list : List Member) (keyed parts : List (List Member)) → AreFiled key_of list keyed → ArePartsOfEach Shapes s keyed parts → AreFiled key_of list parts
 keyed_parts s list keyed parts filed each = record {
   has_all = λ x c.
       let key = filter (has key_of (key_of x)) list in
@@ -174,7 +174,7 @@ keyed_parts s list keyed parts filed each = record {
 }
 
 module _ (s : Judged) where
-  are_share_groups : (list : List FieldSelection) (keyed parts : List (List FieldSelection)) → AreFiled key_of list keyed → ArePartsOfEach Selections s keyed parts
+  are_share_groups : (list : List Member) (keyed parts : List (List Member)) → AreFiled key_of list keyed → ArePartsOfEach Selections s keyed parts
       → AreShareGroups s (fields_of list) (map fields_of parts)
   are_share_groups list keyed parts filed each = record {
     has = λ f c.
@@ -215,7 +215,7 @@ module _ (s : Judged) where
   }
 
 -- parts of the groups of a list are groups of what goes together
-pub are_groups : (pass : Pass) (s : Judged) (list : List FieldSelection) (keyed parts : List (List FieldSelection)) → AreFiled key_of list keyed → ArePartsOfEach pass s keyed parts
+pub are_groups : (pass : Pass) (s : Judged) (list : List Member) (keyed parts : List (List Member)) → AreFiled key_of list keyed → ArePartsOfEach pass s keyed parts
     → AreGroups (Together pass s) (fields_of list) (map fields_of parts)
 are_groups Shapes s list keyed parts filed each = key_groups (fields_of list) (map fields_of parts) (are_key_groups list parts (keyed_parts s list keyed parts filed each))
 are_groups Selections s list keyed parts filed each = share_groups (fields_of list) (map fields_of parts) s (are_share_groups s list keyed parts filed each)
@@ -223,26 +223,26 @@ are_groups Selections s list keyed parts filed each = share_groups (fields_of li
 -- ---- in the order of the list
 
 -- each of these is a part of one of the groups
-abbrev pub ArePartsOfOne : List (List FieldSelection) → List (List FieldSelection) → Type 0
-ArePartsOfOne keyed lists = (part : List FieldSelection) → Contains lists part → (key : List FieldSelection) × (Contains keyed key × IsPartOf key part)
+abbrev pub ArePartsOfOne : List (List Member) → List (List Member) → Type 0
+ArePartsOfOne keyed lists = (part : List Member) → Contains lists part → (key : List Member) × (Contains keyed key × IsPartOf key part)
 
 pub ordered_none : ArePartsOfOne [] []
 ordered_none part c = absurd (not_in_nil part c)
 
-pub ordered_more : (keyed lists : List (List FieldSelection)) (key : List FieldSelection) (own : List (List FieldSelection)) → ArePartsOfOne keyed lists → ArePartsOf key own → ArePartsOfOne (keyed ++ key ∷ []) (lists ++ own)
+pub ordered_more : (keyed lists : List (List Member)) (key : List Member) (own : List (List Member)) → ArePartsOfOne keyed lists → ArePartsOf key own → ArePartsOfOne (keyed ++ key ∷ []) (lists ++ own)
 ordered_more keyed lists key own so_far are part c = elim (Contains-append_cases lists own part c) [
   | inl a ↦ let p = so_far part a in (p.0, (Contains-append_left keyed (key ∷ []) p.0 p.1.0, p.1.1))
   | inr b ↦ (key, (Contains-append_right keyed (key ∷ []) key (Contains-first key [] key refl), are part b))
 ]
 
-pub all_ordered : (list : List FieldSelection) (keyed lists : List (List FieldSelection)) → AreFiled key_of list keyed → ArePartsOfOne keyed lists → ArePartsOf list lists
+pub all_ordered : (list : List Member) (keyed lists : List (List Member)) → AreFiled key_of list keyed → ArePartsOfOne keyed lists → ArePartsOf list lists
 all_ordered list keyed lists filed of_one part c =
     let p = of_one part c in
     let n = filed.only p.0 p.1.0 in
     part_of_part list p.0 part (has key_of n.0, n.1) p.1.1
 
 -- the list itself, and one without members
-pub whole_ordered : (list : List FieldSelection) → ArePartsOf list (list ∷ [])
+pub whole_ordered : (list : List Member) → ArePartsOf list (list ∷ [])
 whole_ordered list part c = (λ _. true, only list part c ∙ all_pass list)
 
 -- ---- how many are compared
@@ -262,37 +262,37 @@ module _ {X : Type 0} where
           none_before : sum (map (compared {X = X} Selections) lists) ≡ 0 → 0 + sum (map (compared {X = X} Selections) lists) ≡ 0
           none_before h = omega (arith, h)
 
-pub shapes_in : (group : KeyGroup) (list : List FieldSelection) → group.shared.items ≡ list → own_lists group ≡ [] → compared_in Shapes group ≤ length list
-shapes_in group list is none = omega (arith, ap length is, ap (λ l. sum (map (compared {X = FieldSelection} Shapes) l)) none)
+pub shapes_in : (group : KeyGroup) (list : List Member) → group.shared.items ≡ list → own_lists group ≡ [] → compared_in Shapes group ≤ length list
+shapes_in group list is none = omega (arith, ap length is, ap (λ l. sum (map (compared {X = Member} Shapes) l)) none)
 
 pub selections_in : (group : KeyGroup) → compared_in Selections group ≤ 0
 selections_in group = omega (arith, none_compared (own_lists group))
 
-pub keyed_count : (pass : Pass) (list : List FieldSelection) (keyed : List (List FieldSelection)) → sum (map length keyed) ≡ length list → sum (map (compared pass) keyed) ≤ compared pass list
+pub keyed_count : (pass : Pass) (list : List Member) (keyed : List (List Member)) → sum (map length keyed) ≡ length list → sum (map (compared pass) keyed) ≤ compared pass list
 keyed_count Shapes list keyed e = omega (arith, e)
 keyed_count Selections list keyed e = none_compared keyed
 
 -- ---- each field stands once
 
 -- those on abstract types, and those on each object type
-pub parents_once : (s : Judged) (list shared : List FieldSelection) (owns : List (List FieldSelection)) → shared ≡ filter (is_shared s) list
+pub parents_once : (s : Judged) (list shared : List Member) (owns : List (List Member)) → shared ≡ filter (is_shared s) list
     → sum (map length owns) ≡ length (filter (λ x. not (is_shared s x)) list) → sum (map length (shared ∷ owns)) ≡ length list
 parents_once s list shared owns is all = omega (arith, ap length is, all, split_length (is_shared s) list, sums length (shared ∷ []) owns)
 
 -- all in one part
-pub shapes_once : (list shared : List FieldSelection) (owns : List (List FieldSelection)) → shared ≡ list → owns ≡ [] → sum (map length (shared ∷ owns)) ≡ length list
+pub shapes_once : (list shared : List Member) (owns : List (List Member)) → shared ≡ list → owns ≡ [] → sum (map length (shared ∷ owns)) ≡ length list
 shapes_once list shared owns is none = omega (arith, ap length is, ap (λ l. sum (map length (shared ∷ l))) none, sum_by-cons (λ n. n) (length shared) [])
 
 -- ---- one group more
 
-module _ (pass : Pass) (s : Judged) (keyed : List (Vec FieldSelection Global)) (fields : Vec FieldSelection Global) (groups new : List KeyGroup) (group : KeyGroup) (is : new ≡ groups ++ group ∷ []) where
-  abbrev items : Vec FieldSelection Global → List FieldSelection
+module _ (pass : Pass) (s : Judged) (keyed : List (Vec Member Global)) (fields : Vec Member Global) (groups new : List KeyGroup) (group : KeyGroup) (is : new ≡ groups ++ group ∷ []) where
+  abbrev items : Vec Member Global → List Member
   items v = v.items
 
   keys_more : map items (keyed ++ fields ∷ []) ≡ map items keyed ++ fields.items ∷ []
   keys_more = map-append items keyed (fields ∷ [])
 
-  given_more : (f : KeyGroup → List (List FieldSelection)) → flat_map f new ≡ flat_map f groups ++ f group
+  given_more : (f : KeyGroup → List (List Member)) → flat_map f new ≡ flat_map f groups ++ f group
   given_more f = ap (flat_map f) is ∙ flat_push f groups group
 
   pub group_parts : ArePartsFor pass s fields.items (parts_of group) → ArePartsOfEach pass s (map items keyed) (parts_in groups) → ArePartsOfEach pass s (map items (keyed ++ fields ∷ [])) (parts_in new)

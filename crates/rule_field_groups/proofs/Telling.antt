@@ -6,17 +6,17 @@ use Rattle.std.proofs.lemmas.List.{map-append, take_more, take_all, take-append-
 use Rattle.std.proofs.lemmas.List.Elements.{Contains-append_left, Contains-append_right, Contains-append_cases, Contains-get_or}
 use Rattle.graphql_names.specs.Placed.{Place}
 use Rattle.fault_document_data.specs.declared.build_error.BuildError.{BuildError}
-use Rattle.schema_components.proofs.Places.{not_in_nil, only, Contains-cons, Contains-first, Contains-rest}
-use Rattle.rule_definitions.specs.Judged.{Judged}
-use Rattle.rule_document_definitions.specs.DocumentFaults.{Broken}
-use Rattle.rule_document_definitions.specs.Selected.{StandingField}
-use Rattle.rule_document_definitions.specs.Groups.{AgreeWithHead}
-use Rattle.rule_document_definitions.proofs.Equivalences.{shape_sym, shape_trans, selection_sym, selection_trans}
-use Rattle.rule_document_definitions.proofs.Unplaced.{contains_map, contains_unmap}
+use Rattle.rule_same_values.proofs.in_definitions.in_schema_types.in_components.Places.{not_in_nil, only, Contains-cons, Contains-first, Contains-rest}
+use Rattle.rule_same_values.specs.in_definitions.Judged.{Judged}
+use Rattle.rule_same_values.specs.in_document_definitions.DocumentFaults.{Broken}
+use Rattle.rule_same_values.specs.in_document_definitions.Selected.{StandingField}
+use Rattle.rule_same_values.specs.in_document_definitions.Groups.{AgreeWithHead}
+use Rattle.rule_same_values.proofs.in_document_definitions.Equivalences.{shape_sym, shape_trans, selection_sym, selection_trans}
+use Rattle.rule_same_values.proofs.in_document_definitions.Unplaced.{contains_map, contains_unmap}
 use Rattle.rule_same_values.proofs.Equivalences.{arguments_refl}
-use Rattle.rule_document_ground.specs.Broken.{brokens_of}
-use Rattle.rule_document_ground.specs.Fields.{field_of, fields_of}
-use Rattle.rule_document_ground.specs.declared.field_selection.FieldSelection.{FieldSelection}
+use Rattle.rule_field_sets.specs.in_ground.Broken.{brokens_of}
+use Rattle.rule_field_groups.specs.Members.{field_of, fields_of}
+use Rattle.rule_field_sets.specs.declared.member.Member.{Member}
 use Rattle.rule_field_groups.specs.declared.pass.Pass.{Pass}
 use Rattle.rule_field_groups.specs.declared.pass.Pass.TheVariants.{Shapes, Selections}
 use Rattle.rule_field_groups.specs.Passes.{Agree, Conflict, AddsTwo, TellsGroup, AddsGroup, TellsEach, AddsEach}
@@ -85,22 +85,22 @@ abbrev Breaches : Type 0
 Breaches = Vec (Place × BuildError) Global
 
 -- what was added for the fields that were taken
-abbrev pub Taken : Pass → Judged → List FieldSelection → FieldSelection → List FieldSelection → Breaches → Breaches → Type 0
+abbrev pub Taken : Pass → Judged → List Member → Member → List Member → Breaches → Breaches → Type 0
 Taken pass s group first taken old now = (added : List (Broken Place)) × ((brokens_of now ≡ brokens_of old ++ added) × SoFar pass s (fields_of group) (field_of first) (fields_of taken) added)
 
 empty_is : {X : Type 0} (xs : List X) → length xs ≡ 0 → xs ≡ []
 empty_is [] e = refl
 empty_is (x ∷ xs) e = cc
 
-module _ (pass : Pass) (s : Judged) (group : List FieldSelection) where
+module _ (pass : Pass) (s : Judged) (group : List Member) where
   pub no_group : length group ≡ 0 → (breaches : Breaches) → AddsGroup pass s (fields_of group) breaches breaches
   no_group e breaches = ([], (sym (append-nil (brokens_of breaches)), nothing_told pass s (fields_of group) (ap fields_of (empty_is group e))))
 
-  module _ (first : FieldSelection) (others : List FieldSelection) (is : group ≡ first ∷ others) where
+  module _ (first : Member) (others : List Member) (is : group ≡ first ∷ others) where
     in_first : Contains (fields_of group) (field_of first)
     in_first = subst (λ l. Contains (fields_of l) (field_of first)) (sym is) (Contains-first (field_of first) (fields_of others) (field_of first) refl)
 
-    in_others : (k : ℕ) (x : FieldSelection) → k < length others → x ≡ get_or others k x → Contains (fields_of group) (field_of x)
+    in_others : (k : ℕ) (x : Member) → k < length others → x ≡ get_or others k x → Contains (fields_of group) (field_of x)
     in_others k x h e =
         subst (λ l. Contains (fields_of l) (field_of x)) (sym is)
         (Contains-rest (field_of first) (fields_of others) (field_of x) (contains_map field_of others x (subst (Contains others) (sym e) (Contains-get_or others k x h))))
@@ -108,7 +108,7 @@ module _ (pass : Pass) (s : Judged) (group : List FieldSelection) where
     pub begun : (breaches : Breaches) → Taken pass s group first (take 0 others) breaches breaches
     begun breaches = ([], (sym (append-nil (brokens_of breaches)), none_taken pass s (fields_of group) (field_of first)))
 
-    pub compared_more : (k : ℕ) (x : FieldSelection) → k < length others → x ≡ get_or others k x → (old now new : Breaches) → AddsTwo pass s (field_of first) (field_of x) now new
+    pub compared_more : (k : ℕ) (x : Member) → k < length others → x ≡ get_or others k x → (old now new : Breaches) → AddsTwo pass s (field_of first) (field_of x) now new
         → Taken pass s group first (take k others) old now → Taken pass s group first (take (k + 1) others) old new
     compared_more k x h e old now new (told, (adds, compares)) so_far =
         let more = option_to_list told in
@@ -278,7 +278,7 @@ module _ (pass : Pass) (s : Judged) where
   tells_one f = record { right = λ fault c. absurd (not_in_nil fault c); agree = λ e. (agree_refl pass s f, tt) }
 
   -- the same of what is added
-  pub adds_none : (f : FieldSelection) (list : List FieldSelection) → length list ≡ 0 → (breaches : Breaches) → AddsGroup pass s (fields_of (f ∷ list)) breaches breaches
+  pub adds_none : (f : Member) (list : List Member) → length list ≡ 0 → (breaches : Breaches) → AddsGroup pass s (fields_of (f ∷ list)) breaches breaches
   adds_none f list e breaches = ([], (sym (append-nil (brokens_of breaches)), subst (λ l. TellsGroup pass s (fields_of (f ∷ l)) []) (sym (empty_is list e)) (tells_one (field_of f))))
 
   pub adds_before : (first other : StandingField Place) (rest : List (StandingField Place)) (old mid new : Breaches) → AddsGroup pass s (first ∷ rest) old mid → AddsGroup pass s (first ∷ other ∷ []) mid new
@@ -291,14 +291,14 @@ module _ (pass : Pass) (s : Judged) where
       (a ++ b, (is_too ∙ ap (λ l. l ++ b) is ∙ append_assoc (brokens_of old) a b, tells_both first xs ys a b p q))
 
   -- where none is shared, and where one is: those before it and those behind it
-  pub adds_unshared : (shared own : List FieldSelection) → length shared ≡ 0 → (old new : Breaches) → AddsGroup pass s (fields_of own) old new → AddsGroup pass s (fields_of (take 1 shared ++ own)) old new
-  adds_unshared shared own e old new h = subst (λ (l : List FieldSelection). AddsGroup pass s (fields_of (take 1 l ++ own)) old new) (sym (empty_is shared e)) h
+  pub adds_unshared : (shared own : List Member) → length shared ≡ 0 → (old new : Breaches) → AddsGroup pass s (fields_of own) old new → AddsGroup pass s (fields_of (take 1 shared ++ own)) old new
+  adds_unshared shared own e old new h = subst (λ (l : List Member). AddsGroup pass s (fields_of (take 1 l ++ own)) old new) (sym (empty_is shared e)) h
 
-  pub adds_around : (first : FieldSelection) (rest shared before behind own : List FieldSelection) → shared ≡ first ∷ rest → own ≡ before ++ behind → (old mid new : Breaches)
+  pub adds_around : (first : Member) (rest shared before behind own : List Member) → shared ≡ first ∷ rest → own ≡ before ++ behind → (old mid new : Breaches)
       → AddsGroup pass s (fields_of (first ∷ before)) old mid → AddsGroup pass s (fields_of (first ∷ behind)) mid new → AddsGroup pass s (fields_of (take 1 shared ++ own)) old new
   adds_around first rest shared before behind own is parts old mid new p q =
-      subst (λ (l : List FieldSelection). AddsGroup pass s (fields_of (take 1 l ++ own)) old new) (sym is)
-      (subst (λ (l : List FieldSelection). AddsGroup pass s (fields_of (first ∷ l)) old new) (sym parts)
+      subst (λ (l : List Member). AddsGroup pass s (fields_of (take 1 l ++ own)) old new) (sym is)
+      (subst (λ (l : List Member). AddsGroup pass s (fields_of (first ∷ l)) old new) (sym parts)
       (subst (λ l. AddsGroup pass s (field_of first ∷ l) old new) (sym (map-append field_of before behind)) (adds_both (field_of first) (fields_of before) (fields_of behind) old mid new p q)))
 
   -- ---- each of some lists
@@ -386,12 +386,12 @@ module _ (pass : Pass) (s : Judged) where
   pub adds_parts : (shared : List (StandingField Place)) (owns : List (List (StandingField Place))) (old new : Breaches) → AddsEach pass s (with_first shared owns) old new → AddsEach pass s (with_own shared owns) old new
   adds_parts shared owns old new (a, (is, p)) = (a, (is, whole_parts shared owns a p))
 
-one_fields : (shared own : List FieldSelection) → fields_of (take 1 shared ++ own) ≡ take 1 (fields_of shared) ++ fields_of own
+one_fields : (shared own : List Member) → fields_of (take 1 shared ++ own) ≡ take 1 (fields_of shared) ++ fields_of own
 one_fields [] own = refl
 one_fields (x ∷ xs) own = refl
 
 -- one type more, and all types
-module _ (pass : Pass) (s : Judged) (shared : List FieldSelection) where
+module _ (pass : Pass) (s : Judged) (shared : List Member) where
   pub own_step : (owns : List OwnFields) (i : ℕ) (x : OwnFields) → i < length owns → x ≡ get_or owns i x → (old mid new : Breaches)
       → AddsEach pass s (with_first pass s (fields_of shared) (map (λ o. fields_of o.fields.items) (take i owns))) old mid → AddsGroup pass s (fields_of (take 1 shared ++ x.fields.items)) mid new
       → AddsEach pass s (with_first pass s (fields_of shared) (map (λ o. fields_of o.fields.items) (take (i + 1) owns))) old new

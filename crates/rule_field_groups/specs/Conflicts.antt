@@ -2,15 +2,12 @@
 use Rattle.std.specs.Prelude.{Vec}
 use Rattle.std.specs.declared.alloc.Global.{Global}
 use Rattle.graphql_names.specs.Placed.{Place}
-use Rattle.rule_document_ground.specs.in_schema.SchemaOf.{schema_tree}
+use Rattle.rule_field_sets.specs.in_ground.in_schema.SchemaOf.{schema_tree}
 use Rattle.fault_document_data.specs.declared.build_error.BuildError.{BuildError}
-use Rattle.document_typed_selections.specs.TypedTree.{typed_selection_tree}
-use Rattle.document_typed_selections.specs.declared.selection.Selection.{Selection}
-use Rattle.document_meaning.specs.MeantTree.{MeantSelection, meant}
-use Rattle.rule_definitions.specs.Judged.{Judged, judged}
-use Rattle.rule_document_definitions.specs.Merging.{SameShape, SameName}
-use Rattle.rule_document_definitions.specs.SameValues.{SameArguments}
-use Rattle.rule_document_definitions.specs.Selected.{StandingField}
+use Rattle.rule_same_values.specs.in_definitions.Judged.{Judged, judged}
+use Rattle.rule_same_values.specs.in_document_definitions.Merging.{SameShape, SameName}
+use Rattle.rule_same_values.specs.in_document_definitions.SameValues.{SameArguments}
+use Rattle.rule_same_values.specs.in_document_definitions.Selected.{StandingField}
 use Rattle.rule_field_groups.specs.Passes.{TypesConflict, NamesConflict, ArgumentsConflict, AddsUnless}
 use Rattle.rule_field_groups.specs.declared.pass.Comparing.{Comparing}
 
@@ -32,7 +29,3 @@ AddsNames f g = AddsUnless (SameName f g) (λ b. NamesConflict b f g)
 -- what tells of one of their arguments, unless they have the same
 abbrev pub AddsArguments : StandingField Place → StandingField Place → Breaches → Breaches → Type 0
 AddsArguments f g = AddsUnless (SameArguments f.head.arguments g.head.arguments) (λ b. ArgumentsConflict b f g)
-
--- what a selection means
-abbrev pub selection_meant : Selection → MeantSelection Place
-selection_meant selection = meant (typed_selection_tree selection)

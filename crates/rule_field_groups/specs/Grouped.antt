@@ -7,11 +7,11 @@ use Rattle.std.specs.Str.{bytes_eq}
 use Rattle.std.specs.declared.alloc.Global.{Global}
 use Rattle.indexmap.specs.IndexMap.{IndexMap, values}
 use Rattle.graphql_names.specs.NameValue.{NameValue}
-use Rattle.rule_definitions.specs.Judged.{Judged}
-use Rattle.rule_document_definitions.specs.Selected.{response_key}
-use Rattle.rule_document_definitions.specs.Merging.{IsAbstract}
-use Rattle.rule_document_ground.specs.Fields.{field_of}
-use Rattle.rule_document_ground.specs.declared.field_selection.FieldSelection.{FieldSelection}
+use Rattle.rule_same_values.specs.in_definitions.Judged.{Judged}
+use Rattle.rule_same_values.specs.in_document_definitions.Selected.{response_key}
+use Rattle.rule_same_values.specs.in_document_definitions.Merging.{IsAbstract}
+use Rattle.rule_field_groups.specs.Members.{field_of}
+use Rattle.rule_field_sets.specs.declared.member.Member.{Member}
 
 -- what stands under a name, none if there is no entry
 abbrev pub items_under : {X S : Type 0} → List ℕ → IndexMap NameValue (Vec X Global) S → List X
@@ -28,10 +28,10 @@ abbrev pub lists_of : {X : Type 0} → Vec (Vec X Global) Global → List (List 
 lists_of lists = map (λ v. v.items) lists.items
 
 -- the response key, the type that it is selected on
-abbrev pub key_of : FieldSelection → List ℕ
+abbrev pub key_of : Member → List ℕ
 key_of x = response_key (field_of x)
 
-abbrev pub parent_of : FieldSelection → List ℕ
+abbrev pub parent_of : Member → List ℕ
 parent_of x = (field_of x).parent
 
 -- it has this name
@@ -51,11 +51,11 @@ pub record AreFiled {X : Type 0} (name : X → List ℕ) (list : List X) (groups
   pub only : (group : List X) → Contains groups group → (n : List ℕ) × (group ≡ filter (has name n) list)
 
 -- each is in a group that has all on its type and on abstract ones, and each group is of those on one type and on abstract ones
-abbrev pub IsOnOne : Judged → List ℕ → FieldSelection → Type 0
+abbrev pub IsOnOne : Judged → List ℕ → Member → Type 0
 IsOnOne s parent x = (parent_of x ≡ parent) ⊎ IsAbstract s (parent_of x)
 
-pub record AreParentGroups (s : Judged) (list : List FieldSelection) (groups : List (List FieldSelection)) : Type 0 where
-  pub has_all : (x : FieldSelection) → Contains list x
-      → (group : List FieldSelection) × (Contains groups group × ((y : FieldSelection) → Contains list y → IsOnOne s (parent_of x) y → Contains group y))
-  pub only : (group : List FieldSelection) → Contains groups group
-      → (parent : List ℕ) × ((y : FieldSelection) → Contains group y → Contains list y × IsOnOne s parent y)
+pub record AreParentGroups (s : Judged) (list : List Member) (groups : List (List Member)) : Type 0 where
+  pub has_all : (x : Member) → Contains list x
+      → (group : List Member) × (Contains groups group × ((y : Member) → Contains list y → IsOnOne s (parent_of x) y → Contains group y))
+  pub only : (group : List Member) → Contains groups group
+      → (parent : List ℕ) × ((y : Member) → Contains group y → Contains list y × IsOnOne s parent y)

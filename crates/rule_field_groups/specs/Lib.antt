@@ -1,17 +1,19 @@
+pub mod Members
 pub mod Kinds
 pub mod Shapes
 pub mod Grouped
 pub mod KeyGroups
 pub mod Passes
 pub mod Compared
-pub mod Walked
+pub mod Conflicts
 pub mod Below
 pub mod Under
-pub mod Own
-pub mod Laws
-pub mod Paired
-pub mod Conflicts
--- For the layer above.
-pub use Rattle.rule_document_ground.specs as in_ground
-pub use Rattle.rule_document_ground.specs.in_typing as in_typing
-pub use Rattle.rule_document_ground.specs.in_schema as in_schema
+pub mod NodeWalk
+pub mod Paid
+pub mod Remembered
+pub mod Pairs
+pub use Rattle.rule_field_sets.specs as in_sets
+pub use Rattle.rule_same_values.specs.in_document_definitions as in_document_definitions
+pub use Rattle.rule_same_values.specs.in_meaning as in_meaning
+pub use Rattle.rule_same_values.specs.in_definitions as in_definitions
+pub use Rattle.document_typed_selections.specs as in_typed_selections

@@ -6,12 +6,13 @@ use Rattle.graphql_names.specs.Placed.{Place}
 use Rattle.schema_coordinates.specs.Coordinate.{Coordinate, OfAttribute, OfArgument}
 use Rattle.fault_document_data.specs.DocumentBreaches.{ConflictingFieldName, ConflictingFieldArgument, ConflictingFieldType}
 use Rattle.fault_document_data.specs.declared.build_error.BuildError.{BuildError}
-use Rattle.rule_definitions.specs.Judged.{Judged}
-use Rattle.rule_document_definitions.specs.DocumentFaults.{Broken, broken}
-use Rattle.rule_document_definitions.specs.Selected.{StandingField, field_name, response_key}
-use Rattle.rule_document_definitions.specs.Groups.{AgreeWithHead}
-use Rattle.rule_document_definitions.specs.Merging.{SameKey, MayShare, SameShape, SameName, SameArgument, SameNameAndArguments, telling, telling_argument}
-use Rattle.rule_document_ground.specs.Broken.{brokens_of}
+use Rattle.rule_same_values.specs.in_definitions.Judged.{Judged}
+use Rattle.rule_same_values.specs.in_document_definitions.DocumentFaults.{Broken, broken}
+use Rattle.rule_same_values.specs.in_document_definitions.Selected.{StandingField, field_name, response_key}
+use Rattle.rule_same_values.specs.in_document_definitions.Groups.{AgreeWithHead}
+use Rattle.rule_same_values.specs.in_document_definitions.ReadFields.{ReadField, ReadSameKey, ReadMayShare, ReadSameShape, ReadSameNameAndArguments}
+use Rattle.rule_same_values.specs.in_document_definitions.Merging.{SameKey, MayShare, SameShape, SameName, SameArgument, SameNameAndArguments, telling, telling_argument}
+use Rattle.rule_field_sets.specs.in_ground.Broken.{brokens_of}
 use Rattle.rule_field_groups.specs.declared.pass.Pass.{Pass}
 use Rattle.rule_field_groups.specs.declared.pass.Pass.TheVariants.{Shapes, Selections}
 
@@ -60,6 +61,16 @@ module _ {P : Type 0} where
   abbrev pub Conflict : Pass → Judged → Broken P → StandingField P → StandingField P → Type 0
   Conflict Shapes s fault f g = TypesConflict s fault f g
   Conflict Selections s fault f g = SelectionsConflict fault f g
+
+-- ---- the passes, by what is read of fields
+
+abbrev pub ReadTogether : Pass → Judged → ReadField → ReadField → Type 0
+ReadTogether Shapes s = ReadSameKey
+ReadTogether Selections s = ReadMayShare s
+
+abbrev pub ReadAgree : Pass → Judged → ReadField → ReadField → Type 0
+ReadAgree Shapes s = ReadSameShape s
+ReadAgree Selections s = ReadSameNameAndArguments
 
 -- the breaches that were there, as they stood, and behind them what tells of a conflict, if there is one; else all is the same
 abbrev pub AddsUnless : Type 0 → (Broken Place → Type 0) → Vec (Place × BuildError) Global → Vec (Place × BuildError) Global → Type 0

@@ -1,62 +1,69 @@
 -- Private: leads to `FieldsMerge`. The lists of sets below the fields of one key.
-use Rattle.std.specs.Prelude.{◌≡◌, ◌⊎◌, ◌++◌, ◌∷◌, [], List, map, flat_map, Contains, Vec}
+use Rattle.std.specs.Prelude.{◌≡◌, ℕ, ◌⊎◌, ◌++◌, ◌∷◌, [], List, map, flat_map, Contains, Vec}
+use Rattle.std.specs.List.{AllZip}
 use Rattle.std.specs.declared.alloc.Global.{Global}
 use Rattle.graphql_names.specs.Placed.{Place}
-use Rattle.document_meaning.specs.MeantTree.{MeantSet}
-use Rattle.document_meaning.specs.Unplaced.{unplaced_set}
-use Rattle.rule_document_definitions.specs.Selected.{StandingField}
+use Rattle.rule_same_values.specs.in_meaning.MeantTree.{MeantSet}
+use Rattle.rule_same_values.specs.in_document_definitions.ReadFields.{list_read}
+use Rattle.rule_same_values.specs.in_document_definitions.Selected.{StandingField}
 use Rattle.rule_field_groups.specs.Grouped.{lists_of}
-use Rattle.rule_field_groups.specs.Below.{meant_sets, plain_sets, IsBare, AreSetsOf}
-use Rattle.rule_field_groups.specs.declared.below.SelectedSet.{SelectedSet}
+use Rattle.rule_field_sets.specs.Read.{set_content_at, node_read}
+use Rattle.rule_field_sets.specs.declared.member.Member.{Member}
+use Rattle.rule_field_groups.specs.Members.{meant_sets, read_sets, AreMembersOf}
+use Rattle.rule_field_groups.specs.KeyGroups.{lists_in_group}
+use Rattle.rule_field_groups.specs.declared.below.SetsBelow.{SetsBelow}
+use Rattle.rule_field_groups.specs.declared.groups.KeyGroup.{KeyGroup}
+use Rattle.rule_field_groups.specs.Below.{IsBare, AreSetsOf}
+use Rattle.rule_field_sets.specs.declared.field_sets.FieldSets.{FieldSets}
 
--- sets whose fields are examined together; such lists
+-- sets whose fields are examined together; such lists, as nodes
 abbrev pub Sets : Type 0
 Sets = List (MeantSet Place)
 
-abbrev pub all_sets : List (List SelectedSet) → List Sets
-all_sets lists = map meant_sets lists
+abbrev pub all_sets : FieldSets → List (List ℕ) → List Sets
+all_sets w lists = map (meant_sets w) lists
 
-abbrev pub sets_in : Vec (Vec SelectedSet Global) Global → List Sets
-sets_in lists = all_sets (lists_of lists)
+abbrev pub sets_in : FieldSets → Vec (Vec ℕ Global) Global → List Sets
+sets_in w lists = all_sets w (lists_of lists)
 
 -- behind the first ones those, if there are some, are one list more
 abbrev pub joined : {X : Type 0} → List X → List X → List (List X)
 joined first [] = []
 joined first (x ∷ xs) = (first ++ x ∷ xs) ∷ []
 
-abbrev pub JoinsSets : Sets → Sets → List Sets → List Sets → Type 0
+abbrev pub JoinsSets : {X : Type 0} → List X → List X → List (List X) → List (List X) → Type 0
 JoinsSets first then' old new = new ≡ old ++ joined first then'
 
 -- each of these sets with the last
-abbrev pub each_with : Sets → MeantSet Place → List Sets
+abbrev pub each_with : {X : Type 0} → List X → X → List (List X)
 each_with sets v = map (λ w. w ∷ v ∷ []) sets
 
 -- each of the first ones with each of those
-abbrev pub twos_of : Sets → Sets → List Sets
+abbrev pub twos_of : {X : Type 0} → List X → List X → List (List X)
 twos_of first then' = flat_map (each_with first) then'
 
 -- those are a list, if there are some, and each of the first ones with each of them
-abbrev pub JoinsTwos : Sets → Sets → List Sets → List Sets → Type 0
+abbrev pub JoinsTwos : {X : Type 0} → List X → List X → List (List X) → List (List X) → Type 0
 JoinsTwos first then' old new = new ≡ (old ++ joined [] then') ++ twos_of first then'
 
 -- one of these lists has any two sets, if the second is one of those
-abbrev pub HaveAnyTwo : Sets → Sets → List Sets → Type 0
-HaveAnyTwo first then' lists = (v w : MeantSet Place) → Contains (first ++ then') v → Contains then' w → (sets : Sets) × (Contains lists sets × (Contains sets v × Contains sets w))
+abbrev pub HaveAnyTwo : {X : Type 0} → List X → List X → List (List X) → Type 0
+HaveAnyTwo {X} first then' lists = (v w : X) → Contains (first ++ then') v → Contains then' w → (sets : List X) × (Contains lists sets × (Contains sets v × Contains sets w))
 
--- such lists of no other sets come last
-pub record PutsTogether (first then' : Sets) (old new : List Sets) : Type 0 where
-  pub added : List Sets
+-- such lists of nothing else come last
+pub record PutsTogether {X : Type 0} (first then' : List X) (old new : List (List X)) : Type 0 where
+  pub added : List (List X)
   pub is : new ≡ old ++ added
-  pub within : (sets : Sets) → Contains added sets → (v : MeantSet Place) → Contains sets v → Contains (first ++ then') v
+  pub within : (sets : List X) → Contains added sets → (v : X) → Contains sets v → Contains (first ++ then') v
   pub both : HaveAnyTwo first then' added
 
 -- each of the sets is that of a field of the group
 abbrev pub AreOf : List (StandingField Place) → Sets → Type 0
 AreOf group sets = (v : MeantSet Place) → Contains sets v → (f : StandingField Place) × (Contains group f × (f.set ≡ v))
 
--- the set says the same as one of these
+-- the set is read as one of these
 abbrev pub IsAmong : Sets → MeantSet Place → Type 0
-IsAmong sets v = Contains (plain_sets sets) (unplaced_set v)
+IsAmong sets v = Contains (read_sets sets) (list_read v)
 
 -- each is that of one of the fields, and the set of each that has selections is among these or the others
 pub record AreFurther (fields : List (StandingField Place)) (others sets : Sets) : Type 0 where
@@ -85,3 +92,17 @@ JoinsEach first owns old new = (shared : List (StandingField Place)) → AreSets
 pub record AreListsBelow (groups : List (List (StandingField Place))) (lists : List Sets) : Type 0 where
   pub under : (sets : Sets) → Contains lists sets → (group : List (StandingField Place)) × (Contains groups group × AreOf group sets)
   pub below : (group : List (StandingField Place)) → Contains groups group → (f g : StandingField Place) → Contains group f → Contains group g → HaveBoth lists f g
+
+-- the set of each node is read as the number that stands beside it
+abbrev pub AreNumbered : FieldSets → SetsBelow → Type 0
+AreNumbered w found = AllZip (λ n i. set_content_at w n ≡ node_read w i) found.numbers.keys found.nodes.items
+
+-- the node is put last with its number, unless that is there
+abbrev pub AddsNode : ℕ → ℕ → SetsBelow → SetsBelow → Type 0
+AddsNode number node old new =
+    (Contains old.numbers.keys number × ((new.numbers.keys ≡ old.numbers.keys) × (new.nodes.items ≡ old.nodes.items)))
+    ⊎ ((Contains old.numbers.keys number → ⊥) × ((new.numbers.keys ≡ old.numbers.keys ++ number ∷ []) × (new.nodes.items ≡ old.nodes.items ++ node ∷ [])))
+
+-- all fields of the group are members of nodes
+abbrev pub IsGroupOf : FieldSets → KeyGroup → Type 0
+IsGroupOf w group = (list : List Member) → Contains (lists_in_group group) list → AreMembersOf w list

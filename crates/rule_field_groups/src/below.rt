@@ -1,141 +1,139 @@
-//! What selection sets select, and the sets of a group.
-ghost use Rattle.std.specs.Prelude.{◌≡◌, ◌++◌, ◌∷◌, [], map, IfOk, OnOk};
-ghost use Rattle.rule_document_ground.specs.Fields.{field_of, fields_of, meant_fragments};
-ghost use Rattle.rule_field_groups.specs.Below.{meant_at, meant_sets, AreSelected, IsDistinctOf, IsMerged, AreSetsOf, NotesSet};
-ghost use Rattle.rule_field_groups.specs.Under.{sets_in, each_with, AreFurther, AddsFurther, JoinsSets, JoinsTwos, PutsTogether, JoinsEach, AreListsBelow};
+//! The sets below a group of fields.
+ghost use Rattle.std.specs.Prelude.{◌≡◌, ◌++◌, ◌∷◌, [], map, Contains, IfOk, OnOk};
+ghost use Rattle.rule_field_sets.specs.Nodes.{AreSets, HasMember};
+ghost use Rattle.rule_field_groups.specs.Members.{field_of, fields_of, meant_sets, AreMembersOf};
+ghost use Rattle.rule_field_groups.specs.Below.{AreSetsOf, NotesSet};
+ghost use Rattle.rule_field_groups.specs.Grouped.{lists_of};
+ghost use Rattle.rule_field_groups.specs.Under.{sets_in, each_with, AreFurther, AddsFurther, JoinsSets, JoinsTwos, PutsTogether, JoinsEach, AreListsBelow, AreNumbered, AddsNode, IsGroupOf};
 ghost use Rattle.rule_field_groups.specs.KeyGroups.{parts_of};
 
 use crate::groups::{KeyGroup, OwnFields};
-use crate::set_walk::SetWalk;
-use document_typed_operations::FragmentMap;
-use document_typed_selections::SelectionSet;
+use crate::nodes::number_of;
 use indexmap::IndexSet;
-use rule_document_ground::FieldSelection;
+use rule_field_sets::{FieldSets, Member};
 use std::alloc::{AllocError, Global};
 
 /// Lists of shared sets and others are made whole if they are for so few types, or at most so many times as long as the others: so
 /// the lists below a group are in all not much longer than the group is.
 const FEW: usize = 4;
 
-/// A selection set, for the fields that it selects. Equality and hash are those of what it says, ignoring places.
-#[derive(Clone, Copy, PartialEq, Eq, Hash)]
-pub struct SelectedSet<'doc> {
-    pub set: &'doc SelectionSet,
+/// Sets of fields, each number once, by their nodes.
+#[derive(Drop)]
+pub(crate) struct SetsBelow {
+    numbers: IndexSet<usize>,
+    nodes: Vec<usize>,
 }
 
-/// What these sets select, through fragments, all of it: set by set, but no fragment twice.
-fn all_selected<'doc>(
-    alloc: Global,
-    fragments: &'doc FragmentMap,
-    sets: &[SelectedSet<'doc>],
-) -> Result<Vec<FieldSelection<'doc>>, AllocError>
-    ensures { IfOk result (λ found. AreSelected (meant_fragments fragments.now) (meant_sets sets.now) (fields_of found.items)) }
-{
-    let mut walk = SetWalk {
-        fields: Vec::new(alloc),
-        spread: IndexSet::new(alloc),
-        left: Vec::new(alloc),
-    };
-    for set in sets {
-        walk.walk(set.set, fragments)?;
+impl SetsBelow {
+    /// None.
+    fn new(alloc: Global) -> SetsBelow
+        ensures numbers { result.numbers.keys ≡ [] }
+        ensures nodes { result.nodes.items ≡ [] }
+    {
+        SetsBelow {
+            numbers: IndexSet::new(alloc),
+            nodes: Vec::new(alloc),
+        }
     }
-    Ok(walk.fields)
-}
 
-/// The list without those of which an earlier one says the same.
-fn distinct<'doc>(
-    alloc: Global,
-    list: &[FieldSelection<'doc>],
-) -> Result<Vec<FieldSelection<'doc>>, AllocError>
-    ensures { IfOk result (λ kept. IsDistinctOf list.now kept.items) }
-{
-    let mut distinct = IndexSet::new(alloc);
-    for field in list {
-        distinct.insert(*field)?;
+    /// Adds the set of a node, unless its number is there.
+    fn add(&mut self, number: usize, node: usize) -> Result<(), AllocError>
+        ensures { OnOk result (AddsNode number node self.old self.new) }
+    {
+        if !self.numbers.insert(number)? {
+            return Ok(());
+        }
+        self.nodes.push(node)?;
+        Ok(())
     }
-    Vec::from_slice(alloc, distinct.as_slice())
-}
-
-/// The merged list of these sets: what they select, through fragments, each content once ("mergedSet").
-pub fn merged_list<'doc>(
-    alloc: Global,
-    fragments: &'doc FragmentMap,
-    sets: &[SelectedSet<'doc>],
-) -> Result<Vec<FieldSelection<'doc>>, AllocError>
-    ensures { IfOk result (λ list. IsMerged (meant_fragments fragments.now) (meant_sets sets.now) list.items) }
-{
-    let found = all_selected(alloc, fragments, sets)?;
-    distinct(alloc, &found)
 }
 
 /// Adds the set of a field, unless it has no selections, or one with the same contents is there.
-fn note_set<'doc>(
-    field: FieldSelection<'doc>,
-    sets: &mut IndexSet<SelectedSet<'doc>>,
+fn note_set(
+    sets: &FieldSets<'_>,
+    field: Member<'_>,
+    found: &mut SetsBelow,
 ) -> Result<(), AllocError>
-    ensures { OnOk result (NotesSet (field_of field.entry) (meant_sets sets.old.keys) (meant_sets sets.new.keys)) }
+    requires sets { AreSets sets.now }
+    requires member { HasMember sets.now field }
+    requires numbered { AreNumbered sets.now found.old }
+    ensures notes { OnOk result (NotesSet (field_of field.entry) (meant_sets sets.now found.old.nodes.items) (meant_sets sets.now found.new.nodes.items)) }
+    ensures numbered { OnOk result (AreNumbered sets.now found.new) }
 {
-    let set = &field.field.content().selection_set;
-    if set.is_empty() {
-        return Ok(());
+    match field.below {
+        None => Ok(()),
+        Some(node) => found.add(number_of(sets, node)?, node),
     }
-    sets.insert(SelectedSet { set })?;
-    Ok(())
 }
 
 /// The sets of these fields, each content once. A set without selections is left out.
-fn sets_of<'doc>(
+fn sets_of(
     alloc: Global,
-    fields: &[FieldSelection<'doc>],
-) -> Result<IndexSet<SelectedSet<'doc>>, AllocError>
-    ensures { IfOk result (λ sets. AreSetsOf (fields_of fields.now) (meant_sets sets.keys)) }
+    sets: &FieldSets<'_>,
+    fields: &[Member<'_>],
+) -> Result<SetsBelow, AllocError>
+    requires sets { AreSets sets.now }
+    requires members { AreMembersOf sets.now fields.now }
+    ensures sets { IfOk result (λ found. AreSetsOf (fields_of fields.now) (meant_sets sets.now found.nodes.items)) }
+    ensures numbered { IfOk result (λ found. AreNumbered sets.now found) }
 {
-    let mut sets = IndexSet::new(alloc);
+    let mut found = SetsBelow::new(alloc);
     for field in fields {
-        note_set(*field, &mut sets)?;
+        note_set(sets, *field, &mut found)?;
     }
-    Ok(sets)
+    Ok(found)
 }
 
 /// Adds the set of a field, unless it has no selections, or one with the same contents is there or among the others.
-fn note_further<'doc>(
-    field: FieldSelection<'doc>,
-    others: &IndexSet<SelectedSet<'doc>>,
-    sets: &mut IndexSet<SelectedSet<'doc>>,
+fn note_further(
+    sets: &FieldSets<'_>,
+    field: Member<'_>,
+    others: &SetsBelow,
+    found: &mut SetsBelow,
 ) -> Result<(), AllocError>
-    ensures { OnOk result (AddsFurther (field_of field.entry) (meant_sets others.now.keys) (meant_sets sets.old.keys) (meant_sets sets.new.keys)) }
+    requires sets { AreSets sets.now }
+    requires member { HasMember sets.now field }
+    requires others { AreNumbered sets.now others.now }
+    requires numbered { AreNumbered sets.now found.old }
+    ensures notes { OnOk result (AddsFurther (field_of field.entry) (meant_sets sets.now others.now.nodes.items) (meant_sets sets.now found.old.nodes.items) (meant_sets sets.now found.new.nodes.items)) }
+    ensures numbered { OnOk result (AreNumbered sets.now found.new) }
 {
-    let set = SelectedSet {
-        set: &field.field.content().selection_set,
+    let Some(node) = field.below else {
+        return Ok(());
     };
-    if others.contains(&set) {
+    let number = number_of(sets, node)?;
+    if others.numbers.contains(&number) {
         return Ok(());
     }
-    note_set(field, sets)
+    found.add(number, node)
 }
 
-/// The sets of these fields that the others do not have, each content once.
-fn further_sets<'doc>(
+/// The nodes of the sets of these fields that the others do not have, each content once.
+fn further_sets(
     alloc: Global,
-    fields: &[FieldSelection<'doc>],
-    others: &IndexSet<SelectedSet<'doc>>,
-) -> Result<IndexSet<SelectedSet<'doc>>, AllocError>
-    ensures { IfOk result (λ sets. AreFurther (fields_of fields.now) (meant_sets others.now.keys) (meant_sets sets.keys)) }
+    sets: &FieldSets<'_>,
+    fields: &[Member<'_>],
+    others: &SetsBelow,
+) -> Result<Vec<usize>, AllocError>
+    requires sets { AreSets sets.now }
+    requires members { AreMembersOf sets.now fields.now }
+    requires others { AreNumbered sets.now others.now }
+    ensures { IfOk result (λ nodes. AreFurther (fields_of fields.now) (meant_sets sets.now others.now.nodes.items) (meant_sets sets.now nodes.items)) }
 {
-    let mut sets = IndexSet::new(alloc);
+    let mut found = SetsBelow::new(alloc);
     for field in fields {
-        note_further(*field, others, &mut sets)?;
+        note_further(sets, *field, others, &mut found)?;
     }
-    Ok(sets)
+    Ok(found.nodes)
 }
 
-/// Adds a list of the first sets and then the further ones, unless there are no further ones.
-fn push_joined<'doc>(
-    first: &[SelectedSet<'doc>],
-    further: &[SelectedSet<'doc>],
-    lists: &mut Vec<Vec<SelectedSet<'doc>>>,
+/// Adds a list of the first nodes and then the further ones, unless there are no further ones.
+fn push_joined(
+    first: &[usize],
+    further: &[usize],
+    lists: &mut Vec<Vec<usize>>,
 ) -> Result<(), AllocError>
-    ensures { OnOk result (JoinsSets (meant_sets first.now) (meant_sets further.now) (sets_in lists.old) (sets_in lists.new)) }
+    ensures { OnOk result (JoinsSets first.now further.now (lists_of lists.old) (lists_of lists.new)) }
 {
     if further.is_empty() {
         return Ok(());
@@ -146,44 +144,40 @@ fn push_joined<'doc>(
     Ok(())
 }
 
-/// Adds a list of two sets.
-fn push_two<'doc>(
-    one: SelectedSet<'doc>,
-    other: SelectedSet<'doc>,
-    lists: &mut Vec<Vec<SelectedSet<'doc>>>,
-) -> Result<(), AllocError>
-    ensures { OnOk result (sets_in lists.new ≡ sets_in lists.old ++ (meant_at one.entry ∷ meant_at other.entry ∷ []) ∷ []) }
+/// Adds a list of two nodes.
+fn push_two(one: usize, other: usize, lists: &mut Vec<Vec<usize>>) -> Result<(), AllocError>
+    ensures { OnOk result (lists_of lists.new ≡ lists_of lists.old ++ (one ∷ other ∷ []) ∷ []) }
 {
     let two = Vec::from_slice(*lists.allocator(), &[one, other])?;
     lists.push(two)?;
     Ok(())
 }
 
-/// Adds a list of two for each of the sets: it and the last.
-fn push_each_with<'doc>(
-    sets: &[SelectedSet<'doc>],
-    last: SelectedSet<'doc>,
-    lists: &mut Vec<Vec<SelectedSet<'doc>>>,
+/// Adds a list of two for each of the nodes: it and the last.
+fn push_each_with(
+    nodes: &[usize],
+    last: usize,
+    lists: &mut Vec<Vec<usize>>,
 ) -> Result<(), AllocError>
-    ensures { OnOk result (sets_in lists.new ≡ sets_in lists.old ++ each_with (meant_sets sets.now) (meant_at last.entry)) }
+    ensures { OnOk result (lists_of lists.new ≡ lists_of lists.old ++ each_with nodes.now last) }
 {
-    for set in sets {
-        push_two(*set, last, lists)?;
+    for node in nodes {
+        push_two(*node, last, lists)?;
     }
     Ok(())
 }
 
-/// Adds a list of the further sets, unless there are none, and lists of two: each of the first sets with each of these.
-fn push_apart<'doc>(
-    first: &[SelectedSet<'doc>],
-    further: &[SelectedSet<'doc>],
-    lists: &mut Vec<Vec<SelectedSet<'doc>>>,
+/// Adds a list of the further nodes, unless there are none, and lists of two: each of the first nodes with each of these.
+fn push_apart(
+    first: &[usize],
+    further: &[usize],
+    lists: &mut Vec<Vec<usize>>,
 ) -> Result<(), AllocError>
-    ensures { OnOk result (JoinsTwos (meant_sets first.now) (meant_sets further.now) (sets_in lists.old) (sets_in lists.new)) }
+    ensures { OnOk result (JoinsTwos first.now further.now (lists_of lists.old) (lists_of lists.new)) }
 {
     push_joined(&[], further, lists)?;
-    for set in further {
-        push_each_with(first, *set, lists)?;
+    for node in further {
+        push_each_with(first, *node, lists)?;
     }
     Ok(())
 }
@@ -193,15 +187,15 @@ fn is_short(types: usize, first: usize, further: usize) -> bool {
     types <= FEW || first / FEW <= further
 }
 
-/// Adds lists of the first sets and the further ones, for one of so many types: one of them has any two sets, if one of these is a
-/// further one.
-fn push_together<'doc>(
+/// Adds lists of the first nodes and the further ones, for one of so many types: one of them has any two, if one of these is a further
+/// one.
+fn push_together(
     types: usize,
-    first: &[SelectedSet<'doc>],
-    further: &[SelectedSet<'doc>],
-    lists: &mut Vec<Vec<SelectedSet<'doc>>>,
+    first: &[usize],
+    further: &[usize],
+    lists: &mut Vec<Vec<usize>>,
 ) -> Result<(), AllocError>
-    ensures { OnOk result (PutsTogether (meant_sets first.now) (meant_sets further.now) (sets_in lists.old) (sets_in lists.new)) }
+    ensures { OnOk result (PutsTogether first.now further.now (lists_of lists.old) (lists_of lists.new)) }
 {
     if is_short(types, first.len(), further.len()) {
         return push_joined(first, further, lists);
@@ -210,32 +204,39 @@ fn push_together<'doc>(
 }
 
 /// Adds lists for each object type, of the shared sets and the further ones of its fields. A type without further ones has none.
-fn push_own_lists<'doc>(
-    owns: &[OwnFields<'doc>],
-    shared: &IndexSet<SelectedSet<'doc>>,
-    lists: &mut Vec<Vec<SelectedSet<'doc>>>,
+fn push_own_lists(
+    sets: &FieldSets<'_>,
+    owns: &[OwnFields<'_>],
+    shared: &SetsBelow,
+    lists: &mut Vec<Vec<usize>>,
 ) -> Result<(), AllocError>
-    ensures { OnOk result (JoinsEach (meant_sets shared.now.keys) (map (λ o. fields_of o.fields.items) owns.now) (sets_in lists.old) (sets_in lists.new)) }
+    requires sets { AreSets sets.now }
+    requires members { (own : _) → Contains (map (λ o. o.fields.items) owns.now) own → AreMembersOf sets.now own }
+    requires shared { AreNumbered sets.now shared.now }
+    ensures { OnOk result (JoinsEach (meant_sets sets.now shared.now.nodes.items) (map (λ o. fields_of o.fields.items) owns.now) (sets_in sets.now lists.old) (sets_in sets.now lists.new)) }
 {
     let alloc = *lists.allocator();
     for own in owns {
-        let sets = further_sets(alloc, &own.fields, shared)?;
-        push_together(owns.len(), shared.as_slice(), sets.as_slice(), lists)?;
+        let nodes = further_sets(alloc, sets, &own.fields, shared)?;
+        push_together(owns.len(), &shared.nodes, &nodes, lists)?;
     }
     Ok(())
 }
 
-/// The lists of sets below the fields of one key: the shared sets, and for each object type these and its own, in one list or in
-/// lists of two. For any two fields that go together, one of the lists has the sets of both.
-pub fn lists_below<'doc>(
+/// The lists of nodes below the fields of one key: those of the shared sets, and for each object type these and its own, in one list or
+/// in lists of two. For any two fields that go together, one of the lists has the sets of both.
+pub fn lists_below(
     alloc: Global,
-    group: &KeyGroup<'doc>,
-) -> Result<Vec<Vec<SelectedSet<'doc>>>, AllocError>
-    ensures { IfOk result (λ lists. AreListsBelow (map fields_of (parts_of group.now)) (sets_in lists)) }
+    sets: &FieldSets<'_>,
+    group: &KeyGroup<'_>,
+) -> Result<Vec<Vec<usize>>, AllocError>
+    requires sets { AreSets sets.now }
+    requires members { IsGroupOf sets.now group.now }
+    ensures { IfOk result (λ lists. AreListsBelow (map fields_of (parts_of group.now)) (sets_in sets.now lists)) }
 {
-    let shared = sets_of(alloc, &group.shared)?;
+    let shared = sets_of(alloc, sets, &group.shared)?;
     let mut lists = Vec::new(alloc);
-    push_joined(&[], shared.as_slice(), &mut lists)?;
-    push_own_lists(&group.own, &shared, &mut lists)?;
+    push_joined(&[], &shared.nodes, &mut lists)?;
+    push_own_lists(sets, &group.own, &shared, &mut lists)?;
     Ok(lists)
 }

@@ -2,12 +2,12 @@
 ghost use Rattle.std.specs.Prelude.{◌≡◌, ◌↔◌, ◌≤◌, ◌+◌, ◌++◌, ◌∷◌, min, map, take, drop, IfOk, IsTrue, OnOk};
 ghost use Rattle.schema_coordinates.specs.CoordinateView.{attribute_coordinate, argument_coordinate};
 ghost use Rattle.fault_document_data.specs.DocumentBreachView.{value_in_conflict};
-ghost use Rattle.rule_document_ground.specs.in_schema.SchemaOf.{schema_tree};
-ghost use Rattle.rule_definitions.specs.Judged.{judged};
-ghost use Rattle.rule_document_definitions.specs.Merging.{SameName};
-ghost use Rattle.rule_document_definitions.specs.SameValues.{plain_given};
-ghost use Rattle.rule_document_ground.specs.Broken.{broken_of};
-ghost use Rattle.rule_document_ground.specs.Fields.{field_of, fields_of};
+ghost use Rattle.rule_field_sets.specs.in_ground.in_schema.SchemaOf.{schema_tree};
+ghost use Rattle.rule_same_values.specs.in_definitions.Judged.{judged};
+ghost use Rattle.rule_same_values.specs.in_document_definitions.Merging.{SameName};
+ghost use Rattle.rule_same_values.specs.in_document_definitions.SameValues.{plain_given};
+ghost use Rattle.rule_field_sets.specs.in_ground.Broken.{broken_of};
+ghost use Rattle.rule_field_groups.specs.Members.{field_of, fields_of};
 ghost use Rattle.rule_field_groups.specs.Passes.{AddsTwo, AddsGroup, AddsEach, coordinate_of, coordinate_of_argument, type_conflict, name_conflict, argument_conflict};
 ghost use Rattle.rule_field_groups.specs.Compared.{compared, compared_once, greatest_count, CountsUp};
 ghost use Rattle.rule_field_groups.specs.KeyGroups.{parts_of, compared_in};
@@ -20,7 +20,7 @@ use fault_document_data::{
     BuildError, ConflictingFieldArgument, ConflictingFieldName, ConflictingFieldType,
 };
 use graphql_names::{Name, SourceSpan};
-use rule_document_ground::{FieldSelection, Schema, tell_breach};
+use rule_field_sets::{Member, Schema, tell_breach};
 use rule_same_values::differing_argument;
 use schema_coordinates::{FieldArgumentCoordinate, TypeAttributeCoordinate};
 use std::alloc::{AllocError, Global};
@@ -39,49 +39,45 @@ fn count_one(count: &mut u128)
 
 /// The coordinates of two fields.
 fn coordinates(
-    first: FieldSelection<'_>,
-    other: FieldSelection<'_>,
+    first: Member<'_>,
+    other: Member<'_>,
 ) -> Result<(TypeAttributeCoordinate, TypeAttributeCoordinate), AllocError>
     ensures first { IfOk result (λ c. attribute_coordinate c.0 ≡ coordinate_of (field_of first.entry)) }
     ensures other { IfOk result (λ c. attribute_coordinate c.1 ≡ coordinate_of (field_of other.entry)) }
 {
-    let coordinate = first.coordinate()?;
-    Ok((coordinate, other.coordinate()?))
+    let coordinate = first.selection.coordinate()?;
+    Ok((coordinate, other.selection.coordinate()?))
 }
 
 /// What is told of fields whose types have different shapes.
-fn told_types(
-    alloc: Global,
-    first: FieldSelection<'_>,
-    other: FieldSelection<'_>,
-) -> Result<Breach, AllocError>
+fn told_types(alloc: Global, first: Member<'_>, other: Member<'_>) -> Result<Breach, AllocError>
     ensures { IfOk result (λ b. broken_of b ≡ type_conflict (field_of first.entry) (field_of other.entry)) }
 {
     let (alias, original_type, conflicting_type) = copies_of_three(
-        other.response_key(),
-        first.field.content().ty(),
-        other.field.content().ty(),
+        other.selection.response_key(),
+        first.selection.field.content().ty(),
+        other.selection.field.content().ty(),
     )?;
     let (original_coordinate, conflicting_coordinate) = coordinates(first, other)?;
     let conflict = ConflictingFieldType {
         alias,
-        original_location: first.field.location(),
+        original_location: first.selection.field.location(),
         original_coordinate,
         original_type,
-        conflicting_location: other.field.location(),
+        conflicting_location: other.selection.field.location(),
         conflicting_coordinate,
         conflicting_type,
     };
     let conflict = BuildError::ConflictingFieldType(Box::new(alloc, conflict)?);
-    Ok((other.field.location(), conflict))
+    Ok((other.selection.field.location(), conflict))
 }
 
 /// ConflictingFieldType: a selection set is valid only if fields of one response key have one shape (section 5.3.2). This
 /// is SameResponseShape of the specification. Each comparison is counted.
 fn conflicting_field_type(
     schema: &Schema,
-    first: FieldSelection<'_>,
-    other: FieldSelection<'_>,
+    first: Member<'_>,
+    other: Member<'_>,
     breaches: &mut Vec<Breach>,
     comparisons: &mut u128,
 ) -> Result<(), AllocError>
@@ -91,8 +87,8 @@ fn conflicting_field_type(
     count_one(comparisons);
     if same_type(
         schema,
-        first.field.content().ty(),
-        other.field.content().ty(),
+        first.selection.field.content().ty(),
+        other.selection.field.content().ty(),
     ) {
         return Ok(());
     }
@@ -101,38 +97,34 @@ fn conflicting_field_type(
 }
 
 /// Whether two fields have one name.
-fn have_one_name(first: FieldSelection<'_>, other: FieldSelection<'_>) -> bool
+fn have_one_name(first: Member<'_>, other: Member<'_>) -> bool
     ensures { IsTrue result ↔ SameName (field_of first.entry) (field_of other.entry) }
 {
-    first.field.content().name.as_str() == other.field.content().name.as_str()
+    first.selection.field.content().name.as_str() == other.selection.field.content().name.as_str()
 }
 
 /// What is told of fields of different names.
-fn told_names(
-    alloc: Global,
-    first: FieldSelection<'_>,
-    other: FieldSelection<'_>,
-) -> Result<Breach, AllocError>
+fn told_names(alloc: Global, first: Member<'_>, other: Member<'_>) -> Result<Breach, AllocError>
     ensures { IfOk result (λ b. broken_of b ≡ name_conflict (field_of first.entry) (field_of other.entry)) }
 {
-    let alias = other.response_key().clone()?;
+    let alias = other.selection.response_key().clone()?;
     let (original_selection, conflicting_selection) = coordinates(first, other)?;
     let conflict = ConflictingFieldName {
         alias,
-        original_location: first.field.location(),
+        original_location: first.selection.field.location(),
         original_selection,
-        conflicting_location: other.field.location(),
+        conflicting_location: other.selection.field.location(),
         conflicting_selection,
     };
     let conflict = BuildError::ConflictingFieldName(Box::new(alloc, conflict)?);
-    Ok((other.field.location(), conflict))
+    Ok((other.selection.field.location(), conflict))
 }
 
 /// ConflictingFieldName: a selection set is valid only if fields that one object may have under one response key have one
 /// name (section 5.3.2). The specification says "must have identical field names".
 fn conflicting_field_name(
-    first: FieldSelection<'_>,
-    other: FieldSelection<'_>,
+    first: Member<'_>,
+    other: Member<'_>,
     breaches: &mut Vec<Breach>,
 ) -> Result<(), AllocError>
     ensures { OnOk result (AddsNames (field_of first.entry) (field_of other.entry) breaches.old breaches.new) }
@@ -146,19 +138,19 @@ fn conflicting_field_name(
 
 /// The coordinate of the field's argument of that name.
 fn coordinate_of_argument(
-    field: FieldSelection<'_>,
+    field: Member<'_>,
     name: &Name,
 ) -> Result<FieldArgumentCoordinate, AllocError>
     ensures { IfOk result (λ c. argument_coordinate c ≡ coordinate_of_argument name.now.text (field_of field.entry)) }
 {
-    let coordinate = field.coordinate()?;
+    let coordinate = field.selection.coordinate()?;
     Ok(coordinate.with_argument(name.clone()?))
 }
 
 /// The coordinates of the arguments of that name of two fields.
 fn argument_coordinates(
-    first: FieldSelection<'_>,
-    other: FieldSelection<'_>,
+    first: Member<'_>,
+    other: Member<'_>,
     name: &Name,
 ) -> Result<(FieldArgumentCoordinate, FieldArgumentCoordinate), AllocError>
     ensures first { IfOk result (λ c. argument_coordinate c.0 ≡ coordinate_of_argument name.now.text (field_of first.entry)) }
@@ -169,10 +161,11 @@ fn argument_coordinates(
 }
 
 /// What the field gives for the argument of that name, if anything.
-fn value_given(field: FieldSelection<'_>, name: &Name) -> Result<Option<Value>, AllocError>
+fn value_given(field: Member<'_>, name: &Name) -> Result<Option<Value>, AllocError>
     ensures { IfOk result (λ v. value_in_conflict v ≡ plain_given name.now.text (field_of field.entry).head.arguments) }
 {
     match field
+        .selection
         .field
         .content()
         .specified_argument_by_name(name.as_str())
@@ -184,8 +177,8 @@ fn value_given(field: FieldSelection<'_>, name: &Name) -> Result<Option<Value>, 
 
 /// What two fields give for the argument of that name.
 fn values_given(
-    first: FieldSelection<'_>,
-    other: FieldSelection<'_>,
+    first: Member<'_>,
+    other: Member<'_>,
     name: &Name,
 ) -> Result<(Option<Value>, Option<Value>), AllocError>
     ensures first { IfOk result (λ v. value_in_conflict v.0 ≡ plain_given name.now.text (field_of first.entry).head.arguments) }
@@ -198,41 +191,45 @@ fn values_given(
 /// What is told of fields that give the argument of that name different values.
 fn told_arguments(
     alloc: Global,
-    first: FieldSelection<'_>,
-    other: FieldSelection<'_>,
+    first: Member<'_>,
+    other: Member<'_>,
     name: &Name,
 ) -> Result<Breach, AllocError>
     ensures { IfOk result (λ b. broken_of b ≡ argument_conflict name.now.text (field_of first.entry) (field_of other.entry)) }
 {
-    let alias = other.response_key().clone()?;
+    let alias = other.selection.response_key().clone()?;
     let (original_coordinate, conflicting_coordinate) = argument_coordinates(first, other, name)?;
     let (original_value, conflicting_value) = values_given(first, other, name)?;
     let conflict = ConflictingFieldArgument {
         alias,
-        original_location: first.field.location(),
+        original_location: first.selection.field.location(),
         original_coordinate,
         original_value,
-        conflicting_location: other.field.location(),
+        conflicting_location: other.selection.field.location(),
         conflicting_coordinate,
         conflicting_value,
     };
     let conflict = BuildError::ConflictingFieldArgument(Box::new(alloc, conflict)?);
-    Ok((other.field.location(), conflict))
+    Ok((other.selection.field.location(), conflict))
 }
 
 /// ConflictingFieldArgument: a selection set is valid only if fields that one object may have under one response key have
 /// the same arguments (section 5.3.2). The specification says "must have identical sets of arguments". The first argument
 /// that differs is told.
 fn conflicting_field_argument(
-    first: FieldSelection<'_>,
-    other: FieldSelection<'_>,
+    first: Member<'_>,
+    other: Member<'_>,
     breaches: &mut Vec<Breach>,
 ) -> Result<(), AllocError>
     ensures { OnOk result (AddsArguments (field_of first.entry) (field_of other.entry) breaches.old breaches.new) }
 {
     let alloc = *breaches.allocator();
-    let given = first.field.content().arguments.as_slice();
-    let differing = differing_argument(alloc, given, other.field.content().arguments.as_slice())?;
+    let given = first.selection.field.content().arguments.as_slice();
+    let differing = differing_argument(
+        alloc,
+        given,
+        other.selection.field.content().arguments.as_slice(),
+    )?;
     match differing {
         None => Ok(()),
         Some(name) => {
@@ -245,8 +242,8 @@ fn conflicting_field_argument(
 /// Tells of two fields of a group, if they do not agree: of their shapes, or of their names or else of their arguments.
 fn check_two(
     comparing: &Comparing<'_>,
-    first: FieldSelection<'_>,
-    other: FieldSelection<'_>,
+    first: Member<'_>,
+    other: Member<'_>,
     breaches: &mut Vec<Breach>,
     comparisons: &mut u128,
 ) -> Result<(), AllocError>
@@ -269,8 +266,8 @@ fn check_two(
 /// Tells each of the other fields that does not agree with the first.
 fn check_others(
     comparing: &Comparing<'_>,
-    first: FieldSelection<'_>,
-    others: &[FieldSelection<'_>],
+    first: Member<'_>,
+    others: &[Member<'_>],
     breaches: &mut Vec<Breach>,
     comparisons: &mut u128,
 ) -> Result<(), AllocError>
@@ -286,10 +283,10 @@ fn check_others(
 }
 
 /// Tells each further field of a list that does not agree with the first one.
-pub fn check_group(
+fn check_group(
     pass: Pass,
     schema: &Schema,
-    group: &[FieldSelection<'_>],
+    group: &[Member<'_>],
     breaches: &mut Vec<Breach>,
     comparisons: &mut u128,
 ) -> Result<(), AllocError>
@@ -308,8 +305,8 @@ pub fn check_group(
 /// Tells each of the fields before another one that does not agree with the first of them; and the other, if it does not.
 fn check_before(
     comparing: &Comparing<'_>,
-    before: &[FieldSelection<'_>],
-    other: FieldSelection<'_>,
+    before: &[Member<'_>],
+    other: Member<'_>,
     breaches: &mut Vec<Breach>,
     comparisons: &mut u128,
 ) -> Result<(), AllocError>
@@ -330,7 +327,7 @@ fn check_before(
 /// shared. The later of two is told: the early fields are before the first shared one.
 fn check_own(
     comparing: &Comparing<'_>,
-    shared: &[FieldSelection<'_>],
+    shared: &[Member<'_>],
     own: &OwnFields<'_>,
     breaches: &mut Vec<Breach>,
     comparisons: &mut u128,

@@ -3,12 +3,12 @@ ghost use Rattle.std.specs.Prelude.{◌≡◌, ◌≤◌, ◌+◌, ℕ, ◌++◌
 ghost use Rattle.std.specs.List.{sum};
 ghost use Rattle.std.specs.Str.{bytes_eq};
 ghost use Rattle.indexmap.specs.IndexMap.{get, IsUnique};
-ghost use Rattle.schema_components.specs.Names.{same_text};
+ghost use Rattle.rule_same_values.specs.in_definitions.in_components.Names.{same_text};
 ghost use Rattle.schema_types.specs.TypeView.{name_text};
-ghost use Rattle.rule_document_ground.specs.in_schema.SchemaOf.{schema_tree};
-ghost use Rattle.rule_definitions.specs.Judged.{judged};
-ghost use Rattle.rule_document_definitions.specs.Groups.{AreGroups};
-ghost use Rattle.rule_document_ground.specs.Fields.{fields_of};
+ghost use Rattle.rule_field_sets.specs.in_ground.in_schema.SchemaOf.{schema_tree};
+ghost use Rattle.rule_same_values.specs.in_definitions.Judged.{judged};
+ghost use Rattle.rule_same_values.specs.in_document_definitions.Groups.{AreGroups};
+ghost use Rattle.rule_field_groups.specs.Members.{fields_of};
 ghost use Rattle.rule_field_groups.specs.Compared.{compared};
 ghost use Rattle.rule_field_groups.specs.Passes.{Together};
 ghost use Rattle.rule_field_groups.specs.Grouped.{items_under, count_in, has, lists_in, lists_of, AreFiled, ArePartsOf};
@@ -18,15 +18,15 @@ use crate::kinds::is_abstract;
 use crate::pass::Pass;
 use graphql_names::Name;
 use indexmap::IndexMap;
-use rule_document_ground::{FieldSelection, Schema};
+use rule_field_sets::{Member, Schema};
 use std::alloc::{AllocError, Global};
 
 /// Adds a field after those under the name.
 fn push_under<'doc>(
     alloc: Global,
-    index: &mut IndexMap<Name, Vec<FieldSelection<'doc>>>,
+    index: &mut IndexMap<Name, Vec<Member<'doc>>>,
     name: &Name,
-    field: FieldSelection<'doc>,
+    field: Member<'doc>,
 ) -> Result<(), AllocError>
     ensures under { OnOk result ((n : List ℕ) → items_under n index.new ≡ items_under n index.old ++ (if bytes_eq n name.now.text then field.entry ∷ [] else [])) }
     ensures counted { OnOk result (count_in index.new ≡ count_in index.old + 1) }
@@ -41,9 +41,9 @@ fn push_under<'doc>(
 /// Adds a field under a name that nothing stands under.
 fn insert_under<'doc>(
     alloc: Global,
-    index: &mut IndexMap<Name, Vec<FieldSelection<'doc>>>,
+    index: &mut IndexMap<Name, Vec<Member<'doc>>>,
     name: &Name,
-    field: FieldSelection<'doc>,
+    field: Member<'doc>,
 ) -> Result<(), AllocError>
     requires { get (same_text name_text) index.old name.now ≡ None }
     ensures under { OnOk result ((n : List ℕ) → items_under n index.new ≡ items_under n index.old ++ (if bytes_eq n name.now.text then field.entry ∷ [] else [])) }
@@ -66,12 +66,12 @@ enum Filing {
 }
 
 /// The name that a field is grouped by.
-fn filed_name<'doc>(filing: Filing, field: FieldSelection<'doc>) -> &'doc Name
+fn filed_name<'doc>(filing: Filing, field: Member<'doc>) -> &'doc Name
     ensures { result.now.text ≡ filed_name filing field.entry }
 {
     match filing {
-        Filing::Key => field.response_key(),
-        Filing::Parent => field.parent_type,
+        Filing::Key => field.selection.response_key(),
+        Filing::Parent => field.selection.parent_type,
     }
 }
 
@@ -79,8 +79,8 @@ fn filed_name<'doc>(filing: Filing, field: FieldSelection<'doc>) -> &'doc Name
 fn index_of<'doc>(
     alloc: Global,
     filing: Filing,
-    list: &[FieldSelection<'doc>],
-) -> Result<IndexMap<Name, Vec<FieldSelection<'doc>>>, AllocError>
+    list: &[Member<'doc>],
+) -> Result<IndexMap<Name, Vec<Member<'doc>>>, AllocError>
     ensures under { IfOk result (λ m. (n : List ℕ) → items_under n m ≡ filter (has (filed_name filing) n) list.now) }
     ensures counted { IfOk result (λ m. count_in m ≡ length list.now) }
 {
@@ -94,8 +94,8 @@ fn index_of<'doc>(
 /// What an index has under its names, name by name.
 fn groups_in<'doc>(
     alloc: Global,
-    index: IndexMap<Name, Vec<FieldSelection<'doc>>>,
-) -> Result<Vec<Vec<FieldSelection<'doc>>>, AllocError>
+    index: IndexMap<Name, Vec<Member<'doc>>>,
+) -> Result<Vec<Vec<Member<'doc>>>, AllocError>
     ensures all { IfOk result (λ groups. lists_of groups ≡ lists_in index.entry) }
     ensures unique { IfOk result (λ groups. IsUnique (same_text name_text) index.entry) }
 {
@@ -110,8 +110,8 @@ fn groups_in<'doc>(
 fn filed<'doc>(
     alloc: Global,
     filing: Filing,
-    list: &[FieldSelection<'doc>],
-) -> Result<Vec<Vec<FieldSelection<'doc>>>, AllocError>
+    list: &[Member<'doc>],
+) -> Result<Vec<Vec<Member<'doc>>>, AllocError>
     ensures filed { IfOk result (λ groups. AreFiled (filed_name filing) list.now (lists_of groups)) }
     ensures counted { IfOk result (λ groups. sum (map length (lists_of groups)) ≡ length list.now) }
 {
@@ -121,22 +121,36 @@ fn filed<'doc>(
 
 /// The fields of a list under one response key ("fieldsForName"): those on abstract types, which are shared by all objects, and
 /// those on each object type. One object may have the shared ones and those of one type.
-#[derive(Drop)]
 pub struct KeyGroup<'doc> {
-    pub(crate) shared: Vec<FieldSelection<'doc>>,
+    pub(crate) shared: Vec<Member<'doc>>,
     pub(crate) own: Vec<OwnFields<'doc>>,
 }
 
 /// The fields on one object type.
-#[derive(Drop)]
-pub(crate) struct OwnFields<'doc> {
-    pub(crate) fields: Vec<FieldSelection<'doc>>,
+pub struct OwnFields<'doc> {
+    pub(crate) fields: Vec<Member<'doc>>,
     /// How many of them are before the first shared one, in the order of the list.
     pub(crate) early: usize,
 }
 
+// Not derived: a derived drop is proved again in each crate that drops one.
+impl Drop for KeyGroup<'_> {
+    fn drop(self) {
+        let KeyGroup { shared: _, own: _ } = self;
+    }
+}
+
+impl Drop for OwnFields<'_> {
+    fn drop(self) {
+        let OwnFields {
+            fields: _,
+            early: _,
+        } = self;
+    }
+}
+
 /// A group in which all fields are shared: shapes are compared whatever the types that fields are selected on.
-fn all_shared<'doc>(alloc: Global, shared: Vec<FieldSelection<'doc>>) -> KeyGroup<'doc>
+fn all_shared<'doc>(alloc: Global, shared: Vec<Member<'doc>>) -> KeyGroup<'doc>
     ensures shared { result.shared.items ≡ shared.entry.items }
     ensures own { own_lists result ≡ [] }
 {
@@ -150,13 +164,13 @@ fn all_shared<'doc>(alloc: Global, shared: Vec<FieldSelection<'doc>>) -> KeyGrou
 fn abstract_fields<'doc>(
     alloc: Global,
     schema: &Schema,
-    list: &[FieldSelection<'doc>],
-) -> Result<Vec<FieldSelection<'doc>>, AllocError>
+    list: &[Member<'doc>],
+) -> Result<Vec<Member<'doc>>, AllocError>
     ensures { IfOk result (λ v. v.items ≡ filter (is_shared (judged (schema_tree schema.now))) list.now) }
 {
     let mut found = Vec::new(alloc);
     for field in list {
-        if is_abstract(schema, field.parent_type) {
+        if is_abstract(schema, field.selection.parent_type) {
             found.push(*field)?;
         }
     }
@@ -167,13 +181,13 @@ fn abstract_fields<'doc>(
 fn object_fields<'doc>(
     alloc: Global,
     schema: &Schema,
-    list: &[FieldSelection<'doc>],
-) -> Result<Vec<FieldSelection<'doc>>, AllocError>
+    list: &[Member<'doc>],
+) -> Result<Vec<Member<'doc>>, AllocError>
     ensures { IfOk result (λ v. v.items ≡ filter (λ x. not (is_shared (judged (schema_tree schema.now)) x)) list.now) }
 {
     let mut found = Vec::new(alloc);
     for field in list {
-        if !is_abstract(schema, field.parent_type) {
+        if !is_abstract(schema, field.selection.parent_type) {
             found.push(*field)?;
         }
     }
@@ -184,11 +198,11 @@ fn object_fields<'doc>(
 fn early_counts(
     alloc: Global,
     schema: &Schema,
-    list: &[FieldSelection<'_>],
+    list: &[Member<'_>],
 ) -> Result<Vec<usize>, AllocError> {
     let mut leading = Vec::new(alloc);
     for field in list {
-        if is_abstract(schema, field.parent_type) {
+        if is_abstract(schema, field.selection.parent_type) {
             break;
         }
         leading.push(*field)?;
@@ -203,7 +217,7 @@ fn early_counts(
 /// The lists, each with its count of `early`, or 0 where that is shorter.
 fn own_fields<'doc>(
     alloc: Global,
-    lists: Vec<Vec<FieldSelection<'doc>>>,
+    lists: Vec<Vec<Member<'doc>>>,
     early: &[usize],
 ) -> Result<Vec<OwnFields<'doc>>, AllocError>
     ensures { IfOk result (λ own. map (λ o. o.fields.items) own.items ≡ lists_of lists.entry) }
@@ -223,7 +237,7 @@ fn own_fields<'doc>(
 fn by_parents<'doc>(
     alloc: Global,
     schema: &Schema,
-    list: &[FieldSelection<'doc>],
+    list: &[Member<'doc>],
 ) -> Result<KeyGroup<'doc>, AllocError>
     ensures parents { IfOk result (λ group. IsByParents (judged (schema_tree schema.now)) list.now group) }
     ensures once { IfOk result (λ group. sum (map length (lists_in_group group)) ≡ length list.now) }
@@ -241,7 +255,7 @@ fn key_group<'doc>(
     alloc: Global,
     pass: Pass,
     schema: &Schema,
-    list: Vec<FieldSelection<'doc>>,
+    list: Vec<Member<'doc>>,
 ) -> Result<KeyGroup<'doc>, AllocError>
     ensures parts { IfOk result (λ group. ArePartsFor pass (judged (schema_tree schema.now)) list.entry.items (parts_of group)) }
     ensures counted { IfOk result (λ group. compared_in pass group ≤ compared pass list.entry.items) }
@@ -260,7 +274,7 @@ pub fn groups_of<'doc>(
     alloc: Global,
     pass: Pass,
     schema: &Schema,
-    list: &[FieldSelection<'doc>],
+    list: &[Member<'doc>],
 ) -> Result<Vec<KeyGroup<'doc>>, AllocError>
     ensures groups { IfOk result (λ groups. AreGroups (Together pass (judged (schema_tree schema.now))) (fields_of list.now) (map fields_of (parts_in groups.items))) }
     ensures counted { IfOk result (λ groups. sum (map (compared_in pass) groups.items) ≤ compared pass list.now) }

@@ -1,11 +1,11 @@
 //! Which types are abstract, and which are composite.
 ghost use Rattle.std.specs.Prelude.{◌≡◌};
-ghost use Rattle.rule_document_ground.specs.in_schema.SchemaOf.{schema_tree};
-ghost use Rattle.rule_definitions.specs.Judged.{judged};
+ghost use Rattle.rule_field_sets.specs.in_ground.in_schema.SchemaOf.{schema_tree};
+ghost use Rattle.rule_same_values.specs.in_definitions.Judged.{judged};
 ghost use Rattle.rule_field_groups.specs.Kinds.{is_abstract, is_abstract_kind, is_composite};
 
 use graphql_names::Name;
-use rule_document_ground::Schema;
+use rule_field_sets::Schema;
 use schema_types::TypeKind;
 
 /// Whether the type of that name is an interface or a union.

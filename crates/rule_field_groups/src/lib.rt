@@ -1,40 +1,40 @@
-//! Fields of a list that go together, and what is told of those that do not merge (section 5.3.2, "Field Selection Merging").
+//! Fields that go together, list by list: those of one response key in a list, where they conflict, and the sets below them (section
+//! 5.3.2, "Field Selection Merging"). Also what was compared and looked at, each once.
 //!
-//! Two passes compare the fields of a list (`Pass`): fields of one response key in shape, and fields that one object may have
-//! in name and arguments. The fields of one key are split once by the types that they are selected on (`KeyGroup`): those on
-//! abstract types are compared with their first, those on an object type with that one too, or else with their own first.
+//! For the layer above: `merged_list` gives what sets select, each content once (`IsMerged` of `specs/Below.antt`), by one walk over all
+//! of them in which no fragment is walked twice (`node_walk.rt`). Two passes compare the fields of such a list (`Pass`): fields of one
+//! response key in shape, and fields that one object may have in name and arguments. `groups_of` splits the fields of one key once by
+//! the types that they are selected on (`KeyGroup` of `groups.rt`). `check_key_group` compares those on abstract types with their first,
+//! and those on an object type with that one too, or else with their own first (`conflicts.rt`). `lists_below` gives the sets below a
+//! group as lists of sets for the next level (`AreListsBelow` of `specs/Under.antt`).
 //!
-//! For the layer above: `groups_of` gives the groups of a list in a pass, of which the parts are groups of fields that go
-//! together (`AreGroups`, over `Together` of `specs/Passes.antt`, and `parts_of` of `specs/KeyGroups.antt`);
-//! `check_key_group` adds what of the parts of a group does not agree (`AddsEach`), and counts how often shapes were compared
-//! (`specs/Compared.antt`); `merged_list` gives what sets select, each content once (`IsMerged` of `specs/Below.antt`), by one
-//! walk over all of them in which no fragment is walked twice (`set_walk.rt`), `lists_below` the lists of sets below a group
-//! (`AreListsBelow` of `specs/Under.antt`). A `SelectionSource` is a set, or a fragment by its name alone, so that a fragment
-//! that many sets spread is known without being read; `own_fields_of` and `sources_of` give what it selects itself and where
-//! more comes from (`specs/Own.antt`).
+//! A `Remembered` has what was compared and looked at (`specs/Remembered.antt`): lists of fields, lists of sets and pairs of sets, each
+//! once, in whatever order they stand. A list is compared where fields that are new pay for it (`budget.rt`, `specs/Paid.antt`).
 //!
-//! The fields that a source has through fragments are the own fields of the sources that spreads lead to from it: of inline
-//! fragments, which are spread where they stand, and of fragments (`laws::fields_through_spreads`). So fields are found by
-//! steps from source to source. Own fields and sources are the same without places (`proofs/Plain.antt`).
-//!
-//! Begin with `groups.rt` and `conflicts.rt`, then `below.rt`, `set_walk.rt` and `own.rt`.
+//! Begin with `groups.rt`, `conflicts.rt` and `below.rt`, then `node_walk.rt` and `remembered.rt`.
 #![tactic(auto)]
 
 mod below;
+mod budget;
 mod conflicts;
 mod groups;
 mod kinds;
-pub mod laws;
-mod own;
+mod node_walk;
+mod nodes;
+mod pairs;
 mod pass;
-mod set_walk;
+mod remembered;
 mod shapes;
 
-pub use below::{SelectedSet, lists_below, merged_list};
-pub use conflicts::{Breach, check_group, check_key_group};
+pub use below::lists_below;
+pub use conflicts::{Breach, check_key_group};
 pub use groups::{KeyGroup, groups_of};
-pub use own::{SelectionSource, own_fields_of, sources_of};
+pub use node_walk::{MergedList, Toll, merged_list};
+pub use nodes::{node_of, starts_of};
 pub use pass::Pass;
-pub use rule_document_ground::{FieldSelection, Schema};
+pub use remembered::{Pair, Remembered};
 
-// Of the crates beneath, for those above.
+// Of the crates below, for those above.
+pub use document_typed_selections::SelectionSet;
+pub use rule_field_sets::{FieldSets, Member, Schema};
+pub use rule_number_lists::{NumberLists, NumberSet};

@@ -1,6 +1,6 @@
 //! The two passes over lists of fields.
 
-use rule_document_ground::Schema;
+use rule_field_sets::Schema;
 
 /// What a pass compares.
 #[derive(Clone, Copy)]

@@ -1,13 +1,13 @@
 //! Shapes of types ("SameResponseShape").
 ghost use Rattle.std.specs.Prelude.{◌≡◌};
 ghost use Rattle.tree_literals.specs.TypeTree.{type_tree, unplaced_type};
-ghost use Rattle.rule_document_ground.specs.in_schema.SchemaOf.{schema_tree};
-ghost use Rattle.rule_definitions.specs.Judged.{judged};
+ghost use Rattle.rule_field_sets.specs.in_ground.in_schema.SchemaOf.{schema_tree};
+ghost use Rattle.rule_same_values.specs.in_definitions.Judged.{judged};
 ghost use Rattle.rule_field_groups.specs.Shapes.{same_marks, same_inner, same_type};
 
 use crate::kinds::is_composite;
 use graphql_names::Name;
-use rule_document_ground::Schema;
+use rule_field_sets::Schema;
 use tree_literals::Type;
 
 /// Whether two references to types have the same lists and marks `!` round their names.

@@ -13,5 +13,18 @@ pub mod UnusedTold
 pub mod Sets
 pub mod SpreadBridge
 pub mod CyclesTold
+pub mod Positions
+pub mod Rooted
+pub mod Lent
+pub mod Listing
+pub mod Subscribed
+pub mod Deferred
+pub mod Nested
+pub mod DocumentSets
+pub mod Bounded
+pub mod Introspected
+pub mod Labelled
+pub mod Operations
+pub mod InDocuments
 pub use Rattle.rule_cycles.proofs.in_schema as in_schema
 pub use Rattle.rule_document_ground.proofs as in_ground

@@ -11,6 +11,13 @@ pub mod SpreadViews
 pub mod SpreadGraph
 pub mod CycleFaults
 pub mod Told
-pub use Rattle.rule_document_ground.specs.in_typing as in_typing
+pub mod Broken
+pub mod SubscriptionTold
+pub mod ListedBreaches
+pub mod Nested
+pub mod Rooted
+pub mod Labels
+pub mod Documents
+pub use Rattle.rule_document_ground.specs.in_typed_operations as in_typed_operations
 pub use Rattle.rule_cycles.specs.in_schema as in_schema
 pub use Rattle.rule_document_ground.specs as in_ground

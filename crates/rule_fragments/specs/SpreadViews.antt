@@ -12,7 +12,7 @@ use Rattle.document_typed_selections.specs.declared.selection.FragmentSpread.{Fr
 use Rattle.document_typed_operations.specs.TypedDocument.{typed_fragment_tree}
 use Rattle.document_typed_operations.specs.declared.operation.Fragment.{Fragment}
 use Rattle.document_meaning.specs.MeantTree.{MeantFragment}
-use Rattle.rule_document_ground.specs.in_typing.DocumentView.{meant_by_fragment}
+use Rattle.rule_document_ground.specs.in_typed_operations.DocumentView.{meant_by_fragment}
 use Rattle.fault_data.specs.DiagnosticView.{plain_spread}
 use Rattle.indexmap.specs.IndexMap.{IndexMap}
 use Rattle.rule_cycles.specs.Labels.{Labelled}

@@ -1,7 +1,10 @@
-//! The rules on fragments, and the bound on ways of spreads (section 5.5).
+//! The rules on fragments (section 5.5), on the root of a subscription (5.2.3) and on `@defer`, and the bounds on ways of spreads
+//! and on how deep selections nest.
 //!
 //! Of the fragments that an operation reaches: each that is spread is there, each is on a composite type, and each can apply
-//! where it stands. Of the fragments of a document: each is reached by an operation, and none spreads itself.
+//! where it stands. Of the fragments of a document: each is reached by an operation, and none spreads itself. A subscription
+//! has one root field, which is no meta-field and under no condition; `@defer` and its labels are judged by the proposal on
+//! incremental delivery.
 //!
 //! For the layers above: each check adds exactly the faults by which the rules of its name break (`Fragments.antt` and
 //! `Limits.antt` of `rule_document_definitions`). `PossibleTypes` has, under each type's name, the objects that values of the
@@ -13,21 +16,36 @@
 //! fragments that the operations reach. There fragments are numbers, and `rule_cycle_search` finds the ways of spreads from
 //! each back to it.
 //!
-//! Begin with `spreads.rt`, then `targets.rt`, `possible_types.rt` and `applications.rt`; and with `unused.rt` and `cycles.rt`.
+//! `document_breaches` gives what breaks the rules on subscriptions and on `@defer` in a typed document, each with its place, and
+//! `deferred_breaches` what breaks those on `@defer` alone (`specs/Documents.antt`; `AreAlike` of `specs/SubscriptionTold.antt`,
+//! since root fields have no order). These rules are `Subscriptions.antt`, `Defer.antt` and `Limits.antt` of
+//! `rule_document_definitions`.
+//!
+//! For fragments, begin with `spreads.rt`, then `targets.rt`, `possible_types.rt` and `applications.rt`; and with `unused.rt` and
+//! `cycles.rt`. For subscriptions and `@defer`, begin with `documents.rt`, then `subscriptions.rt`, `defer.rt` and `labels.rt`.
 #![tactic(auto)]
 
 mod applications;
+mod breach;
 mod cycle_faults;
 mod cycles;
+mod defer;
+mod documents;
+mod labels;
 mod names;
+mod path_bound;
 mod possible_types;
+mod roots;
 mod spread_graph;
 mod spreads;
+mod subscriptions;
 mod targets;
 mod unused;
 
 pub use applications::check_applications;
 pub use cycles::check_cycles;
+pub use documents::{deferred_breaches, document_breaches};
+pub use path_bound::passes_path_bound;
 pub use possible_types::{PossibleTypes, for_document};
 pub use spreads::check_spreads;
 pub use unused::check_unused;

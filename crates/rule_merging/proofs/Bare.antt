@@ -1,25 +1,30 @@
 -- Sets without selections select nothing.
-use Rattle.std.proofs.Common.{◌≡◌, None}
-use Rattle.rule_definitions.proofs.Lists.{not_in_nil}
-use Rattle.document_meaning.specs.MeantTree.{MeantSet, meant_set, no_meant, meant_then, MeantDocument}
-use Rattle.document_meaning.specs.Unplaced.{unplaced_set}
-use Rattle.rule_document_definitions.specs.Selected.{InOperation, StandingField}
-use Rattle.rule_document_definitions.specs.Reached.{Closed, first, next, IsFieldOf}
-use Rattle.rule_document_definitions.specs.Contents.{content}
+use Rattle.std.proofs.Common.{◌≡◌, None, [], Contains, refl, subst}
+use Rattle.rule_field_groups.proofs.in_definitions.Lists.{not_in_nil}
+use Rattle.rule_field_groups.specs.in_meaning.MeantTree.{MeantSet, meant_set, no_meant, meant_then, MeantDocument}
+use Rattle.rule_field_groups.specs.in_meaning.in_components.Names.{Entries}
+use Rattle.rule_field_groups.specs.in_document_definitions.Selected.{InOperation, StandingField}
+use Rattle.rule_field_groups.specs.in_document_definitions.Reached.{first, next, IsFieldOf}
+use Rattle.rule_field_groups.specs.in_document_definitions.Contents.{content}
+use Rattle.rule_field_groups.specs.in_document_definitions.ReadFields.{ReadField, ReadSet, nothing_read, fields_in, spreads_in, set_read, IsReadFrom, SelectsRead}
 use Rattle.rule_field_groups.specs.Below.{IsBare}
-
-nothing_there : {X : Type 0} (First : X → Type 0) (Next : X → X → Type 0) → ((x : X) → First x → ⊥) → (x : X) → Closed First Next x → ⊥
-nothing_there First Next none x (first c) = none x c
-nothing_there First Next none y (next {x} r k) = nothing_there First Next none x r
 
 -- a content that a set selects
 abbrev pub IsIn : {P : Type 0} → MeantDocument P → MeantSet P → StandingField P → Type 0
 IsIn {P} d v x = (f : StandingField P) × (IsFieldOf d (InOperation None) v f × (content f ≡ x))
 
-pub bare_selects : {P : Type 0} (d : MeantDocument P) (v : MeantSet P) → IsBare v → (x : StandingField P) → IsIn d v x → ⊥
-bare_selects d (meant_set t no_meant) bare x h = nothing_there _ _ (λ y c. not_in_nil y c) h.1.0.0 h.1.0.1.0
-bare_selects d (meant_set t (meant_then m ms)) bare x h = absurd bare
+-- ---- what is read of them
 
-pub bare_plain : {P : Type 0} (v : MeantSet P) → IsBare v → IsBare (unplaced_set v)
-bare_plain (meant_set t no_meant) bare = tt
-bare_plain (meant_set t (meant_then m ms)) bare = absurd bare
+-- a set that spreads nothing leads to itself alone
+stays : (fragments : Entries ReadSet) (s t : ReadSet) → spreads_in s ≡ [] → IsReadFrom fragments s t → t ≡ s
+stays fragments s t none (first e) = e
+stays fragments s t none (next {x = u} r (n, (c, e))) =
+    not_in_nil n (subst (λ l. Contains l n) none (subst (λ v. Contains (spreads_in v) n) (stays fragments s u none r) c))
+
+-- a set without fields and spreads
+pub nothing_listed : (fragments : Entries ReadSet) (s : ReadSet) → fields_in s ≡ [] → spreads_in s ≡ [] → (y : ReadField) → SelectsRead fragments s y → ⊥
+nothing_listed fragments s fields spreads y (t, (r, c)) = not_in_nil y (subst (λ l. Contains l y) fields (subst (λ v. Contains (fields_in v) y) (stays fragments s t spreads r) c))
+
+pub bare_reads : {P : Type 0} (fragments : Entries ReadSet) (v : MeantSet P) → IsBare v → (y : ReadField) → SelectsRead fragments (set_read v) y → ⊥
+bare_reads fragments (meant_set t no_meant) bare y h = nothing_listed fragments nothing_read refl refl y h
+bare_reads fragments (meant_set t (meant_then m ms)) bare y h = absurd bare

@@ -1,51 +1,57 @@
 -- How often shapes are compared, and that the members of each list that is examined are last fields of chains.
-use Rattle.std.proofs.Common.{◌≡◌, ◌⊎◌, ◌∙◌, ℕ, ◌+◌, ◌≤◌, None, List, [], ◌∷◌, ◌++◌, map, length, Contains, refl, sym, ap, subst, append_assoc, append-nil, arith, inl, inr}
+use Rattle.std.proofs.Common.{◌≡◌, ◌⊎◌, ◌∙◌, ℕ, ◌+◌, ◌*◌, ◌^◌, ◌<◌, ◌≤◌, None, List, [], ◌∷◌, ◌++◌, map, length, Contains, refl, sym, ap, subst, append_assoc, arith, inl, inr}
 use Rattle.std.specs.List.{sum}
 use Rattle.std.specs.List.Sorted.{IsPermutation}
 use Rattle.std.proofs.lemmas.List.{length-map}
-use Rattle.std.proofs.lemmas.List.Sorted.{length_permutation}
+use Rattle.std.proofs.lemmas.List.Sorted.{length_permutation, IsPermutation-refl, IsPermutation-sym, IsPermutation-trans, IsPermutation-append_right, Contains-permutation}
 use Rattle.std.proofs.lemmas.Option.{slice_get_within}
-use Rattle.std.proofs.lemmas.List.Elements.{Contains-append_cases}
+use Rattle.std.proofs.lemmas.List.Elements.{Contains-append_right, Contains-append_cases}
 use Rattle.graphql_names.specs.Placed.{Place}
-use Rattle.rule_definitions.proofs.Lists.{not_in_nil, only, Contains-cons, Contains-first}
+use Rattle.rule_field_groups.proofs.in_definitions.Lists.{not_in_nil, only, Contains-cons, Contains-first}
 use Rattle.rule_cycle_search.specs.Paths.{HasNoRepeat}
-use Rattle.document_meaning.specs.MeantTree.{MeantSet, MeantOperation, MeantDocument}
-use Rattle.rule_definitions.specs.Judged.{Judged}
-use Rattle.rule_document_definitions.specs.DocumentFaults.{Broken}
-use Rattle.rule_document_definitions.specs.Selected.{StandingField, InOperation}
-use Rattle.rule_document_definitions.specs.Reached.{IsFieldOf}
-use Rattle.rule_document_definitions.specs.Chains.{Chain}
-use Rattle.rule_document_definitions.specs.Contents.{content, ContentBelow, unplaced_content}
-use Rattle.rule_document_definitions.specs.Merging.{Below, Starts}
-use Rattle.rule_document_definitions.proofs.Unplaced.{contains_unmap}
-use Rattle.rule_field_groups.specs.in_ground.Fields.{field_of, fields_of, content_of}
-use Rattle.rule_field_groups.specs.in_ground.declared.field_selection.FieldSelection.{FieldSelection}
-use Rattle.rule_document_definitions.specs.PlainFields.{PlainField, PlainBelow}
-use Rattle.rule_document_definitions.proofs.Elsewhere.{content_starts}
-use Rattle.rule_document_definitions.proofs.PlainFacts.{plain_below, below_standing}
+use Rattle.rule_field_groups.specs.in_meaning.MeantTree.{MeantSet, MeantOperation, MeantDocument}
+use Rattle.rule_field_groups.specs.in_definitions.Judged.{Judged}
+use Rattle.rule_field_groups.specs.in_document_definitions.DocumentFaults.{Broken}
+use Rattle.rule_field_groups.specs.in_document_definitions.Selected.{StandingField, InOperation}
+use Rattle.rule_field_groups.specs.in_document_definitions.Reached.{IsFieldOf}
+use Rattle.rule_field_groups.specs.in_document_definitions.Chains.{Chain}
+use Rattle.rule_field_groups.specs.in_document_definitions.Contents.{content, ContentBelow}
+use Rattle.rule_field_groups.specs.in_document_definitions.Merging.{Below, Starts}
+use Rattle.rule_field_groups.specs.in_document_definitions.ReadFields.{ReadField, ReadSet, field_read, ReadBelow}
+use Rattle.rule_field_groups.proofs.in_document_definitions.Unplaced.{contains_unmap}
+use Rattle.rule_field_groups.proofs.in_document_definitions.Elsewhere.{content_below, content_starts}
+use Rattle.rule_field_groups.proofs.in_document_definitions.ReadFacts.{read_below, below_read}
+use Rattle.rule_number_lists.specs.NumberLists.{HaveSame, length_above_two}
+use Rattle.rule_number_lists.specs.NumberPairs.{pairs_kept}
+use Rattle.rule_number_lists.specs.declared.pairs.NumberPairs.{NumberPairs}
+use Rattle.rule_number_lists.proofs.Standing.{same_order, same_trans, same_sym, no_repeat_order}
+use Rattle.rule_number_lists.proofs.Few.{squares, no_longer, few, above_two_length, above_two_le, differ_cons, differ_order, from_apart}
+use Rattle.rule_number_lists.proofs.Rows.{kept_once, rows_below, few_in_any_order, kept_few}
+use Rattle.rule_field_groups.specs.in_sets.declared.member.Member.{Member}
+use Rattle.rule_field_groups.specs.in_sets.declared.field_sets.FieldSets.{FieldSets}
+use Rattle.rule_field_groups.specs.Members.{field_of, fields_of, content_of, contents_of}
 use Rattle.rule_field_groups.specs.declared.pass.Pass.{Pass}
 use Rattle.rule_field_groups.specs.declared.pass.Pass.TheVariants.{Shapes, Selections}
-use Rattle.rule_field_groups.specs.Below.{contents_of, IsMergedIn}
-use Rattle.rule_merging.specs.Remembered.{Kept}
+use Rattle.rule_field_groups.specs.Below.{IsMergedIn, IsPartOfMergedIn}
+use Rattle.rule_field_groups.specs.declared.remembered.Remembered.{Remembered}
+use Rattle.rule_field_groups.specs.Remembered.{Kept, looked_in, both_in, IsKnown}
+use Rattle.rule_field_groups.specs.in_sets.Read.{set_content_at}
 use Rattle.rule_merging.specs.Examined.{SelectsAsMuch, SetsExamined}
 use Rattle.rule_merging.specs.Twos.{IsListOf, are_two}
 use Rattle.rule_merging.specs.Verdict.{OnlyGrow, IsCountedIn}
 use Rattle.rule_field_groups.specs.Compared.{compared}
-use Rattle.rule_merging.specs.Counted.{Account, no_account, most_members, most_comparisons, IsWithin, Meets, OnlyMeets, Pays, DifferInMembers, AreApart, IsLast, AreLast, AreListed, Grows, IsCountedBy, IsPaidBy}
-use Rattle.rule_number_lists.specs.NumberLists.{HaveSame, length_above_two}
-use Rattle.rule_number_lists.proofs.Standing.{same_order, same_trans, same_sym, no_repeat_order}
-use Rattle.rule_number_lists.proofs.Few.{no_longer, few, above_two_length, above_two_le}
-use Rattle.rule_field_groups.proofs.Counts.{sums}
-use Rattle.rule_field_groups.proofs.Lists.{slice_get-push_cases, contains_from_get, none_twice, apart_more}
+use Rattle.rule_field_groups.specs.Paid.{Account, no_account, most_members, IsWithin, Meets, Pays}
+use Rattle.rule_merging.specs.Counted.{most_comparisons, DifferInMembers, AreApart, IsLast, AreLast, AreListed, Grows, IsCountedBy, IsPaidBy}
+use Rattle.rule_field_groups.proofs.Counts.{sums, sums_order}
 
 -- ---- sums
 
 -- a list is as long as its contents, in whatever order
-pub compared_contents : (pass : Pass) (list : List FieldSelection) → compared pass (contents_of list) ≡ compared pass list
-compared_contents Shapes list = length-map (fields_of list) unplaced_content ∙ length-map list field_of
+pub compared_contents : (pass : Pass) (list : List Member) → compared pass (contents_of list) ≡ compared pass list
+compared_contents Shapes list = length-map (fields_of list) field_read ∙ length-map list field_of
 compared_contents Selections list = refl
 
-compared_order : (pass : Pass) (xs ys : List PlainField) → IsPermutation xs ys → compared pass ys ≡ compared pass xs
+compared_order : (pass : Pass) (xs ys : List ReadField) → IsPermutation xs ys → compared pass ys ≡ compared pass xs
 compared_order Shapes xs ys p = length_permutation xs ys p
 compared_order Selections xs ys p = refl
 
@@ -54,18 +60,12 @@ compared_order Selections xs ys p = refl
 none_differ : DifferInMembers []
 none_differ i j a b h k same = absurd (omega (arith, slice_get_within [] i a h))
 
--- one more, whose members are not those of one that was there
-differ_more : (lists : List (List PlainField)) (list : List PlainField) → DifferInMembers lists → ((known : List PlainField) → Contains lists known → HaveSame known list → ⊥) → DifferInMembers (lists ++ list ∷ [])
-differ_more lists list differ none i j a b h k same = elim (slice_get-push_cases lists list i a h) [
-  | inl p ↦ elim (slice_get-push_cases lists list j b k) [
-    | inl q ↦ differ i j a b p q same
-    | inr q ↦ absurd (none a (contains_from_get lists i a p) (subst (HaveSame a) q.1 same))
-  ]
-  | inr p ↦ elim (slice_get-push_cases lists list j b k) [
-    | inl q ↦ absurd (none b (contains_from_get lists j b q) (same_sym list b (subst (λ l. HaveSame l b) p.1 same)))
-    | inr q ↦ p.0 ∙ sym q.0
-  ]
-]
+-- one more, whose members are not those of one that was there, and in another order
+differ_more : (lists more : List (List ReadField)) (list : List ReadField) → IsPermutation (list ∷ lists) more → DifferInMembers lists → ((known : List ReadField) → Contains lists known → HaveSame known list → ⊥) → DifferInMembers more
+differ_more lists more list order differ none = differ_order (list ∷ lists) more order (differ_cons list lists differ none)
+
+apart_order : (xs ys : List (List ReadField)) → IsPermutation xs ys → AreApart xs → AreApart ys
+apart_order xs ys order apart list c = apart list (Contains-permutation ys xs list (IsPermutation-sym xs ys order) c)
 
 -- ---- what is paid
 
@@ -73,11 +73,12 @@ differ_more lists list differ none i j a b h k same = elim (slice_get-push_cases
 still_within : (old new : Account) → new.spent ≡ old.spent → length old.met ≤ length new.met → IsWithin old → IsWithin new
 still_within old new e more within = omega (arith, e, more, within)
 
-pub pays_nothing : (list : List PlainField) (old new : Account) → Meets list old new → new.spent ≡ old.spent → Pays list old new
+pub pays_nothing : (list : List ReadField) (old new : Account) → Meets list old new → new.spent ≡ old.spent → Pays list old new
 pays_nothing list old new m e = record { meets = m; spends = omega (arith, e); within = still_within old new e m.more }
 
-pub pays_all : (list : List PlainField) (old new : Account) → Meets list old new → new.spent ≡ old.spent + length list → new.spent ≤ most_members (length new.met) → Pays list old new
-pays_all list old new m e within = record { meets = m; spends = omega (arith, e); within = λ h. within }
+-- at least as much is spent, and not too much
+pub pays_all : (list : List ReadField) (old new : Account) → Meets list old new → old.spent ≤ new.spent → new.spent ≤ most_members (length new.met) → Pays list old new
+pays_all list old new m more within = record { meets = m; spends = more; within = λ h. within }
 
 -- ---- last fields of chains
 
@@ -88,17 +89,18 @@ chain_on Under First (e ∷ c) f g p b = (p.0, chain_on Under (Under e) c f g p.
 module _ (d : MeantDocument Place) where
   module _ (os : List (MeantOperation Place)) where
     -- what lies below one
-    last_below : (f y : StandingField Place) → IsLast d os (unplaced_content f) → ContentBelow d f y → IsLast d os (unplaced_content y)
+    last_below : (f y : StandingField Place) → IsLast d os (field_read f) → ContentBelow d f y → IsLast d os (field_read y)
     last_below f y (o, (c, (e, (there, (chain, same))))) b =
-        let g = below_standing d e (unplaced_content y) (subst (λ x. PlainBelow d x (unplaced_content y)) (sym same) (plain_below d f y b)) in
-        (o, (c ++ e ∷ [], (g.0, (there, (chain_on (Below d) (Starts d o) c e g.0 chain g.1.0, g.1.1)))))
+        let g = content_below d f y b in
+        let h = below_read d e (field_read g.0) (subst (λ x. ReadBelow d x (field_read g.0)) (sym same) (read_below d f g.0 g.1.0)) in
+        (o, (c ++ e ∷ [], (h.0, (there, (chain_on (Below d) (Starts d o) c e h.0 chain h.1.0, h.1.1 ∙ ap field_read g.1.1)))))
 
     -- what starts
     pub starting_listed : (o : MeantOperation Place) (start : MeantSet Place) → Contains os o → o.set ≡ start → AreListed d os ((start ∷ []) ∷ [])
     starting_listed o start there is sets c x h =
         let v = subst (λ (l : List (MeantSet Place)). Contains l h.0) (only (start ∷ []) sets c) h.1.0 in
         let f = content_starts d o x (subst (λ w. (f : StandingField Place) × (IsFieldOf d (InOperation None) w f × (content f ≡ x))) (only start h.0 v ∙ sym is) h.1.1) in
-        (o, ([], (f.0, (there, ((f.1.0, tt), ap unplaced_content f.1.1)))))
+        (o, ([], (f.0, (there, ((f.1.0, tt), ap field_read f.1.1)))))
 
     -- lists of sets below groups of what such lists select
     pub listed_next : (pass : Pass) (s : Judged) (lists : List (List (MeantSet Place))) (old new : Kept) (added : List (Broken Place)) (next : List (List (MeantSet Place)))
@@ -122,11 +124,14 @@ module _ (d : MeantDocument Place) where
         → ((part : List (MeantSet Place)) → Contains parts part → (sets : List (MeantSet Place)) × (Contains lists sets × SelectsAsMuch d sets part)) → AreListed d os parts
     listed_wider lists parts listed wide part c x h = let w = wide part c in listed w.0 w.1.0 x (w.1.1 x h)
 
-    -- the fields that such sets select
-    pub fields_listed : (sets : List (MeantSet Place)) (list : List FieldSelection) → IsMergedIn d sets list → AreListed d os (sets ∷ []) → AreLast d os (contents_of list)
-    fields_listed sets list merged listed x c =
-        let y = contains_unmap unplaced_content (fields_of list) x c in
-        subst (IsLast d os) y.1.1 (listed sets (Contains-first sets [] sets refl) y.0 (merged.within y.0 y.1.0))
+    -- some of the fields that such sets select, and all of them
+    pub part_listed_fields : (sets : List (MeantSet Place)) (list : List Member) → IsPartOfMergedIn d sets list → AreListed d os (sets ∷ []) → AreLast d os (contents_of list)
+    part_listed_fields sets list part listed x c =
+        let y = contains_unmap field_read (fields_of list) x c in
+        subst (IsLast d os) y.1.1 (listed sets (Contains-first sets [] sets refl) y.0 (part.within y.0 y.1.0))
+
+    pub fields_listed : (sets : List (MeantSet Place)) (list : List Member) → IsMergedIn d sets list → AreListed d os (sets ∷ []) → AreLast d os (contents_of list)
+    fields_listed sets list merged = part_listed_fields sets list (record { within = merged.within; apart = merged.apart })
 
   -- ---- lists that come to those that were examined
 
@@ -138,7 +143,7 @@ module _ (d : MeantDocument Place) where
   pub grows_not : (Given : Premise) (pass : Pass) (a : Account) → Grows d Given pass a a
   grows_not Given pass a = record {
     added = [];
-    is = sym (append-nil a.lists);
+    is = IsPermutation-refl a.lists;
     more = omega arith;
     count = omega arith;
     apart = λ list c. not_in_nil list c;
@@ -171,114 +176,111 @@ module _ (d : MeantDocument Place) where
   }
 
   -- what is met of a list
-  met_so : (list : List PlainField) (old new : Account) → Meets list old new → (os : List (MeantOperation Place)) → AreLast d os list → (x : PlainField) → Contains new.met x → Contains old.met x ⊎ IsLast d os x
-  met_so list old new m os given x c = elim (m.only x c) [ inl a ↦ inl a | inr b ↦ inr (given x b) ]
+  met_so : (list : List ReadField) (old new : Account) → ((x : ReadField) → Contains new.met x → Contains old.met x ⊎ Contains list x) → (os : List (MeantOperation Place)) → AreLast d os list
+      → (x : ReadField) → Contains new.met x → Contains old.met x ⊎ IsLast d os x
+  met_so list old new met os given x c = elim (met x c) [ inl a ↦ inl a | inr b ↦ inr (given x b) ]
 
-  -- no list comes, but fields are met, and members may be paid
-  no_lists : (pass : Pass) (list : List PlainField) (old new : Account) → new.lists ≡ old.lists → Meets list old new → old.spent ≤ new.spent → (IsWithin old → IsWithin new) → Grows d (λ os. AreLast d os list) pass old new
-  no_lists pass list old new is m spends within = record {
+  -- a list is asked for, and paid or not: no list comes, but fields are met
+  pub grows_paying : (pass : Pass) (list : List ReadField) (old new : Account) → new.lists ≡ old.lists → Pays list old new → Grows d (λ os. AreLast d os list) pass old new
+  grows_paying pass list old new is p = record {
     added = [];
-    is = is ∙ sym (append-nil old.lists);
-    more = omega (arith, m.same);
-    count = omega (arith, m.same);
+    is = subst (IsPermutation old.lists) (sym is) (IsPermutation-refl old.lists);
+    more = omega (arith, p.meets.same);
+    count = omega (arith, p.meets.same);
     apart = λ l c. not_in_nil l c;
     different = λ apart differ. subst DifferInMembers (sym is) differ;
     last = λ os given l c. not_in_nil l c;
-    paid = omega (arith, spends);
-    within = within;
-    once = λ h. m.once;
-    meets = met_so list old new m;
+    paid = omega (arith, p.spends);
+    within = p.within;
+    once = λ h. p.meets.once;
+    meets = met_so list old new p.meets.only;
   }
 
-  -- a list is asked for, and paid or not
-  pub grows_paying : (pass : Pass) (list : List PlainField) (old new : Account) → new.lists ≡ old.lists → Pays list old new → Grows d (λ os. AreLast d os list) pass old new
-  grows_paying pass list old new is p = no_lists pass list old new is p.meets p.spends p.within
-
-  -- a list is known, or memory is refused
-  pub grows_meeting : (pass : Pass) (list : List PlainField) (old new : Account) → new.lists ≡ old.lists → OnlyMeets list old new → Grows d (λ os. AreLast d os list) pass old new
-  grows_meeting pass list old new is (m, e) = no_lists pass list old new is m (omega (arith, e)) (still_within old new e m.more)
-
   -- one list, in some order
-  grows_one : (pass : Pass) (list : List FieldSelection) (kept : List PlainField) (old mid new : Account) → HasNoRepeat (contents_of list) → IsPermutation (contents_of list) kept
-      → ((known : List PlainField) → Contains old.lists known → HasNoRepeat known → HasNoRepeat (contents_of list) → HaveSame known (contents_of list) → ⊥) → mid.lists ≡ old.lists ++ kept ∷ []
-      → Meets (contents_of list) old mid → old.spent + length_above_two (contents_of list) ≤ mid.spent → (IsWithin old → IsWithin mid)
+  grows_one : (pass : Pass) (list : List Member) (kept : List ReadField) (old mid new : Account) → HasNoRepeat (contents_of list) → IsPermutation (contents_of list) kept
+      → ((known : List ReadField) → Contains old.lists known → HasNoRepeat known → HasNoRepeat (contents_of list) → HaveSame known (contents_of list) → ⊥) → IsPermutation (kept ∷ old.lists) mid.lists
+      → mid.comparisons ≡ old.comparisons → (HasNoRepeat old.met → HasNoRepeat mid.met) → ((x : ReadField) → Contains mid.met x → Contains old.met x ⊎ Contains (contents_of list) x)
+      → old.spent + length_above_two (contents_of list) ≤ mid.spent → (IsWithin old → IsWithin mid)
       → mid.comparisons ≤ new.comparisons → new.comparisons ≤ mid.comparisons + compared pass list → new ≡ record mid { comparisons = new.comparisons }
       → Grows d (λ os. AreLast d os (contents_of list)) pass old new
-  grows_one pass list kept old mid new apart order none is m paid within more count e = subst (Grows d (λ os. AreLast d os (contents_of list)) pass old) (sym e) (record {
+  grows_one pass list kept old mid new apart order none is same once met paid within more count e = subst (Grows d (λ os. AreLast d os (contents_of list)) pass old) (sym e) (record {
     added = kept ∷ [];
     is = is;
-    more = omega (arith, more, m.same);
-    count = omega (arith, count, m.same, compared_contents pass list, compared_order pass (contents_of list) kept order);
+    more = omega (arith, more, same);
+    count = omega (arith, count, same, compared_contents pass list, compared_order pass (contents_of list) kept order);
     apart = λ l c. subst HasNoRepeat (sym (only kept l c)) (no_repeat_order (contents_of list) kept order apart);
-    different = λ each differ. subst DifferInMembers (sym is) (differ_more old.lists kept differ (λ known c same.
-        none known c (each known c) apart (same_trans known kept (contents_of list) same (same_sym (contents_of list) kept (same_order (contents_of list) kept order)))));
+    different = λ each differ. differ_more old.lists mid.lists kept is differ (λ known c same.
+        none known c (each known c) apart (same_trans known kept (contents_of list) same (same_sym (contents_of list) kept (same_order (contents_of list) kept order))));
     last = λ os given l c x k. given x ((same_order (contents_of list) kept order x).1 (subst (λ m. Contains m x) (only kept l c) k));
     paid = omega (arith, paid, above_two_length kept (contents_of list) (length_permutation (contents_of list) kept order));
     within = within;
-    once = λ h. m.once;
-    meets = met_so (contents_of list) old mid m;
+    once = once;
+    meets = met_so (contents_of list) old mid met;
   })
 
   -- a list that was paid before
-  pub grows_paid : (pass : Pass) (list : List FieldSelection) (kept : List PlainField) (old mid new : Account) → Pays (contents_of list) old mid → old.spent + length (contents_of list) ≤ mid.spent
+  pub grows_paid : (pass : Pass) (list : List Member) (kept : List ReadField) (old mid new : Account) → Pays (contents_of list) old mid → old.spent + length (contents_of list) ≤ mid.spent
       → HasNoRepeat (contents_of list) → IsPermutation (contents_of list) kept
-      → ((known : List PlainField) → Contains old.lists known → HasNoRepeat known → HasNoRepeat (contents_of list) → HaveSame known (contents_of list) → ⊥) → mid.lists ≡ old.lists ++ kept ∷ []
+      → ((known : List ReadField) → Contains old.lists known → HasNoRepeat known → HasNoRepeat (contents_of list) → HaveSame known (contents_of list) → ⊥) → IsPermutation (kept ∷ old.lists) mid.lists
       → mid.comparisons ≤ new.comparisons → new.comparisons ≤ mid.comparisons + compared pass list → new ≡ record mid { comparisons = new.comparisons }
       → Grows d (λ os. AreLast d os (contents_of list)) pass old new
   grows_paid pass list kept old mid new p enough apart order none is more count e =
-      grows_one pass list kept old mid new apart order none is p.meets (omega (arith, enough, above_two_le (contents_of list))) p.within more count e
+      grows_one pass list kept old mid new apart order none is p.meets.same (λ h. p.meets.once) p.meets.only (omega (arith, enough, above_two_le (contents_of list))) p.within more count e
 
   -- fields of one of two
-  abbrev pub LastOfTwo : FieldSelection → FieldSelection → Premise
-  LastOfTwo one other os = (p q : FieldSelection) → are_two one other p q → IsLast d os (content_of p) × IsLast d os (content_of q)
+  abbrev pub LastOfTwo : Member → Member → Premise
+  LastOfTwo one other os = (p q : Member) → are_two one other p q → IsLast d os (content_of p) × IsLast d os (content_of q)
 
-  lasts : (one other : FieldSelection) (list : List FieldSelection) → IsListOf one other list → (os : List (MeantOperation Place)) → LastOfTwo one other os → AreLast d os (contents_of list)
+  lasts : (one other : Member) (list : List Member) → IsListOf one other list → (os : List (MeantOperation Place)) → LastOfTwo one other os → AreLast d os (contents_of list)
   lasts one other list two os given = by two
     where
       by : IsListOf one other list → AreLast d os (contents_of list)
-      by (inl (e, l)) x c = subst (IsLast d os) (sym (only (content_of one) x (subst (λ (m : List FieldSelection). Contains (contents_of m) x) l c))) (given one other (refl, refl)).0
-      by (inr (e, l)) x c = elim (Contains-cons (content_of one) (content_of other ∷ []) x (subst (λ (m : List FieldSelection). Contains (contents_of m) x) l c)) [
+      by (inl (e, l)) x c = subst (IsLast d os) (sym (only (content_of one) x (subst (λ (m : List Member). Contains (contents_of m) x) l c))) (given one other (refl, refl)).0
+      by (inr (e, l)) x c = elim (Contains-cons (content_of one) (content_of other ∷ []) x (subst (λ (m : List Member). Contains (contents_of m) x) l c)) [
         | inl i ↦ subst (IsLast d os) i (given one other (refl, refl)).0
         | inr r ↦ subst (IsLast d os) (sym (only (content_of other) x r)) (given one other (refl, refl)).1
       ]
 
-  two_apart : (one other : FieldSelection) (list : List FieldSelection) → IsListOf one other list → HasNoRepeat (contents_of list)
-  two_apart one other list (inl (e, l)) = subst (λ (m : List FieldSelection). HasNoRepeat (contents_of m)) (sym l) (apart_more [] (content_of one) none_twice (λ c. not_in_nil (content_of one) c))
-  two_apart one other list (inr (e, l)) = subst (λ (m : List FieldSelection). HasNoRepeat (contents_of m)) (sym l)
-      (apart_more (content_of one ∷ []) (content_of other) (apart_more [] (content_of one) none_twice (λ c. not_in_nil (content_of one) c)) (λ c. e (sym (only (content_of one) (content_of other) c))))
+  two_apart : (one other : Member) (list : List Member) → IsListOf one other list → HasNoRepeat (contents_of list)
+  two_apart one other list (inl (e, l)) = subst (λ (m : List Member). HasNoRepeat (contents_of m)) (sym l) (from_apart (content_of one ∷ []) (λ c. not_in_nil (content_of one) c, tt))
+  two_apart one other list (inr (e, l)) = subst (λ (m : List Member). HasNoRepeat (contents_of m)) (sym l)
+      (from_apart (content_of one ∷ content_of other ∷ []) (λ c. e (only (content_of other) (content_of one) c), (λ c. not_in_nil (content_of other) c, tt)))
 
   -- two are not many
-  two_short : (one other : FieldSelection) (list : List FieldSelection) → IsListOf one other list → length_above_two (contents_of list) ≡ 0
-  two_short one other list (inl (e, l)) = ap (λ (m : List FieldSelection). length_above_two (contents_of m)) l
-  two_short one other list (inr (e, l)) = ap (λ (m : List FieldSelection). length_above_two (contents_of m)) l
+  two_short : (one other : Member) (list : List Member) → IsListOf one other list → length_above_two (contents_of list) ≡ 0
+  two_short one other list (inl (e, l)) = ap (λ (m : List Member). length_above_two (contents_of m)) l
+  two_short one other list (inr (e, l)) = ap (λ (m : List Member). length_above_two (contents_of m)) l
 
-  -- a list of two fields
-  pub grows_two : (pass : Pass) (one other : FieldSelection) (list : List FieldSelection) (kept : List PlainField) (old mid new : Account) → IsListOf one other list → IsPermutation (contents_of list) kept
-      → ((known : List PlainField) → Contains old.lists known → HasNoRepeat known → HasNoRepeat (contents_of list) → HaveSame known (contents_of list) → ⊥) → mid.lists ≡ old.lists ++ kept ∷ []
-      → OnlyMeets (contents_of list) old mid → mid.comparisons ≤ new.comparisons → new.comparisons ≤ mid.comparisons + compared pass list → new ≡ record mid { comparisons = new.comparisons }
+  -- a list of two fields; none is met
+  pub grows_two : (pass : Pass) (one other : Member) (list : List Member) (kept : List ReadField) (old mid new : Account) → IsListOf one other list → (HasNoRepeat (contents_of list) → IsPermutation (contents_of list) kept)
+      → ((known : List ReadField) → Contains old.lists known → HasNoRepeat known → HasNoRepeat (contents_of list) → HaveSame known (contents_of list) → ⊥) → IsPermutation (kept ∷ old.lists) mid.lists
+      → mid ≡ record old { lists = mid.lists } → mid.comparisons ≤ new.comparisons → new.comparisons ≤ mid.comparisons + compared pass list → new ≡ record mid { comparisons = new.comparisons }
       → Grows d (LastOfTwo one other) pass old new
-  grows_two pass one other list kept old mid new two order none is (m, spent) more count e =
+  grows_two pass one other list kept old mid new two order none is same more count e =
+      let met : mid.met ≡ old.met = ap (λ (a : Account). a.met) same in
+      let spent : mid.spent ≡ old.spent = ap (λ (a : Account). a.spent) same in
+      let compares : mid.comparisons ≡ old.comparisons = ap (λ (a : Account). a.comparisons) same in
       grows_given (λ os. AreLast d os (contents_of list)) (LastOfTwo one other) (lasts one other list two) pass old new
-      (grows_one pass list kept old mid new (two_apart one other list two) order none is m (omega (arith, spent, two_short one other list two)) (still_within old mid spent m.more) more count e)
+      (grows_one pass list kept old mid new (two_apart one other list two) (order (two_apart one other list two)) none is compares
+      (subst HasNoRepeat (sym met)) (λ x c. inl (subst (λ m. Contains m x) met c))
+      (omega (arith, spent, two_short one other list two)) (still_within old mid spent (omega (arith, ap length met))) more count e)
 
-  -- two that are known, or for which memory is refused
-  pub two_meeting : (pass : Pass) (one other : FieldSelection) (list : List FieldSelection) (old new : Account) → IsListOf one other list → new.lists ≡ old.lists → OnlyMeets (contents_of list) old new → Grows d (LastOfTwo one other) pass old new
-  two_meeting pass one other list old new two is m = grows_given (λ os. AreLast d os (contents_of list)) (LastOfTwo one other) (lasts one other list two) pass old new (grows_meeting pass (contents_of list) old new is m)
-
-  both_apart : (xs ys : List (List PlainField)) → AreApart xs → AreApart ys → AreApart (xs ++ ys)
+  both_apart : (xs ys : List (List ReadField)) → AreApart xs → AreApart ys → AreApart (xs ++ ys)
   both_apart xs ys a b list c = elim (Contains-append_cases xs ys list c) [ inl h ↦ a list h | inr h ↦ b list h ]
 
   -- some and then others
   pub grows_on : (Given : Premise) (pass : Pass) (old mid new : Account) → Grows d Given pass old mid → Grows d Given pass mid new → Grows d Given pass old new
   grows_on Given pass old mid new first later = record {
-    added = first.added ++ later.added;
-    is = later.is ∙ ap (λ l. l ++ later.added) first.is ∙ append_assoc old.lists first.added later.added;
+    added = later.added ++ first.added;
+    is = subst (λ l. IsPermutation l new.lists) (sym (append_assoc later.added first.added old.lists))
+        (IsPermutation-trans (later.added ++ (first.added ++ old.lists)) (later.added ++ mid.lists) new.lists
+        (IsPermutation-append_right later.added (first.added ++ old.lists) mid.lists first.is) later.is);
     more = omega (arith, first.more, later.more);
-    count = omega (arith, first.count, later.count, sums (compared pass) first.added later.added);
-    apart = both_apart first.added later.added first.apart later.apart;
-    different = λ apart differ. later.different (subst AreApart (sym first.is) (both_apart old.lists first.added apart first.apart)) (first.different apart differ);
-    last = λ os given list c. elim (Contains-append_cases first.added later.added list c) [ inl a ↦ first.last os given list a | inr b ↦ later.last os given list b ];
-    paid = omega (arith, first.paid, later.paid, sums length_above_two first.added later.added);
+    count = omega (arith, first.count, later.count, sums (compared pass) later.added first.added);
+    apart = both_apart later.added first.added later.apart first.apart;
+    different = λ apart differ. later.different (apart_order (first.added ++ old.lists) mid.lists first.is (both_apart first.added old.lists first.apart apart)) (first.different apart differ);
+    last = λ os given list c. elim (Contains-append_cases later.added first.added list c) [ inl a ↦ later.last os given list a | inr b ↦ first.last os given list b ];
+    paid = omega (arith, first.paid, later.paid, sums length_above_two later.added first.added);
     within = λ h. later.within (first.within h);
     once = λ h. later.once (first.once h);
     meets = λ os given x c. elim (later.meets os given x c) [ inl a ↦ first.meets os given x a | inr b ↦ inr b ];
@@ -291,7 +293,7 @@ module _ (d : MeantDocument Place) where
 
   -- lists stay and the count never falls
   pub only_grow : (Given : Premise) (pass : Pass) (old new : Account) → Grows d Given pass old new → OnlyGrow old.lists old.comparisons new.lists new.comparisons
-  only_grow Given pass old new g = ((g.added, g.is), g.more)
+  only_grow Given pass old new g = (λ list c. Contains-permutation (g.added ++ old.lists) new.lists list g.is (Contains-append_right g.added old.lists list c), g.more)
 
   -- ---- the count
 
@@ -299,22 +301,22 @@ module _ (d : MeantDocument Place) where
     pub none_counted : IsCountedIn d os no_account
     none_counted = (
       record { bound = omega arith; different = none_differ; listed = λ list c. not_in_nil list c },
-      record { paid = omega arith; within = omega arith; once = none_twice; last = λ x c. not_in_nil x c },
+      record { paid = omega arith; within = omega arith; once = from_apart [] tt; last = λ x c. not_in_nil x c },
     )
 
     -- lists that were examined for shapes
     pub shapes_counted : (Given : Premise) → Given os → (old new : Account) → IsCountedIn d os old → Grows d Given Shapes old new → IsCountedIn d os new
     shapes_counted Given given old new (so_far, paid) more = (
       record {
-        bound = subst (λ l. new.comparisons ≤ sum (map length l)) (sym more.is) (omega (arith, so_far.bound, more.count, sums length old.lists more.added));
+        bound = omega (arith, so_far.bound, more.count, sums length more.added old.lists, sums_order length (more.added ++ old.lists) new.lists more.is);
         different = more.different (λ list c. (so_far.listed list c).apart) so_far.different;
-        listed = λ list c. elim (Contains-append_cases old.lists more.added list (subst (λ l. Contains l list) more.is c)) [
-          | inl a ↦ so_far.listed list a
-          | inr b ↦ record { apart = more.apart list b; last = more.last os given list b }
+        listed = λ list c. elim (Contains-append_cases more.added old.lists list (Contains-permutation new.lists (more.added ++ old.lists) list (IsPermutation-sym (more.added ++ old.lists) new.lists more.is) c)) [
+          | inl a ↦ record { apart = more.apart list a; last = more.last os given list a }
+          | inr b ↦ so_far.listed list b
         ];
       },
       record {
-        paid = subst (λ l. sum (map length_above_two l) ≤ new.spent) (sym more.is) (omega (arith, paid.paid, more.paid, sums length_above_two old.lists more.added));
+        paid = omega (arith, paid.paid, more.paid, sums length_above_two more.added old.lists, sums_order length_above_two (more.added ++ old.lists) new.lists more.is);
         within = more.within paid.within;
         once = more.once paid.once;
         last = λ x c. elim (more.meets os given x c) [ inl a ↦ paid.last x a | inr b ↦ b ];
@@ -322,7 +324,7 @@ module _ (d : MeantDocument Place) where
     )
 
     -- few fields are compared few times
-    module _ (all : List PlainField) (has : (x : PlainField) → IsLast d os x → Contains all x) (lists : List (List PlainField)) (met : List PlainField) (spent : ℕ) (paid : IsPaidBy d os lists met spent) where
+    module _ (all : List ReadField) (has : (x : ReadField) → IsLast d os x → Contains all x) (lists : List (List ReadField)) (met : List ReadField) (spent : ℕ) (paid : IsPaidBy d os lists met spent) where
       pub members_few : sum (map length_above_two lists) ≤ most_members (length all)
       members_few =
           let less : length met ≤ length all = no_longer met all paid.once (λ x c. has x (paid.last x c)) in
@@ -331,3 +333,21 @@ module _ (d : MeantDocument Place) where
       pub comparisons_few : (count : ℕ) → IsCountedBy d os lists count → count ≤ most_comparisons (length all)
       comparisons_few count counted =
           omega (arith, counted.bound, members_few, few lists all counted.different (λ l c. (counted.listed l c).apart) (λ l c x k. has x ((counted.listed l c).last x k)))
+
+-- ---- pairs
+
+-- so many pairs of numbers below one are remembered, at most
+pub few_pairs : (p : NumberPairs) (m : ℕ) → ((q : ℕ × ℕ) → Contains (pairs_kept p) q → (q.0 < m) × (q.1 < m)) → 2 * length (pairs_kept p) ≤ m * (m + 1)
+few_pairs p m below = kept_few p m below
+
+-- so many pairs of sets were looked at, at most, where so many sets have numbers
+pub few_looked : (w : FieldSets) (r : Remembered) (fields sets : ℕ) → IsKnown fields sets r → 2 * length (looked_in w r) ≤ sets * (sets + 1)
+few_looked w r fields sets known = omega (arith, few_pairs r.looked sets known.looked, length-map {B = List ReadSet} (pairs_kept r.looked) (λ p. map (set_content_at w) (both_in p)))
+
+-- and so many at most, whatever their numbers are
+pub looked_bounded : (r : Remembered) → length (pairs_kept r.looked) ≤ 2 ^ 126
+looked_bounded r =
+    let rows = r.looked.rows in
+    let n = length rows.items in
+    let small : n ≤ 2 ^ 63 = omega (arith, rows.small, rows.ok.0, rows.ok.1) in
+    omega (arith, few_in_any_order (pairs_kept r.looked) n (kept_once r.looked) (rows_below rows.items n refl), squares n (2 ^ 63) small)

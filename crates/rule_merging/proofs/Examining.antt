@@ -1,51 +1,52 @@
 -- The steps of an examination, from one group to all levels.
 use Rattle.std.proofs.Common.{◌≡◌, ◌⊎◌, ◌∙◌, ℕ, ◌+◌, ◌<◌, ◌≤◌, ◌==◌, Bool, true, false, List, [], ◌∷◌, ◌++◌, map, take, length, get_or, Vec, Contains, true≢false, refl, sym, ap, subst, append_assoc, append-nil, arith, inl, inr}
+use Rattle.std.specs.List.{flat_map}
+use Rattle.std.specs.List.Sorted.{IsPermutation}
 use Rattle.std.specs.declared.alloc.Global.{Global}
 use Rattle.std.proofs.lemmas.Bool.Decides.{Decides-eqb}
 use Rattle.std.proofs.lemmas.List.{map-append}
 use Rattle.std.proofs.lemmas.List.Elements.{Contains-append_left, Contains-append_right, Contains-append_cases}
 use Rattle.graphql_names.specs.Placed.{Place}
-use Rattle.schema_components.proofs.Places.{Contains-rest}
-use Rattle.rule_definitions.proofs.Lists.{not_in_nil, only, Contains-cons, Contains-first}
-use Rattle.rule_field_groups.specs.declared.below.SelectedSet.{SelectedSet}
-use Rattle.document_meaning.specs.MeantTree.{MeantSet, MeantOperation, MeantDocument}
-use Rattle.document_meaning.specs.Unplaced.{unplaced_set, unplaced_document}
-use Rattle.rule_definitions.specs.Judged.{Judged}
-use Rattle.rule_document_definitions.specs.DocumentFaults.{Broken}
-use Rattle.rule_document_definitions.specs.Selected.{StandingField}
-use Rattle.rule_document_definitions.specs.Contents.{ContentBelow, ContentStarts, unplaced_content}
-use Rattle.rule_document_definitions.specs.Merging.{MergingBreaks}
-use Rattle.rule_document_definitions.specs.Limits.{chain_bound}
-use Rattle.rule_document_definitions.proofs.Equivalences.{shape_sym, shape_trans, selection_sym, selection_trans}
-use Rattle.rule_document_definitions.proofs.MergingUnplaced.{key_up}
-use Rattle.rule_document_definitions.proofs.Unplaced.{contains_map, contains_unmap}
-use Rattle.rule_field_groups.specs.in_ground.Fields.{field_of, fields_of}
-use Rattle.rule_field_groups.specs.in_ground.declared.field_selection.FieldSelection.{FieldSelection}
-use Rattle.rule_document_definitions.specs.PlainFields.{PlainField, PlainSet, PlainBelow, PlainStarts, IsSelected}
-use Rattle.rule_document_definitions.specs.Settled.{StandIn, StartsStand, IsUnderWay}
-use Rattle.rule_field_groups.specs.Paired.{IsPairDone}
-use Rattle.rule_document_definitions.specs.Going.{IsEndOf, IsGoing}
-use Rattle.rule_document_definitions.proofs.SettledFacts.{by_head, begun, moved, ended}
-use Rattle.rule_document_definitions.proofs.GoingFacts.{going_start, going_below, end_start, end_below}
-use Rattle.rule_document_definitions.proofs.PlainFacts.{arguments_plain, selected_plain}
-use Rattle.rule_document_definitions.proofs.Merges.{going_breaks, bound_passed}
+use Rattle.rule_field_groups.proofs.in_components.Places.{Contains-rest}
+use Rattle.rule_field_groups.specs.in_meaning.MeantTree.{MeantSet, MeantOperation, MeantDocument}
+use Rattle.rule_field_groups.specs.in_definitions.Judged.{Judged}
+use Rattle.rule_field_groups.proofs.in_definitions.Lists.{not_in_nil, only, Contains-cons, Contains-first, given_in}
+use Rattle.rule_field_groups.specs.in_document_definitions.DocumentFaults.{Broken}
+use Rattle.rule_field_groups.specs.in_document_definitions.Selected.{StandingField}
+use Rattle.rule_field_groups.specs.in_document_definitions.Contents.{ContentBelow, ContentStarts}
+use Rattle.rule_field_groups.specs.in_document_definitions.Merging.{MergingBreaks}
+use Rattle.rule_field_groups.specs.in_document_definitions.Limits.{chain_bound}
+use Rattle.rule_field_groups.specs.in_document_definitions.PlainFields.{IsSelected}
+use Rattle.rule_field_groups.specs.in_document_definitions.ReadFields.{ReadField, ReadSet, list_read, field_read, fragments_read, ReadBelow, ReadStarts}
+use Rattle.rule_field_groups.specs.in_document_definitions.Settled.{StandIn, StartsStand, IsUnderWay}
+use Rattle.rule_field_groups.specs.in_document_definitions.Going.{IsEndOf, IsGoing}
+use Rattle.rule_field_groups.proofs.in_document_definitions.Equivalences.{shape_sym, shape_trans, selection_sym, selection_trans}
+use Rattle.rule_field_groups.proofs.in_document_definitions.Unplaced.{contains_map, contains_unmap}
+use Rattle.rule_field_groups.proofs.in_document_definitions.SettledFacts.{by_head, begun, moved, ended}
+use Rattle.rule_field_groups.proofs.in_document_definitions.GoingFacts.{going_start, going_below, end_start, end_below}
+use Rattle.rule_field_groups.proofs.in_document_definitions.Merges.{going_breaks, bound_passed}
+use Rattle.rule_number_lists.specs.NumberLists.{HaveSame}
+use Rattle.rule_number_lists.proofs.Standing.{same_sym, same_order}
+use Rattle.rule_field_groups.specs.in_sets.declared.member.Member.{Member}
+use Rattle.rule_field_groups.specs.in_sets.declared.field_sets.FieldSets.{FieldSets}
 use Rattle.rule_field_groups.specs.declared.pass.Pass.{Pass}
 use Rattle.rule_field_groups.specs.declared.pass.Pass.TheVariants.{Shapes, Selections}
-use Rattle.rule_field_groups.specs.Passes.{Together, Agree, Conflict, TellsEach}
-use Rattle.rule_field_groups.specs.Under.{Sets, all_sets, AreOf, HaveBoth, AreListsBelow}
-use Rattle.rule_field_groups.specs.Below.{contents_of, meant_sets, plain_sets, IsMergedIn}
+use Rattle.rule_field_groups.specs.Members.{field_of, fields_of, contents_of, meant_sets, read_sets, AreMembersOf}
+use Rattle.rule_field_groups.specs.Passes.{Together, Agree, Conflict, ReadTogether, ReadAgree, TellsEach}
+use Rattle.rule_merging.specs.Paired.{IsPairDone}
+use Rattle.rule_field_groups.specs.Under.{Sets, all_sets, AreOf, HaveBoth, AreListsBelow, IsGroupOf}
+use Rattle.rule_field_groups.specs.Below.{IsMergedIn, IsPartOfMergedIn}
 use Rattle.rule_field_groups.specs.declared.groups.KeyGroup.{KeyGroup}
-use Rattle.rule_field_groups.specs.KeyGroups.{parts_of, parts_in}
+use Rattle.rule_field_groups.specs.Grouped.{ArePartsOf}
+use Rattle.rule_field_groups.specs.KeyGroups.{parts_of, parts_in, lists_in_group}
+use Rattle.rule_field_groups.specs.Remembered.{Kept, nothing_kept, HasLooked, Remembers, Expands}
+use Rattle.rule_field_groups.specs.Pairs.{each_with, AreTwosOf}
+use Rattle.rule_merging.specs.Examined.{all_read, StandTogether, ReadOwn, ReadSelected, ReadSpreads, AreLookedAt, IsLeft, AllStand, PairsAreDone, AreSettled, AreUnderWay, HaveFields, IsFresh, GroupsExamined, ListExamined, SetsExamined, AllExamined}
 use Rattle.rule_field_groups.proofs.Counts.{flat_push}
+use Rattle.rule_field_groups.proofs.Filing.{of_filter}
 use Rattle.rule_field_groups.proofs.Lists.{taken_more}
-use Rattle.rule_merging.proofs.Bare.{IsIn, bare_selects, bare_plain}
-use Rattle.rule_number_lists.specs.NumberLists.{HaveSame}
-use Rattle.rule_number_lists.proofs.Standing.{same_sym}
-use Rattle.rule_field_groups.specs.Own.{Source, unplaced_source}
-use Rattle.rule_merging.specs.Remembered.{Kept, PlainSource, plain_sources, nothing_kept, HasLooked}
-use Rattle.rule_merging.specs.Pairs.{each_with}
-use Rattle.rule_merging.proofs.Remembering.{Expands}
-use Rattle.rule_merging.specs.Examined.{Sources, all_plain, StandTogether, PlainOwn, PlainSelected, PlainSpreads, AreLookedAt, IsLeft, AllStand, PairsAreDone, AreSettled, AreUnderWay, HaveFields, IsFresh, GroupsExamined, ListExamined, SetsExamined, AreTwosOf, AllExamined}
+use Rattle.rule_merging.proofs.Bare.{IsIn, bare_reads}
+use Rattle.rule_merging.proofs.Passing.{together_read, agree_read, selects_listed, reads_selected}
 
 -- ---- lists
 
@@ -65,12 +66,18 @@ in_last xs x = Contains-append_right xs (x ∷ []) x (Contains-first x [] x refl
 abbrev pub items_in : {X : Type 0} → Vec X Global → List X
 items_in v = v.items
 
-abbrev pub sets_at : Vec SelectedSet Global → Sets
-sets_at v = meant_sets v.items
+-- the sets of nodes
+abbrev pub sets_at : FieldSets → Vec ℕ Global → Sets
+sets_at w v = meant_sets w v.items
 
 -- lists of sets behind others
-pub sets_appended : (old more new : List (Vec SelectedSet Global)) → new ≡ old ++ more → all_sets (map items_in new) ≡ all_sets (map items_in old) ++ all_sets (map items_in more)
-sets_appended old more new is = ap (λ l. all_sets (map items_in l)) is ∙ ap all_sets (map-append items_in old more) ∙ map-append meant_sets (map items_in old) (map items_in more)
+pub sets_appended : (w : FieldSets) (old more new : List (Vec ℕ Global)) → new ≡ old ++ more → all_sets w (map items_in new) ≡ all_sets w (map items_in old) ++ all_sets w (map items_in more)
+sets_appended w old more new is = ap (λ l. all_sets w (map items_in l)) is ∙ ap (all_sets w) (map-append items_in old more) ∙ map-append (meant_sets w) (map items_in old) (map items_in more)
+
+-- list by list
+pub as_sets : (w : FieldSets) (lists : List (Vec ℕ Global)) → map (sets_at w) lists ≡ all_sets w (map items_in lists)
+as_sets w [] = refl
+as_sets w (v ∷ vs) = ap (λ l. sets_at w v ∷ l) (as_sets w vs)
 
 -- the front with the next one
 pub front_more : {X Y : Type 0} (f : X → Y) (xs : List X) (i : ℕ) (x : X) → i < length xs → x ≡ get_or xs i x → map f (take (i + 1) xs) ≡ map f (take i xs) ++ f x ∷ []
@@ -80,6 +87,12 @@ front_more f xs i x h e = ap (map f) (taken_more xs i x h e) ∙ map-append f (t
 pub parts_more : (xs : List KeyGroup) (i : ℕ) (x : KeyGroup) → i < length xs → x ≡ get_or xs i x → map fields_of (parts_in (take (i + 1) xs)) ≡ map fields_of (parts_in (take i xs)) ++ map fields_of (parts_of x)
 parts_more xs i x h e =
     ap (λ l. map fields_of (parts_in l)) (taken_more xs i x h e) ∙ ap (map fields_of) (flat_push parts_of (take i xs) x) ∙ map-append fields_of (parts_in (take i xs)) (parts_of x)
+
+-- what stands in a group stands in the list
+pub group_members : (w : FieldSets) (list : List Member) (groups : List KeyGroup) (group : KeyGroup) → AreMembersOf w list → ArePartsOf list (flat_map lists_in_group groups) → Contains groups group → IsGroupOf w group
+group_members w list groups group are parts there part c m k =
+    let p = parts part (given_in lists_in_group part groups group there c) in
+    are m (of_filter p.0 list m (subst (λ l. Contains l m) p.1 k)).0
 
 no_items : {X : Type 0} (xs : List X) → length xs ≡ 0 → xs ≡ []
 no_items [] e = refl
@@ -106,15 +119,6 @@ agree_trans : {P : Type 0} (pass : Pass) (s : Judged) (f g k : StandingField P) 
 agree_trans Shapes s = shape_trans s
 agree_trans Selections s = selection_trans
 
--- fields go together where they do without places, and agree without places where they agree
-pub together_up : (pass : Pass) (s : Judged) (f g : StandingField Place) → Together pass s (unplaced_content f) (unplaced_content g) → Together pass s f g
-together_up Shapes s f g t = key_up f g t
-together_up Selections s f g t = (key_up f g t.0, t.1)
-
-agree_down : (pass : Pass) (s : Judged) (f g : StandingField Place) → Agree pass s f g → Agree pass s (unplaced_content f) (unplaced_content g)
-agree_down Shapes s f g a = a
-agree_down Selections s f g a = (a.0, arguments_plain f.head.arguments g.head.arguments a.1)
-
 -- before the first operation
 pub nothing_settled : (pass : Pass) (s : Judged) (d : MeantDocument Place) (kept : Kept) → kept ≡ nothing_kept → AreSettled d pass s kept
 nothing_settled pass s d kept e = subst (AreSettled d pass s) (sym e) (record {
@@ -123,7 +127,7 @@ nothing_settled pass s d kept e = subst (AreSettled d pass s) (sym e) (record {
   pairs = λ a b h. not_in_nil h.0 h.1.0;
 })
   where
-    none : {X : Type 0} (f g : PlainField) → StandIn [] f g → X
+    none : {X : Type 0} (f g : ReadField) → StandIn [] f g → X
     none f g h = not_in_nil h.0 h.1.0
 
 -- ---- two sets in one list
@@ -138,6 +142,16 @@ both_on next later f g on (inr (inr (sets, (c, both)))) = inr (inr (sets, (on se
 abbrev pub HasMore : {X : Type 0} → List X → List X → Type 0
 HasMore {X} old new = (x : X) → Contains old x → Contains new x
 
+-- one more is there, in whatever order
+pub more_there : {X : Type 0} (x : X) (old new : List X) → IsPermutation (x ∷ old) new → HasMore old new
+more_there x old new order l c = (same_order (x ∷ old) new order l).0 (Contains-rest x old l c)
+
+pub one_there : {X : Type 0} (x : X) (old new : List X) → IsPermutation (x ∷ old) new → Contains new x
+one_there x old new order = (same_order (x ∷ old) new order x).0 (Contains-first x old x refl)
+
+pub there_before : {X : Type 0} (x : X) (old new : List X) → IsPermutation (x ∷ old) new → (y : X) → Contains new y → (x ≡ y) ⊎ Contains old y
+there_before x old new order y c = Contains-cons x old y ((same_order (x ∷ old) new order y).1 c)
+
 -- ---- two by two
 
 pub swapped : {X : Type 0} (a b : X) → HaveSame (a ∷ b ∷ []) (b ∷ a ∷ [])
@@ -149,11 +163,11 @@ swapped {X} a b x = (turn a b, turn b a)
       | inr r ↦ Contains-first d (c ∷ []) x (sym (only d x r))
     ]
 
--- without places too
-pub same_plain : (xs ys : Sources) → HaveSame xs ys → HaveSame (plain_sources xs) (plain_sources ys)
-same_plain xs ys same x = (
-  λ c. let v = contains_unmap unplaced_source xs x c in subst (Contains (plain_sources ys)) v.1.1 (contains_map unplaced_source ys v.0 ((same v.0).0 v.1.0)),
-  λ c. let v = contains_unmap unplaced_source ys x c in subst (Contains (plain_sources xs)) v.1.1 (contains_map unplaced_source xs v.0 ((same v.0).1 v.1.0)),
+-- what is read of them too
+pub same_read : (xs ys : Sets) → HaveSame xs ys → HaveSame (read_sets xs) (read_sets ys)
+same_read xs ys same x = (
+  λ c. let v = contains_unmap list_read xs x c in subst (Contains (read_sets ys)) v.1.1 (contains_map list_read ys v.0 ((same v.0).0 v.1.0)),
+  λ c. let v = contains_unmap list_read ys x c in subst (Contains (read_sets xs)) v.1.1 (contains_map list_read xs v.0 ((same v.0).1 v.1.0)),
 )
 
 -- a list of what is nowhere
@@ -164,13 +178,13 @@ none_in (x ∷ xs) none = absurd (not_in_nil x (none x (Contains-first x xs x re
 pub no_twos : AreTwosOf [] []
 no_twos = record { within = λ two c. not_in_nil two c; covers = λ v w a. not_in_nil v a }
 
-pub twos_more : (front : Sources) (v : Source Place) (twos : List Sources) → AreTwosOf front twos → AreTwosOf (front ++ v ∷ []) (twos ++ each_with (front ++ v ∷ []) v)
+pub twos_more : (front : Sets) (v : MeantSet Place) (twos : List Sets) → AreTwosOf front twos → AreTwosOf (front ++ v ∷ []) (twos ++ each_with (front ++ v ∷ []) v)
 twos_more front v twos are = record {
   within = λ two c w k. elim (Contains-append_cases twos (each_with (front ++ v ∷ []) v) two c) [
     | inl a ↦ Contains-append_left front (v ∷ []) w (are.within two a w k)
     | inr b ↦
-        let u = contains_unmap (λ (x : Source Place). x ∷ v ∷ []) (front ++ v ∷ []) two b in
-        elim (Contains-cons u.0 (v ∷ []) w (subst (λ (l : Sources). Contains l w) (sym u.1.1) k)) [
+        let u = contains_unmap (λ (x : MeantSet Place). x ∷ v ∷ []) (front ++ v ∷ []) two b in
+        elim (Contains-cons u.0 (v ∷ []) w (subst (λ (l : Sets). Contains l w) (sym u.1.1) k)) [
           | inl e ↦ subst (Contains (front ++ v ∷ [])) e u.1.0
           | inr r ↦ subst (Contains (front ++ v ∷ [])) (sym (only v w r)) (in_last front v)
         ]
@@ -178,14 +192,14 @@ twos_more front v twos are = record {
   covers = λ x y a b. elim (Contains-append_cases front (v ∷ []) x a) [
     | inl i ↦ elim (Contains-append_cases front (v ∷ []) y b) [
       | inl j ↦ let two = are.covers x y i j in (two.0, (Contains-append_left twos (each_with (front ++ v ∷ []) v) two.0 two.1.0, two.1.1))
-      | inr j ↦ (x ∷ v ∷ [], (with_last x a, subst (λ (z : Source Place). HaveSame (x ∷ v ∷ []) (x ∷ z ∷ [])) (sym (only v y j)) (λ z. (λ c. c, λ c. c))))
+      | inr j ↦ (x ∷ v ∷ [], (with_last x a, subst (λ (z : MeantSet Place). HaveSame (x ∷ v ∷ []) (x ∷ z ∷ [])) (sym (only v y j)) (λ z. (λ c. c, λ c. c))))
     ]
-    | inr i ↦ (y ∷ v ∷ [], (with_last y b, subst (λ (z : Source Place). HaveSame (y ∷ v ∷ []) (z ∷ y ∷ [])) (sym (only v x i)) (swapped y v)))
+    | inr i ↦ (y ∷ v ∷ [], (with_last y b, subst (λ (z : MeantSet Place). HaveSame (y ∷ v ∷ []) (z ∷ y ∷ [])) (sym (only v x i)) (swapped y v)))
   ];
 }
   where
-    with_last : (x : Source Place) → Contains (front ++ v ∷ []) x → Contains (twos ++ each_with (front ++ v ∷ []) v) (x ∷ v ∷ [])
-    with_last x a = Contains-append_right twos (each_with (front ++ v ∷ []) v) (x ∷ v ∷ []) (contains_map (λ (w : Source Place). w ∷ v ∷ []) (front ++ v ∷ []) x a)
+    with_last : (x : MeantSet Place) → Contains (front ++ v ∷ []) x → Contains (twos ++ each_with (front ++ v ∷ []) v) (x ∷ v ∷ [])
+    with_last x a = Contains-append_right twos (each_with (front ++ v ∷ []) v) (x ∷ v ∷ []) (contains_map (λ (w : MeantSet Place). w ∷ v ∷ []) (front ++ v ∷ []) x a)
 
 module _ (pass : Pass) (s : Judged) (d : MeantDocument Place) where
   -- ---- groups
@@ -243,77 +257,77 @@ module _ (pass : Pass) (s : Judged) (d : MeantDocument Place) where
   -- ---- what sets select
 
   -- what stood in lists does so with more of them
-  pub stand_more : (old new : List (List PlainField)) → HasMore old new → (x y : PlainField) → StandIn old x y → StandIn new x y
+  pub stand_more : (old new : List (List ReadField)) → HasMore old new → (x y : ReadField) → StandIn old x y → StandIn new x y
   stand_more old new more x y h = (h.0, (more h.0 h.1.0, h.1.1))
 
-  pub together_more : (old new : List (List PlainField)) → HasMore old new → (x y : PlainField) → StandTogether pass s old x y → StandTogether pass s new x y
+  pub together_more : (old new : List (List ReadField)) → HasMore old new → (x y : ReadField) → StandTogether pass s old x y → StandTogether pass s new x y
   together_more old new more x y h t = stand_more old new more x y (h t)
 
   -- what stands in more lists stood before, or is fresh
-  pub moved_lists : (o : MeantOperation Place) (Left Later : PlainField → PlainField → Type 0) (old new : List (List PlainField)) → HasMore old new
-      → ((f g : PlainField) → Left f g → StandTogether pass s new f g ⊎ Later f g)
-      → ((f g : PlainField) → StandIn new f g → StandIn old f g ⊎ (Together pass s f g → Agree pass s f g × ((x y : PlainField) → PlainBelow d f x → PlainBelow d g y → Later x y)))
-      → IsUnderWay (PlainBelow d) (Together pass s) (Agree pass s) (PlainStarts d o) Left (StandTogether pass s old)
-      → IsUnderWay (PlainBelow d) (Together pass s) (Agree pass s) (PlainStarts d o) Later (StandTogether pass s new)
+  pub moved_lists : (o : MeantOperation Place) (Left Later : ReadField → ReadField → Type 0) (old new : List (List ReadField)) → HasMore old new
+      → ((f g : ReadField) → Left f g → StandTogether pass s new f g ⊎ Later f g)
+      → ((f g : ReadField) → StandIn new f g → StandIn old f g ⊎ (ReadTogether pass s f g → ReadAgree pass s f g × ((x y : ReadField) → ReadBelow d f x → ReadBelow d g y → Later x y)))
+      → IsUnderWay (ReadBelow d) (ReadTogether pass s) (ReadAgree pass s) (ReadStarts d o) Left (StandTogether pass s old)
+      → IsUnderWay (ReadBelow d) (ReadTogether pass s) (ReadAgree pass s) (ReadStarts d o) Later (StandTogether pass s new)
   moved_lists o Left Later old new keeps left fresh ok = record {
     start = λ f g a b. on f g (ok.start f g a b);
     agree = λ f g h t. elim (fresh f g (h t)) [ inl was ↦ ok.agree f g (λ u. was) t | inr now ↦ (now t).0 ];
     below = λ f g x y h t a b. elim (fresh f g (h t)) [ inl was ↦ on x y (ok.below f g x y (λ u. was) t a b) | inr now ↦ inr ((now t).1 x y a b) ];
   }
     where
-      on : (f g : PlainField) → StandTogether pass s old f g ⊎ Left f g → StandTogether pass s new f g ⊎ Later f g
+      on : (f g : ReadField) → StandTogether pass s old f g ⊎ Left f g → StandTogether pass s new f g ⊎ Later f g
       on f g (inl h) = inl (together_more old new keeps f g h)
       on f g (inr h) = left f g h
 
-  -- all that the sets select, without places, is in the list
-  in_merged : (sets : Sets) (list : List FieldSelection) → IsMergedIn d sets list → (x : PlainField) → PlainSelected d (plain_sets sets) x → Contains (contents_of list) x
-  in_merged sets list merged x h = let e = selected_plain d sets x h in subst (Contains (contents_of list)) e.1.1 (merged.covers e.0 e.1.0)
+  -- what is read as selected by the sets is in the list
+  pub in_merged : (sets : Sets) (list : List Member) → IsMergedIn d sets list → (x : ReadField) → ReadSelected d (read_sets sets) x → Contains (contents_of list) x
+  in_merged sets list merged x h = let e = reads_selected d sets x h in subst (Contains (contents_of list)) e.1.1 (merged.covers e.0 e.1.0)
 
   -- any two that the sets select stand in one of the lists, if they go together
-  abbrev pub SetsStand : Sets → List (List PlainField) → Type 0
-  SetsStand sets lists = (x y : PlainField) → PlainSelected d (plain_sets sets) x → PlainSelected d (plain_sets sets) y → StandTogether pass s lists x y
+  abbrev pub SetsStand : Sets → List (List ReadField) → Type 0
+  SetsStand sets lists = (x y : ReadField) → ReadSelected d (read_sets sets) x → ReadSelected d (read_sets sets) y → StandTogether pass s lists x y
 
   -- a list of sets is left no more, whose fields stand
   abbrev Settles : Kept → Kept → List Sets → List Sets → Type 0
-  Settles old new lists next = (o : MeantOperation Place) (left : List (List PlainSet))
-      → AreUnderWay d pass s o [] (all_plain lists ++ left) old → AreUnderWay d pass s o [] (left ++ all_plain next) new × AllStand d pass s (all_plain lists) new.lists
+  Settles old new lists next = (o : MeantOperation Place) (left : List (List ReadSet))
+      → AreUnderWay d pass s o [] (all_read lists ++ left) old → AreUnderWay d pass s o [] (left ++ all_read next) new × AllStand d pass s (all_read lists) new.lists
 
-  pub all_of_one : (sets : Sets) (lists : List (List PlainField)) → SetsStand sets lists → AllStand d pass s (all_plain (sets ∷ [])) lists
+  pub all_of_one : (sets : Sets) (lists : List (List ReadField)) → SetsStand sets lists → AllStand d pass s (all_read (sets ∷ [])) lists
   all_of_one sets lists stand vs c x y a b =
-      let same = only (plain_sets sets) vs c in
-      stand x y (subst (λ (l : List PlainSet). PlainSelected d l x) same a) (subst (λ (l : List PlainSet). PlainSelected d l y) same b)
+      let same = only (read_sets sets) vs c in
+      stand x y (subst (λ (l : List ReadSet). ReadSelected d l x) same a) (subst (λ (l : List ReadSet). ReadSelected d l y) same b)
 
   -- the first list is left no more, and what is left later has all others
-  left_on : (sets : Sets) (left later : List (List PlainSet)) (lists : List (List PlainField)) → SetsStand sets lists → HasMore left later
-      → (x y : PlainField) → IsLeft d (plain_sets sets ∷ left) x y → StandTogether pass s lists x y ⊎ IsLeft d later x y
-  left_on sets left later lists stand on x y h = elim (Contains-cons (plain_sets sets) left h.0 h.1.0) [
-    | inl e ↦ inl (stand x y (subst (λ (l : List PlainSet). PlainSelected d l x) (sym e) h.1.1.0) (subst (λ (l : List PlainSet). PlainSelected d l y) (sym e) h.1.1.1))
+  pub left_on : (sets : Sets) (left later : List (List ReadSet)) (lists : List (List ReadField)) → SetsStand sets lists → HasMore left later
+      → (x y : ReadField) → IsLeft d (read_sets sets ∷ left) x y → StandTogether pass s lists x y ⊎ IsLeft d later x y
+  left_on sets left later lists stand on x y h = elim (Contains-cons (read_sets sets) left h.0 h.1.0) [
+    | inl e ↦ inl (stand x y (subst (λ (l : List ReadSet). ReadSelected d l x) (sym e) h.1.1.0) (subst (λ (l : List ReadSet). ReadSelected d l y) (sym e) h.1.1.1))
     | inr r ↦ inr (h.0, (on h.0 r, h.1.1))
   ]
 
-  pub left_wider : (left later : List (List PlainSet)) → HasMore left later → (x y : PlainField) → IsLeft d left x y → IsLeft d later x y
+  pub left_wider : (left later : List (List ReadSet)) → HasMore left later → (x y : ReadField) → IsLeft d left x y → IsLeft d later x y
   left_wider left later on x y h = (h.0, (on h.0 h.1.0, h.1.1))
 
-  pub dropped : (sets : Sets) (kept : Kept) → SetsStand sets kept.lists → (o : MeantOperation Place) (left : List (List PlainSet)) → AreUnderWay d pass s o [] (plain_sets sets ∷ left) kept → AreUnderWay d pass s o [] left kept
+  pub dropped : (sets : Sets) (kept : Kept) → SetsStand sets kept.lists → (o : MeantOperation Place) (left : List (List ReadSet)) → AreUnderWay d pass s o [] (read_sets sets ∷ left) kept → AreUnderWay d pass s o [] left kept
   dropped sets kept stand o left under = record {
-    fields = moved (PlainBelow d) (Together pass s) (Agree pass s) (PlainStarts d o) (IsLeft d (plain_sets sets ∷ left)) (IsLeft d left) (StandTogether pass s kept.lists) (StandTogether pass s kept.lists)
+    fields = moved (ReadBelow d) (ReadTogether pass s) (ReadAgree pass s) (ReadStarts d o) (IsLeft d (read_sets sets ∷ left)) (IsLeft d left) (StandTogether pass s kept.lists) (StandTogether pass s kept.lists)
         (λ f g h. h) (left_on sets left left kept.lists stand (λ l c. c)) (λ f g h. inl h) under.fields;
     sets = under.sets;
     pairs = under.pairs;
   }
 
-  dropped_last : (sets : Sets) (kept : Kept) → SetsStand sets kept.lists → (o : MeantOperation Place) (left : List (List PlainSet)) → AreUnderWay d pass s o [] (plain_sets sets ∷ left) kept → AreUnderWay d pass s o [] (left ++ []) kept
+  dropped_last : (sets : Sets) (kept : Kept) → SetsStand sets kept.lists → (o : MeantOperation Place) (left : List (List ReadSet)) → AreUnderWay d pass s o [] (read_sets sets ∷ left) kept → AreUnderWay d pass s o [] (left ++ []) kept
   dropped_last sets kept stand o left under = subst (λ l. AreUnderWay d pass s o [] l kept) (sym (append-nil left)) (dropped sets kept stand o left under)
 
   -- ---- pairs that are done
 
-  abbrev pub DoneIn : Kept → PlainSource → PlainSource → Type 0
-  DoneIn kept a b = IsPairDone (PlainOwn d) (PlainSpreads d) (Together pass s) (StandIn kept.lists) (AreLookedAt kept.looked) a b
+  abbrev pub DoneIn : Kept → ReadSet → ReadSet → Type 0
+  DoneIn kept a b = IsPairDone (ReadOwn d) (ReadSpreads d) (ReadTogether pass s) (StandIn kept.lists) (AreLookedAt kept.looked) a b
 
-  pub looked_more : (old new : List (List PlainSource)) → HasMore old new → (a b : PlainSource) → AreLookedAt old a b → AreLookedAt new a b
+  pub looked_more : (old new : List (List ReadSet)) → HasMore old new → (a b : ReadSet) → AreLookedAt old a b → AreLookedAt new a b
   looked_more old new more a b h = (h.0, (more h.0 h.1.0, h.1.1))
 
-  pub done_more : (old new : Kept) → HasMore old.lists new.lists → HasMore old.looked new.looked → (a b : PlainSource) → DoneIn old a b → DoneIn new a b
+  pub done_more : (old new : Kept) → HasMore old.lists new.lists → HasMore old.looked new.looked → (a b : ReadSet) → DoneIn old a b → DoneIn new a b
   done_more old new lists looked a b h = record {
     own = λ x y p q t. stand_more old.lists new.lists lists x y (h.own x y p q t);
     one = λ c k. looked_more old.looked new.looked looked c b (h.one c k);
@@ -321,70 +335,76 @@ module _ (pass : Pass) (s : Judged) (d : MeantDocument Place) where
   }
 
   -- with more lists
-  pub pairs_stay : (twos : List (List PlainSource)) (old : Kept) (lists : List (List PlainField)) → HasMore old.lists lists → PairsAreDone d pass s twos old → PairsAreDone d pass s twos (record old { lists = lists })
+  pub pairs_stay : (twos : List (List ReadSet)) (old : Kept) (lists : List (List ReadField)) → HasMore old.lists lists → PairsAreDone d pass s twos old → PairsAreDone d pass s twos (record old { lists = lists })
   pairs_stay twos old lists more ok a b h = elim (ok a b h) [ inl left ↦ inl left | inr done ↦ inr (done_more old (record old { lists = lists }) more (λ l c. c) a b done) ]
 
   -- ---- a list of fields
 
-  module _ (list : List FieldSelection) (next : List Sets) (h : ListExamined pass s d list [] next) where
+  module _ (list : List Member) (next : List Sets) (h : ListExamined pass s d list [] next) where
     -- their sets are in one of the next lists
-    below_both : (f g : StandingField Place) → HaveBoth next f g → (x y : PlainField) → PlainBelow d (unplaced_content f) x → PlainBelow d (unplaced_content g) y → IsLeft d (all_plain next) x y
-    below_both f g (inl bare) x y a b = absurd (bare_selects (unplaced_document d) (unplaced_set f.set) (bare_plain f.set bare) x a)
-    below_both f g (inr (inl bare)) x y a b = absurd (bare_selects (unplaced_document d) (unplaced_set g.set) (bare_plain g.set bare) y b)
-    below_both f g (inr (inr (vs, (c, (v, w))))) x y a b = (plain_sets vs, (contains_map plain_sets next vs c, ((unplaced_set f.set, (v, a)), (unplaced_set g.set, (w, b)))))
+    below_both : (f g : StandingField Place) → HaveBoth next f g → (x y : ReadField) → ReadBelow d (field_read f) x → ReadBelow d (field_read g) y → IsLeft d (all_read next) x y
+    below_both f g (inl bare) x y a b = absurd (bare_reads (fragments_read d) f.set bare x a)
+    below_both f g (inr (inl bare)) x y a b = absurd (bare_reads (fragments_read d) g.set bare y b)
+    below_both f g (inr (inr (vs, (c, (v, w))))) x y a b = (
+      read_sets vs,
+      (
+        contains_map read_sets next vs c,
+        ((list_read f.set, (v, (selects_listed (fragments_read d) f.set x).0 a)), (list_read g.set, (w, (selects_listed (fragments_read d) g.set y).0 b))),
+      ),
+    )
 
     -- what is told of two of its fields that go together
-    abbrev IsTwoFresh : PlainField → PlainField → Type 0
-    IsTwoFresh x y = Together pass s x y → Agree pass s x y × ((u v : PlainField) → PlainBelow d x u → PlainBelow d y v → IsLeft d (all_plain next) u v)
+    abbrev IsTwoFresh : ReadField → ReadField → Type 0
+    IsTwoFresh x y = ReadTogether pass s x y → ReadAgree pass s x y × ((u v : ReadField) → ReadBelow d x u → ReadBelow d y v → IsLeft d (all_read next) u v)
 
-    fresh_fields : (f g : StandingField Place) → Contains (fields_of list) f → Contains (fields_of list) g → IsTwoFresh (unplaced_content f) (unplaced_content g)
+    fresh_fields : (f g : StandingField Place) → Contains (fields_of list) f → Contains (fields_of list) g → IsTwoFresh (field_read f) (field_read g)
     fresh_fields f g in_f in_g t =
-        let shared = h.are.covered f g in_f in_g (together_up pass s f g t) in (
-          agree_down pass s f g (by_head (ContentBelow d) (Together pass s) (Agree pass s) (agree_sym pass s) (agree_trans pass s) shared.0 f g (h.examined.agree refl shared.0 shared.1.0) shared.1.1.0 shared.1.1.1),
+        let shared = h.are.covered f g in_f in_g ((together_read pass s f g).1 t) in (
+          (agree_read pass s f g).0 (by_head (ContentBelow d) (Together pass s) (Agree pass s) (agree_sym pass s) (agree_trans pass s) shared.0 f g (h.examined.agree refl shared.0 shared.1.0) shared.1.1.0 shared.1.1.1),
           below_both f g (h.examined.below shared.0 shared.1.0 f g shared.1.1.0 shared.1.1.1),
         )
 
     -- where nothing is told, it is fresh, in whatever order it is kept
-    pub list_fresh : (kept : List PlainField) → HaveSame (contents_of list) kept → IsFresh pass s d (all_plain next) kept
+    pub list_fresh : (kept : List ReadField) → HaveSame (contents_of list) kept → IsFresh pass s d (all_read next) kept
     list_fresh kept same x y a b =
-        let f = contains_unmap unplaced_content (fields_of list) x ((same x).1 a) in
-        let g = contains_unmap unplaced_content (fields_of list) y ((same y).1 b) in
-        subst (λ v. IsTwoFresh v y) f.1.1 (subst (IsTwoFresh (unplaced_content f.0)) g.1.1 (fresh_fields f.0 g.0 f.1.0 g.1.0))
+        let f = contains_unmap field_read (fields_of list) x ((same x).1 a) in
+        let g = contains_unmap field_read (fields_of list) y ((same y).1 b) in
+        subst (λ v. IsTwoFresh v y) f.1.1 (subst (IsTwoFresh (field_read f.0)) g.1.1 (fresh_fields f.0 g.0 f.1.0 g.1.0))
 
   -- ---- a list of fields that is new
 
-  module _ (sets : Sets) (list : List FieldSelection) (kept : List PlainField) (next : List Sets) (old : Kept) (merged : IsMergedIn d sets list) (same : HaveSame (contents_of list) kept)
-      (h : ListExamined pass s d list [] next) where
-    abbrev lists_now : List (List PlainField)
-    lists_now = old.lists ++ kept ∷ []
-
-    stand_selected : SetsStand sets lists_now
-    stand_selected x y a b t = (kept, (in_last old.lists kept, ((same x).0 (in_merged sets list merged x a), (same y).0 (in_merged sets list merged y b))))
-
-    more_here : HasMore old.lists lists_now
-    more_here l c = Contains-append_left old.lists (kept ∷ []) l c
-
-    new_settles : Settles old (record old { lists = lists_now }) (sets ∷ []) next
-    new_settles o left under = (
-      record {
-        fields = moved_lists o (IsLeft d (plain_sets sets ∷ left)) (IsLeft d (left ++ all_plain next)) old.lists lists_now more_here
-            (left_on sets left (left ++ all_plain next) lists_now stand_selected (λ l c. Contains-append_left left (all_plain next) l c))
-            (λ f g k. elim (Contains-append_cases old.lists (kept ∷ []) k.0 k.1.0) [
-              | inl a ↦ inl (k.0, (a, k.1.1))
-              | inr b ↦ inr (λ t.
-                  let now = list_fresh list next h kept same f g (subst (λ (l : List PlainField). Contains l f) (only kept k.0 b) k.1.1.0) (subst (λ (l : List PlainField). Contains l g) (only kept k.0 b) k.1.1.1) t in
-                  (now.0, λ x y p q. left_wider (all_plain next) (left ++ all_plain next) (λ l c. Contains-append_right left (all_plain next) l c) x y (now.1 x y p q)))
-            ])
-            under.fields;
-        sets = λ vs c x y a b. together_more old.lists lists_now more_here x y (under.sets vs c x y a b);
-        pairs = pairs_stay [] old lists_now more_here under.pairs;
-      },
-      all_of_one sets lists_now stand_selected,
+  module _ (sets : Sets) (list : List Member) (kept : List ReadField) (next : List Sets) (old : Kept) (now : List (List ReadField)) (merged : IsMergedIn d sets list) (same : HaveSame (contents_of list) kept)
+      (order : IsPermutation (kept ∷ old.lists) now) (h : ListExamined pass s d list [] next) where
+    stand_selected : SetsStand sets now
+    stand_selected x y a b t = (
+      kept,
+      (
+        one_there kept old.lists now order,
+        ((same x).0 (in_merged sets list merged x a), (same y).0 (in_merged sets list merged y b)),
+      ),
     )
 
-  pub new_fields : (sets : Sets) (list : List FieldSelection) (kept : List PlainField) (added : List (Broken Place)) (next : List Sets) (old new : Kept) → IsMergedIn d sets list → HaveSame (contents_of list) kept
-      → ListExamined pass s d list added next → new ≡ record old { lists = old.lists ++ kept ∷ [] } → SetsExamined pass s d (sets ∷ []) old new added next
-  new_fields sets list kept added next old new merged same h is = record {
+    new_settles : Settles old (record old { lists = now }) (sets ∷ []) next
+    new_settles o left under = (
+      record {
+        fields = moved_lists o (IsLeft d (read_sets sets ∷ left)) (IsLeft d (left ++ all_read next)) old.lists now (more_there kept old.lists now order)
+            (left_on sets left (left ++ all_read next) now stand_selected (λ l c. Contains-append_left left (all_read next) l c))
+            (λ f g k. elim (there_before kept old.lists now order k.0 k.1.0) [
+              | inl e ↦ inr (λ t.
+                  let fresh = list_fresh list next h kept same f g (subst (λ (l : List ReadField). Contains l f) (sym e) k.1.1.0) (subst (λ (l : List ReadField). Contains l g) (sym e) k.1.1.1) t in
+                  (fresh.0, λ x y p q. left_wider (all_read next) (left ++ all_read next) (λ l c. Contains-append_right left (all_read next) l c) x y (fresh.1 x y p q)))
+              | inr r ↦ inl (k.0, (r, k.1.1))
+            ])
+            under.fields;
+        sets = λ vs c x y a b. together_more old.lists now (more_there kept old.lists now order) x y (under.sets vs c x y a b);
+        pairs = pairs_stay [] old now (more_there kept old.lists now order) under.pairs;
+      },
+      all_of_one sets now stand_selected,
+    )
+
+  pub new_fields : (sets : Sets) (list : List Member) (kept : List ReadField) (added : List (Broken Place)) (next : List Sets) (old new : Kept) → IsMergedIn d sets list → HaveSame (contents_of list) kept
+      → ListExamined pass s d list added next → IsPermutation (kept ∷ old.lists) new.lists → new ≡ record old { lists = new.lists } → SetsExamined pass s d (sets ∷ []) old new added next
+  new_fields sets list kept added next old new merged same h order is = record {
     right = λ fault c.
         let t = h.examined.right fault c in
         let w = h.are.within t.0 t.1.1.0 t.1.1.1.0 t.1.0 t.1.1.1.1.0 t.1.1.1.1.1.0 in
@@ -393,58 +413,66 @@ module _ (pass : Pass) (s : Judged) (d : MeantDocument Place) where
     under = λ vs c.
         let u = h.examined.under vs c in
         (sets, (Contains-first sets [] sets refl, (u.0, ((λ f g a b. let w = h.are.within u.0 f g u.1.0 a b in (merged.within f w.0, w.1)), u.1.1))));
-    more = λ l c. subst (λ (k : Kept). Contains k.lists l) (sym is) (Contains-append_left old.lists (kept ∷ []) l c);
+    more = more_there kept old.lists new.lists order;
     settled = λ e o left under.
         let whole : ListExamined pass s d list [] next = subst (λ a. ListExamined pass s d list a next) e h in
-        subst (λ (k : Kept). AreUnderWay d pass s o [] (left ++ all_plain next) k × AllStand d pass s (all_plain (sets ∷ [])) k.lists) (sym is) (new_settles sets list kept next old merged same whole o left under);
+        subst (λ (k : Kept). AreUnderWay d pass s o [] (left ++ all_read next) k × AllStand d pass s (all_read (sets ∷ [])) k.lists) (sym is) (new_settles sets list kept next old new.lists merged same order whole o left under);
   }
 
-  -- a list of fields of which one with the same members is known
-  pub known_fields : (sets : Sets) (list : List FieldSelection) (known : List PlainField) (old new : Kept) → IsMergedIn d sets list → Contains old.lists known → HaveSame known (contents_of list) → new ≡ old
-      → SetsExamined pass s d (sets ∷ []) old new [] []
-  known_fields sets list known old new merged there same is = record {
+  -- a list of fields of which one with the same members is known, or that has none
+  pub known_fields : (sets : Sets) (list : List Member) (old new : Kept) → IsMergedIn d sets list → Remembers old (contents_of list) false new → SetsExamined pass s d (sets ∷ []) old new [] []
+  known_fields sets list old new merged (known, is) = record {
     right = λ fault c. not_in_nil fault c;
     under = λ vs c. not_in_nil vs c;
     more = λ l c. subst (λ (k : Kept). Contains k.lists l) (sym is) c;
     settled = λ e o left under.
-        let stand : SetsStand sets old.lists =
-        λ x y a b t. (known, (there, ((same x).1 (in_merged sets list merged x a), (same y).1 (in_merged sets list merged y b)))) in
-        subst (λ (k : Kept). AreUnderWay d pass s o [] (left ++ []) k × AllStand d pass s (all_plain (sets ∷ [])) k.lists) (sym is) (dropped_last sets old stand o left under, all_of_one sets old.lists stand);
+        subst (λ (k : Kept). AreUnderWay d pass s o [] (left ++ []) k × AllStand d pass s (all_read (sets ∷ [])) k.lists) (sym is)
+        (dropped_last sets old (stand known) o left under, all_of_one sets old.lists (stand known));
   }
+    where
+      stand : (contents_of list ≡ []) ⊎ ((l : List ReadField) × (Contains old.lists l × HaveSame l (contents_of list))) → SetsStand sets old.lists
+      stand (inl none) x y a b t = not_in_nil x (subst (λ l. Contains l x) none (in_merged sets list merged x a))
+      stand (inr (l, (there, same))) x y a b t = (l, (there, ((same x).1 (in_merged sets list merged x a), (same y).1 (in_merged sets list merged y b))))
 
   -- sets with the same members select the same
-  selected_same : (vs ws : List PlainSet) → HaveSame vs ws → (x : PlainField) → PlainSelected d vs x → PlainSelected d ws x
+  selected_same : (vs ws : List ReadSet) → HaveSame vs ws → (x : ReadField) → ReadSelected d vs x → ReadSelected d ws x
   selected_same vs ws same x h = (h.0, ((same h.0).0 h.1.0, h.1.1))
 
-  -- sets that were looked at
-  pub known_sets : (sets : Sets) (old new : Kept) → HasLooked old.expanded (plain_sets sets) → new ≡ old → SetsExamined pass s d (sets ∷ []) old new [] []
-  known_sets sets old new (known, (there, same)) is = record {
+  -- sets that were looked at, or none
+  pub known_sets : (sets : Sets) (old new : Kept) → (read_sets sets ≡ []) ⊎ HasLooked old.expanded (read_sets sets) → new ≡ old → SetsExamined pass s d (sets ∷ []) old new [] []
+  known_sets sets old new known is = record {
     right = λ fault c. not_in_nil fault c;
     under = λ vs c. not_in_nil vs c;
     more = λ l c. subst (λ (k : Kept). Contains k.lists l) (sym is) c;
     settled = λ e o left under.
-        let stand : SetsStand sets old.lists =
-        λ x y a b. under.sets known there x y (selected_same (plain_sets sets) known (same_sym known (plain_sets sets) same) x a) (selected_same (plain_sets sets) known (same_sym known (plain_sets sets) same) y b) in
-        subst (λ (k : Kept). AreUnderWay d pass s o [] (left ++ []) k × AllStand d pass s (all_plain (sets ∷ [])) k.lists) (sym is) (dropped_last sets old stand o left under, all_of_one sets old.lists stand);
+        subst (λ (k : Kept). AreUnderWay d pass s o [] (left ++ []) k × AllStand d pass s (all_read (sets ∷ [])) k.lists) (sym is)
+        (dropped_last sets old (stand known under.sets) o left under, all_of_one sets old.lists (stand known under.sets));
   }
+    where
+      stand : (read_sets sets ≡ []) ⊎ HasLooked old.expanded (read_sets sets) → AllStand d pass s old.expanded old.lists → SetsStand sets old.lists
+      stand (inl none) all x y a b = not_in_nil a.0 (subst (λ l. Contains l a.0) none a.1.0)
+      stand (inr (l, (there, same))) all x y a b =
+          let back = same_sym l (read_sets sets) same in
+          all l there x y (selected_same (read_sets sets) l back x a) (selected_same (read_sets sets) l back y b)
 
-  -- sets that were examined apart from those that were looked at before are put behind these
-  then_looked : (sets : Sets) (kept : List PlainSet) (old mid new : Kept) (added : List (Broken Place)) (next : List Sets) → HaveSame kept (plain_sets sets)
-      → SetsExamined pass s d (sets ∷ []) (record old { expanded = [] }) mid added next → new ≡ record mid { expanded = old.expanded ++ kept ∷ [] } → SetsExamined pass s d (sets ∷ []) old new added next
-  then_looked sets kept old mid new added next same h is = record {
+  -- sets that were examined apart from those that were looked at before come to these
+  then_looked : (sets : Sets) (kept : List ReadSet) (old mid new : Kept) (now : List (List ReadSet)) (added : List (Broken Place)) (next : List Sets) → HaveSame (read_sets sets) kept
+      → IsPermutation (kept ∷ old.expanded) now → SetsExamined pass s d (sets ∷ []) (record old { expanded = [] }) mid added next → new ≡ record mid { expanded = now } → SetsExamined pass s d (sets ∷ []) old new added next
+  then_looked sets kept old mid new now added next same order h is = record {
     right = h.right;
     under = h.under;
     more = λ l c. subst (λ (k : Kept). Contains k.lists l) (sym is) (h.more l c);
     settled = λ e o left under.
-        let apart : AreUnderWay d pass s o [] (plain_sets sets ∷ left) (record old { expanded = [] }) = record { fields = under.fields; sets = λ vs c. not_in_nil vs c; pairs = under.pairs } in
+        let apart : AreUnderWay d pass s o [] (read_sets sets ∷ left) (record old { expanded = [] }) = record { fields = under.fields; sets = λ vs c. not_in_nil vs c; pairs = under.pairs } in
         let r = h.settled e o left apart in
-        subst (λ (k : Kept). AreUnderWay d pass s o [] (left ++ all_plain next) k × AllStand d pass s (all_plain (sets ∷ [])) k.lists) (sym is) (
+        let back = same_sym (read_sets sets) kept same in
+        subst (λ (k : Kept). AreUnderWay d pass s o [] (left ++ all_read next) k × AllStand d pass s (all_read (sets ∷ [])) k.lists) (sym is) (
           record {
             fields = r.0.fields;
-            sets = λ vs c. elim (Contains-append_cases old.expanded (kept ∷ []) vs c) [
-              | inl a ↦ λ x y i j. together_more old.lists mid.lists h.more x y (under.sets vs a x y i j)
-              | inr b ↦ subst (λ (l : List PlainSet). (x y : PlainField) → PlainSelected d l x → PlainSelected d l y → StandTogether pass s mid.lists x y) (sym (only kept vs b))
-                  (λ x y i j. r.1 (plain_sets sets) (Contains-first (plain_sets sets) [] (plain_sets sets) refl) x y (selected_same kept (plain_sets sets) same x i) (selected_same kept (plain_sets sets) same y j))
+            sets = λ vs c. elim (there_before kept old.expanded now order vs c) [
+              | inl e ↦ subst (λ (l : List ReadSet). (x y : ReadField) → ReadSelected d l x → ReadSelected d l y → StandTogether pass s mid.lists x y) e
+                  (λ x y i j. r.1 (read_sets sets) (Contains-first (read_sets sets) [] (read_sets sets) refl) x y (selected_same kept (read_sets sets) back x i) (selected_same kept (read_sets sets) back y j))
+              | inr b ↦ λ x y i j. together_more old.lists mid.lists h.more x y (under.sets vs b x y i j)
             ];
             pairs = r.0.pairs;
           },
@@ -475,13 +503,13 @@ module _ (pass : Pass) (s : Judged) (d : MeantDocument Place) where
     ];
     more = λ l c. then'.more l (first.more l c);
     settled = λ e o left under.
-        let begin : AreUnderWay d pass s o [] (all_plain lists ++ (all_plain others ++ left)) old =
-        subst (λ l. AreUnderWay d pass s o [] l old) (ap (λ l. l ++ left) (map-append plain_sets lists others) ∙ append_assoc (all_plain lists) (all_plain others) left) under in
-        let half = first.settled (left_empty added more e) o (all_plain others ++ left) begin in
-        let last = then'.settled (right_empty added more e) o (left ++ all_plain next)
-        (subst (λ l. AreUnderWay d pass s o [] l mid) (append_assoc (all_plain others) left (all_plain next)) half.0) in (
-          subst (λ l. AreUnderWay d pass s o [] l new) (append_assoc left (all_plain next) (all_plain below) ∙ ap (λ l. left ++ l) (sym (map-append plain_sets next below))) last.0,
-          λ vs c. elim (Contains-append_cases (all_plain lists) (all_plain others) vs (subst (λ l. Contains l vs) (map-append plain_sets lists others) c)) [
+        let begin : AreUnderWay d pass s o [] (all_read lists ++ (all_read others ++ left)) old =
+        subst (λ l. AreUnderWay d pass s o [] l old) (ap (λ l. l ++ left) (map-append read_sets lists others) ∙ append_assoc (all_read lists) (all_read others) left) under in
+        let half = first.settled (left_empty added more e) o (all_read others ++ left) begin in
+        let last = then'.settled (right_empty added more e) o (left ++ all_read next)
+        (subst (λ l. AreUnderWay d pass s o [] l mid) (append_assoc (all_read others) left (all_read next)) half.0) in (
+          subst (λ l. AreUnderWay d pass s o [] l new) (append_assoc left (all_read next) (all_read below) ∙ ap (λ l. left ++ l) (sym (map-append read_sets next below))) last.0,
+          λ vs c. elim (Contains-append_cases (all_read lists) (all_read others) vs (subst (λ l. Contains l vs) (map-append read_sets lists others) c)) [
             | inl a ↦ λ x y i j. together_more mid.lists new.lists then'.more x y (half.1 vs a x y i j)
             | inr b ↦ last.1 vs b
           ],
@@ -517,21 +545,30 @@ module _ (pass : Pass) (s : Judged) (d : MeantDocument Place) where
   -- ---- steps of the program
 
   -- sets that are new are remembered, once they are examined
-  pub looked_then : (sets : Sets) (old mid : Kept) (now : List (List PlainSet)) (told later : List (Broken Place)) (next last : List Sets) → Expands old (plain_sets sets) true (record old { expanded = now })
+  pub looked_then : (sets : Sets) (old mid : Kept) (now : List (List ReadSet)) (told later : List (Broken Place)) (next last : List Sets) → Expands old.expanded (read_sets sets) true now
       → SetsTold told later (record old { expanded = [] }) mid next last (sets ∷ []) → SetsTold told later old (record mid { expanded = now }) next last (sets ∷ [])
-  looked_then sets old mid now told later next last (kept, (same, is)) h = told_so told later old (record mid { expanded = now }) next last (sets ∷ []) (sets ∷ []) (record old { expanded = [] }) mid
-      (λ added below k. then_looked sets kept old mid (record mid { expanded = now }) added below same k (λ i. record mid { expanded = ap (λ (l : Kept). l.expanded) is i })) h
+  looked_then sets old mid now told later next last (kept, (same, order)) h = told_so told later old (record mid { expanded = now }) next last (sets ∷ []) (sets ∷ []) (record old { expanded = [] }) mid
+      (λ added below k. then_looked sets kept old mid (record mid { expanded = now }) now added below same order k refl) h
+
+  -- sets that are known stay as they are
+  pub looked_before : (sets : Sets) (old : Kept) (now : List (List ReadSet)) (told : List (Broken Place)) (next : List Sets) → Expands old.expanded (read_sets sets) false now
+      → SetsTold told told old (record old { expanded = now }) next next (sets ∷ [])
+  looked_before sets old now told next (known, is) = ([], ([], (sym (append-nil told), (sym (append-nil next), known_sets sets old (record old { expanded = now }) known (ap (λ l. record old { expanded = l }) is)))))
 
   -- ---- sets with no fields
 
-  pub none_more : (front : List Sets) (sets : Sets) (list : List FieldSelection) → HaveFields d false front → IsMergedIn d sets list → list ≡ [] → HaveFields d false (front ++ sets ∷ [])
-  none_more front sets list none merged empty vs c x h = elim (Contains-append_cases front (sets ∷ []) vs c) [
-    | inl a ↦ none vs a x h
-    | inr b ↦ not_in_nil (unplaced_content x) (subst (λ l. Contains (contents_of l) (unplaced_content x)) empty (merged.covers x (subst (λ (l : Sets). IsSelected d l x) (only sets vs b) h)))
-  ]
+  pub none_here : (sets : Sets) (list : List Member) → IsMergedIn d sets list → list ≡ [] → HaveFields d false (sets ∷ [])
+  none_here sets list merged empty vs c x h =
+      not_in_nil (field_read x) (subst (λ l. Contains (contents_of l) (field_read x)) empty (merged.covers x (subst (λ (l : Sets). IsSelected d l x) (only sets vs c) h)))
 
-  pub some_here : (lists : List Sets) (sets : Sets) (list : List FieldSelection) → Contains lists sets → IsMergedIn d sets list → (x : FieldSelection) × Contains list x → HaveFields d true lists
-  some_here lists sets list there merged (x, c) = (sets, (there, (field_of x, merged.within (field_of x) (contains_map field_of list x c))))
+  pub some_here : (sets : Sets) (list : List Member) → IsPartOfMergedIn d sets list → (x : Member) × Contains list x → HaveFields d true (sets ∷ [])
+  some_here sets list part (x, c) = (sets, (Contains-first sets [] sets refl, (field_of x, part.within (field_of x) (contains_map field_of list x c))))
+
+  pub none_more : (front : List Sets) (sets : Sets) → HaveFields d false front → HaveFields d false (sets ∷ []) → HaveFields d false (front ++ sets ∷ [])
+  none_more front sets none here vs c x h = elim (Contains-append_cases front (sets ∷ []) vs c) [ inl a ↦ none vs a x h | inr b ↦ here vs b x h ]
+
+  pub some_there : (lists : List Sets) (sets : Sets) → Contains lists sets → HaveFields d true (sets ∷ []) → HaveFields d true lists
+  some_there lists sets there (vs, (c, has)) = (vs, (subst (Contains lists) (sym (only sets vs c)) there, has))
 
   -- ---- levels
 
@@ -576,7 +613,7 @@ module _ (pass : Pass) (s : Judged) (d : MeantDocument Place) where
     pub record SoFar (start now : Kept) (length : ℕ) (added : List (Broken Place)) (level : List Sets) : Type 0 where
       pub at : AtLevel (length + 1) level
       pub right : (fault : Broken Place) → Contains added fault → MergingBreaks s d o fault
-      pub settled : added ≡ [] → AreSettled d pass s start → AreUnderWay d pass s o [] (all_plain level) now
+      pub settled : added ≡ [] → AreSettled d pass s start → AreUnderWay d pass s o [] (all_read level) now
 
     -- what starts is what the first set selects
     starting : (start : MeantSet Place) → o.set ≡ start → (sets : Sets) → Contains ((start ∷ []) ∷ []) sets → (x : StandingField Place) → IsSelected d sets x → ContentStarts d o x
@@ -584,11 +621,11 @@ module _ (pass : Pass) (s : Judged) (d : MeantDocument Place) where
         let v = subst (λ (l : Sets). Contains l h.0) (only (start ∷ []) sets c) h.1.0 in
         subst (λ w. IsIn d w x) (only start h.0 v ∙ sym is) h.1.1
 
-    start_left : (start : MeantSet Place) → o.set ≡ start → StartsStand (PlainStarts d o) (IsLeft d (all_plain ((start ∷ []) ∷ [])))
-    start_left start is f g a b = (plain_sets (start ∷ []), (Contains-first (plain_sets (start ∷ [])) [] (plain_sets (start ∷ [])) refl, (selects f a, selects g b)))
+    start_left : (start : MeantSet Place) → o.set ≡ start → StartsStand (ReadStarts d o) (IsLeft d (all_read ((start ∷ []) ∷ [])))
+    start_left start is f g a b = (read_sets (start ∷ []), (Contains-first (read_sets (start ∷ [])) [] (read_sets (start ∷ [])) refl, (selects f a, selects g b)))
       where
-        selects : (y : PlainField) → PlainStarts d o y → PlainSelected d (plain_sets (start ∷ [])) y
-        selects y p = (unplaced_set o.set, (Contains-first (unplaced_set start) [] (unplaced_set o.set) (sym (ap unplaced_set is)), p))
+        selects : (y : ReadField) → ReadStarts d o y → ReadSelected d (read_sets (start ∷ [])) y
+        selects y p = (list_read o.set, (Contains-first (list_read start) [] (list_read o.set) (sym (ap list_read is)), (selects_listed (fragments_read d) o.set y).0 p))
 
     pub first_level : (start : MeantSet Place) (old : Kept) → o.set ≡ start → SoFar old old 0 [] ((start ∷ []) ∷ [])
     first_level start old is = record {
@@ -598,7 +635,7 @@ module _ (pass : Pass) (s : Judged) (d : MeantDocument Place) where
       };
       right = λ fault c. not_in_nil fault c;
       settled = λ e ok. record {
-        fields = begun (PlainBelow d) (Together pass s) (Agree pass s) (PlainStarts d o) (IsLeft d (all_plain ((start ∷ []) ∷ []))) (StandTogether pass s old.lists) (start_left start is) ok.fields;
+        fields = begun (ReadBelow d) (ReadTogether pass s) (ReadAgree pass s) (ReadStarts d o) (IsLeft d (all_read ((start ∷ []) ∷ []))) (StandTogether pass s old.lists) (start_left start is) ok.fields;
         sets = ok.sets;
         pairs = ok.pairs;
       };
@@ -625,7 +662,7 @@ module _ (pass : Pass) (s : Judged) (d : MeantDocument Place) where
       ];
       settled = λ e ok.
           (h.settled (right_empty added more e) o []
-          (subst (λ l. AreUnderWay d pass s o [] l old) (sym (append-nil (all_plain level))) (so_far.settled (left_empty added more e) ok))).0;
+          (subst (λ l. AreUnderWay d pass s o [] l old) (sym (append-nil (all_read level))) (so_far.settled (left_empty added more e) ok))).0;
     }
 
     pub level_step : (told mid later : List (Broken Place)) (start old new : Kept) (length : ℕ) (level next : List Sets)
@@ -641,10 +678,10 @@ module _ (pass : Pass) (s : Judged) (d : MeantDocument Place) where
     )
 
     -- where no list of sets selects a field, none is left to look at
-    none_left : (level : List Sets) → HaveFields d false level → (x y : PlainField) → IsLeft d (all_plain level) x y → ⊥
+    none_left : (level : List Sets) → HaveFields d false level → (x y : ReadField) → IsLeft d (all_read level) x y → ⊥
     none_left level none x y h =
-        let sets = contains_unmap plain_sets level h.0 h.1.0 in
-        let e = selected_plain d sets.0 x (subst (λ (l : List PlainSet). PlainSelected d l x) (sym sets.1.1) h.1.1.0) in
+        let sets = contains_unmap read_sets level h.0 h.1.0 in
+        let e = reads_selected d sets.0 x (subst (λ (l : List ReadSet). ReadSelected d l x) (sym sets.1.1) h.1.1.0) in
         none sets.0 sets.1.0 e.0 e.1.0
 
     pub no_more_levels : (start now : Kept) (length : ℕ) (added : List (Broken Place)) (level : List Sets) (left : Bool)
@@ -661,7 +698,7 @@ module _ (pass : Pass) (s : Judged) (d : MeantDocument Place) where
       right = so_far.right;
       settled = λ e is ok.
           let under = so_far.settled e ok in
-          let all = ended (PlainBelow d) (Together pass s) (Agree pass s) (PlainStarts d o) (IsLeft d (all_plain level)) (StandTogether pass s now.lists) (none_left level none) under.fields in
+          let all = ended (ReadBelow d) (ReadTogether pass s) (ReadAgree pass s) (ReadStarts d o) (IsLeft d (all_read level)) (StandTogether pass s now.lists) (none_left level none) under.fields in
           (record { fields = all.0; sets = under.sets; pairs = under.pairs }, all.1);
       bound = λ is. absurd (true≢false (sym is));
     }

@@ -1,31 +1,32 @@
 -- Fields of two sets that are looked at together: two by two they are compared.
-use Rattle.std.proofs.Common.{◌≡◌, ◌⊎◌, ◌∙◌, ℕ, ◌+◌, ◌<◌, true, List, [], ◌∷◌, ◌++◌, take, length, get_or, Contains, refl, sym, ap, subst, append_assoc, append-nil, bytes_eq, arith, inl, inr}
-use Rattle.std.proofs.lemmas.Slice.Eq.{bytes_eq-Decides}
+use Rattle.std.proofs.Common.{◌≡◌, ◌⊎◌, ◌∙◌, ℕ, ◌+◌, ◌<◌, ◌==◌, Bool, true, false, cond, List, [], ◌∷◌, ◌++◌, take, length, get_or, Contains, true≢false, refl, sym, ap, subst, append_assoc, append-nil, arith, inl, inr}
+use Rattle.std.proofs.lemmas.Bool.Decides.{Decides-eqb}
 use Rattle.std.proofs.lemmas.List.{length-append, length-map, map-append}
 use Rattle.std.proofs.lemmas.List.Elements.{Contains-append_left, Contains-append_right, Contains-append_cases}
 use Rattle.graphql_names.specs.Placed.{Place}
-use Rattle.schema_components.proofs.Places.{Contains-rest}
-use Rattle.rule_definitions.proofs.Lists.{not_in_nil, only, Contains-first}
-use Rattle.document_meaning.specs.MeantTree.{MeantDocument}
-use Rattle.rule_definitions.specs.Judged.{Judged}
-use Rattle.rule_document_definitions.specs.DocumentFaults.{Broken}
-use Rattle.rule_document_definitions.specs.Selected.{StandingField, response_key}
-use Rattle.rule_field_groups.specs.in_ground.Broken.{broken_of, brokens_of}
-use Rattle.rule_field_groups.specs.in_ground.Fields.{field_of, fields_of, content_of}
-use Rattle.rule_field_groups.specs.in_ground.declared.field_selection.FieldSelection.{FieldSelection}
+use Rattle.rule_field_groups.proofs.in_components.Places.{Contains-rest}
+use Rattle.rule_field_groups.proofs.in_definitions.Lists.{not_in_nil, only, Contains-cons, Contains-first}
+use Rattle.rule_field_groups.specs.in_meaning.MeantTree.{MeantDocument}
+use Rattle.rule_field_groups.specs.in_definitions.Judged.{Judged}
+use Rattle.rule_field_groups.specs.in_document_definitions.DocumentFaults.{Broken}
+use Rattle.rule_field_groups.specs.in_document_definitions.Selected.{StandingField}
+use Rattle.rule_field_groups.specs.in_document_definitions.Merging.{SameKey}
+use Rattle.rule_field_groups.specs.in_sets.in_ground.Broken.{broken_of, brokens_of}
+use Rattle.rule_field_groups.specs.Members.{field_of, fields_of, content_of, contents_of_two, contents_of, read_sets, AreMembersOf}
+use Rattle.rule_field_groups.specs.in_sets.declared.member.Member.{Member}
+use Rattle.rule_field_groups.specs.in_sets.declared.field_sets.FieldSets.{FieldSets}
+use Rattle.rule_field_groups.specs.in_sets.Nodes.{HasMember}
 use Rattle.rule_field_groups.specs.declared.pass.Pass.{Pass}
 use Rattle.rule_field_groups.specs.declared.pass.Pass.TheVariants.{Shapes, Selections}
 use Rattle.rule_field_groups.specs.Passes.{Together}
-use Rattle.rule_field_groups.specs.Grouped.{key_of}
-use Rattle.rule_field_groups.specs.Below.{contents_of, plain_sets}
 use Rattle.rule_field_groups.proofs.Lists.{taken_more}
 use Rattle.rule_number_lists.specs.NumberLists.{HaveSame}
-use Rattle.rule_document_definitions.specs.PlainFields.{PlainField, PlainSet}
-use Rattle.rule_document_definitions.specs.Settled.{StandIn}
-use Rattle.rule_merging.specs.Remembered.{Kept}
-use Rattle.rule_merging.specs.Examined.{Sets, Breaches, all_plain, IsFresh, ListExamined}
-use Rattle.rule_merging.specs.Twos.{TwoFields, are_two, IsListOf, both_of, GoTogether, FieldsPaired}
-use Rattle.rule_merging.proofs.Examining.{left_empty, right_empty, in_last, stand_more, left_wider, list_fresh, HasMore}
+use Rattle.rule_field_groups.specs.in_document_definitions.ReadFields.{ReadField, ReadSet}
+use Rattle.rule_field_groups.specs.in_document_definitions.Settled.{StandIn}
+use Rattle.rule_field_groups.specs.Remembered.{Kept, Remembers}
+use Rattle.rule_merging.specs.Examined.{Sets, Breaches, all_read, IsFresh, ListExamined}
+use Rattle.rule_merging.specs.Twos.{TwoFields, are_two, IsListOf, IsListOfTwo, both_of, GoTogether, FieldsPaired}
+use Rattle.rule_merging.proofs.Examining.{left_empty, right_empty, more_there, one_there, there_before, stand_more, left_wider, list_fresh, HasMore}
 
 -- where more is told, something is added
 pub more_told : {X : Type 0} (told later added : List X) → later ≡ told ++ added → added ≡ [] → length told < length later → ⊥
@@ -36,20 +37,20 @@ pub brokens_long : (old new : Breaches) → length old.items < length new.items 
 brokens_long old new longer = omega (arith, longer, length-map old.items broken_of, length-map new.items broken_of)
 
 -- fields that go together are of one key
-together_key : (pass : Pass) (s : Judged) (f g : StandingField Place) → Together pass s f g → response_key f ≡ response_key g
+together_key : (pass : Pass) (s : Judged) (f g : StandingField Place) → Together pass s f g → SameKey f g
 together_key Shapes s f g t = t
 together_key Selections s f g t = t.0
 
 module _ (pass : Pass) (s : Judged) (d : MeantDocument Place) where
-  plain_left : (left more : List Sets) → HasMore (all_plain left) (all_plain (left ++ more))
-  plain_left left more l c = subst (λ (k : List (List PlainSet)). Contains k l) (sym (map-append plain_sets left more)) (Contains-append_left (all_plain left) (all_plain more) l c)
+  plain_left : (left more : List Sets) → HasMore (all_read left) (all_read (left ++ more))
+  plain_left left more l c = subst (λ (k : List (List ReadSet)). Contains k l) (sym (map-append read_sets left more)) (Contains-append_left (all_read left) (all_read more) l c)
 
-  plain_right : (left more : List Sets) → HasMore (all_plain more) (all_plain (left ++ more))
-  plain_right left more l c = subst (λ (k : List (List PlainSet)). Contains k l) (sym (map-append plain_sets left more)) (Contains-append_right (all_plain left) (all_plain more) l c)
+  plain_right : (left more : List Sets) → HasMore (all_read more) (all_read (left ++ more))
+  plain_right left more l c = subst (λ (k : List (List ReadSet)). Contains k l) (sym (map-append read_sets left more)) (Contains-append_right (all_read left) (all_read more) l c)
 
   -- ---- several, one after the other
 
-  pub paired_none : (Wanted : TwoFields) → ((p q : FieldSelection) → GoTogether pass s d Wanted p q → ⊥) → (old : Kept) → FieldsPaired pass s d Wanted old old [] []
+  pub paired_none : (Wanted : TwoFields) → ((p q : Member) → GoTogether pass s d Wanted p q → ⊥) → (old : Kept) → FieldsPaired pass s d Wanted old old [] []
   paired_none Wanted none old = record {
     right = λ fault c. not_in_nil fault c;
     under = λ sets c. not_in_nil sets c;
@@ -60,7 +61,7 @@ module _ (pass : Pass) (s : Judged) (d : MeantDocument Place) where
   }
 
   -- said otherwise
-  paired_as : (W W' : TwoFields) → ((p q : FieldSelection) → W p q → W' p q) → ((p q : FieldSelection) → W' p q → W p q) → (old new : Kept) (added : List (Broken Place)) (next : List Sets)
+  paired_as : (W W' : TwoFields) → ((p q : Member) → W p q → W' p q) → ((p q : Member) → W' p q → W p q) → (old new : Kept) (added : List (Broken Place)) (next : List Sets)
       → FieldsPaired pass s d W old new added next → FieldsPaired pass s d W' old new added next
   paired_as W W' to back old new added next h = record {
     right = λ fault c. let t = h.right fault c in (t.0, (t.1.0, (to t.0 t.1.0 t.1.1.0, t.1.1.1)));
@@ -72,7 +73,7 @@ module _ (pass : Pass) (s : Judged) (d : MeantDocument Place) where
   }
 
   -- up to the first that is told of
-  paired_early : (W W' : TwoFields) → ((p q : FieldSelection) → W p q → W' p q) → (old new : Kept) (added : List (Broken Place)) (next : List Sets) → (added ≡ [] → ⊥)
+  paired_early : (W W' : TwoFields) → ((p q : Member) → W p q → W' p q) → (old new : Kept) (added : List (Broken Place)) (next : List Sets) → (added ≡ [] → ⊥)
       → FieldsPaired pass s d W old new added next → FieldsPaired pass s d W' old new added next
   paired_early W W' to old new added next some h = record {
     right = λ fault c. let t = h.right fault c in (t.0, (t.1.0, (to t.0 t.1.0 t.1.1.0, t.1.1.1)));
@@ -103,9 +104,9 @@ module _ (pass : Pass) (s : Judged) (d : MeantDocument Place) where
     fresh = λ e l c. elim (then'.fresh (right_empty added more e) l c) [
       | inl was ↦ elim (first.fresh (left_empty added more e) l was) [
         | inl before ↦ inl before
-        | inr now ↦ inr (λ x y a b t. let f = now x y a b t in (f.0, λ u v p q. left_wider pass s d (all_plain next) (all_plain (next ++ below)) (plain_left next below) u v (f.1 u v p q)))
+        | inr now ↦ inr (λ x y a b t. let f = now x y a b t in (f.0, λ u v p q. left_wider pass s d (all_read next) (all_read (next ++ below)) (plain_left next below) u v (f.1 u v p q)))
       ]
-      | inr now ↦ inr (λ x y a b t. let f = now x y a b t in (f.0, λ u v p q. left_wider pass s d (all_plain below) (all_plain (next ++ below)) (plain_right next below) u v (f.1 u v p q)))
+      | inr now ↦ inr (λ x y a b t. let f = now x y a b t in (f.0, λ u v p q. left_wider pass s d (all_read below) (all_read (next ++ below)) (plain_right next below) u v (f.1 u v p q)))
     ];
   }
 
@@ -113,10 +114,10 @@ module _ (pass : Pass) (s : Judged) (d : MeantDocument Place) where
   abbrev pub PairedTold : TwoFields → Kept → Kept → List (Broken Place) → List (Broken Place) → List Sets → List Sets → Type 0
   PairedTold Wanted old new told later next last = (added : List (Broken Place)) × ((below : List Sets) × ((later ≡ told ++ added) × ((last ≡ next ++ below) × FieldsPaired pass s d Wanted old new added below)))
 
-  pub told_none : (Wanted : TwoFields) → ((p q : FieldSelection) → GoTogether pass s d Wanted p q → ⊥) → (old : Kept) (told : List (Broken Place)) (next : List Sets) → PairedTold Wanted old old told told next next
+  pub told_none : (Wanted : TwoFields) → ((p q : Member) → GoTogether pass s d Wanted p q → ⊥) → (old : Kept) (told : List (Broken Place)) (next : List Sets) → PairedTold Wanted old old told told next next
   told_none Wanted none old told next = ([], ([], (sym (append-nil told), (sym (append-nil next), paired_none Wanted none old))))
 
-  pub told_both : (W W' W'' : TwoFields) → ((p q : FieldSelection) → W p q ⊎ W' p q → W'' p q) → ((p q : FieldSelection) → W'' p q → W p q ⊎ W' p q)
+  pub told_both : (W W' W'' : TwoFields) → ((p q : Member) → W p q ⊎ W' p q → W'' p q) → ((p q : Member) → W'' p q → W p q ⊎ W' p q)
       → (old mid new : Kept) (told half later : List (Broken Place)) (next between last : List Sets)
       → PairedTold W old mid told half next between → PairedTold W' mid new half later between last → PairedTold W'' old new told later next last
   told_both W W' W'' to back old mid new told half later next between last (a, (n, (is, (lies, first)))) (b, (m, (is_too, (lies_too, then')))) = (
@@ -133,41 +134,40 @@ module _ (pass : Pass) (s : Judged) (d : MeantDocument Place) where
     ),
   )
 
-  pub told_early : (W W' : TwoFields) → ((p q : FieldSelection) → W p q → W' p q) → (old new : Kept) (told later : List (Broken Place)) (next last : List Sets) → length told < length later
+  pub told_early : (W W' : TwoFields) → ((p q : Member) → W p q → W' p q) → (old new : Kept) (told later : List (Broken Place)) (next last : List Sets) → length told < length later
       → PairedTold W old new told later next last → PairedTold W' old new told later next last
   told_early W W' to old new told later next last longer (a, (n, (is, (lies, h)))) = (a, (n, (is, (lies, paired_early W W' to old new a n (λ none. more_told told later a is none longer) h))))
 
   -- ---- two fields
 
-  module _ (one other : FieldSelection) where
+  module _ (one other : Member) where
     -- that are not of one key
-    pub paired_apart : (old : Kept) (told : List (Broken Place)) (next : List Sets) → (bytes_eq (key_of one) (key_of other) ≡ true → ⊥) → PairedTold (are_two one other) old old told told next next
+    pub paired_apart : (old : Kept) (told : List (Broken Place)) (next : List Sets) → (SameKey (field_of one) (field_of other) → ⊥) → PairedTold (are_two one other) old old told told next next
     paired_apart old told next apart =
-        told_none (are_two one other) (λ p q w. apart ((bytes_eq-Decides (key_of one) (key_of other)).1
-        (together_key pass s (field_of one) (field_of other)
-        (subst (λ (x : FieldSelection). Together pass s (field_of x) (field_of other)) w.0.0 (subst (λ (y : FieldSelection). Together pass s (field_of p) (field_of y)) w.0.1 w.1))))) old told next
+        told_none (are_two one other) (λ p q w. apart (together_key pass s (field_of one) (field_of other)
+        (subst (λ (x : Member). Together pass s (field_of x) (field_of other)) w.0.0 (subst (λ (y : Member). Together pass s (field_of p) (field_of y)) w.0.1 w.1)))) old told next
 
     -- the list has both, and no more
-    has_one : (list : List FieldSelection) → IsListOf one other list → Contains (contents_of list) (content_of one)
-    has_one list (inl (e, is)) = subst (λ (l : List FieldSelection). Contains (contents_of l) (content_of one)) (sym is) (Contains-first (content_of one) [] (content_of one) refl)
-    has_one list (inr (e, is)) = subst (λ (l : List FieldSelection). Contains (contents_of l) (content_of one)) (sym is) (Contains-first (content_of one) (content_of other ∷ []) (content_of one) refl)
+    has_one : (list : List Member) → IsListOf one other list → Contains (contents_of list) (content_of one)
+    has_one list (inl (e, is)) = subst (λ (l : List Member). Contains (contents_of l) (content_of one)) (sym is) (Contains-first (content_of one) [] (content_of one) refl)
+    has_one list (inr (e, is)) = subst (λ (l : List Member). Contains (contents_of l) (content_of one)) (sym is) (Contains-first (content_of one) (content_of other ∷ []) (content_of one) refl)
 
-    has_other : (list : List FieldSelection) → IsListOf one other list → Contains (contents_of list) (content_of other)
-    has_other list (inl (e, is)) = subst (λ (l : List FieldSelection). Contains (contents_of l) (content_of other)) (sym is) (Contains-first (content_of one) [] (content_of other) e)
+    has_other : (list : List Member) → IsListOf one other list → Contains (contents_of list) (content_of other)
+    has_other list (inl (e, is)) = subst (λ (l : List Member). Contains (contents_of l) (content_of other)) (sym is) (Contains-first (content_of one) [] (content_of other) e)
     has_other list (inr (e, is)) =
-        subst (λ (l : List FieldSelection). Contains (contents_of l) (content_of other)) (sym is) (Contains-rest (content_of one) (content_of other ∷ []) (content_of other) (Contains-first (content_of other) [] (content_of other) refl))
+        subst (λ (l : List Member). Contains (contents_of l) (content_of other)) (sym is) (Contains-rest (content_of one) (content_of other ∷ []) (content_of other) (Contains-first (content_of other) [] (content_of other) refl))
 
-    no_more : (list : List FieldSelection) → IsListOf one other list → (f : StandingField Place) → Contains (fields_of list) f → Contains (both_of one other) f
-    no_more list (inl (e, is)) f c = Contains-first (field_of one) (field_of other ∷ []) f (sym (only (field_of one) f (subst (λ (l : List FieldSelection). Contains (fields_of l) f) is c)))
-    no_more list (inr (e, is)) f c = subst (λ (l : List FieldSelection). Contains (fields_of l) f) is c
+    no_more : (list : List Member) → IsListOf one other list → (f : StandingField Place) → Contains (fields_of list) f → Contains (both_of one other) f
+    no_more list (inl (e, is)) f c = Contains-first (field_of one) (field_of other ∷ []) f (sym (only (field_of one) f (subst (λ (l : List Member). Contains (fields_of l) f) is c)))
+    no_more list (inr (e, is)) f c = subst (λ (l : List Member). Contains (fields_of l) f) is c
 
-    these : (lists : List (List PlainField)) → StandIn lists (content_of one) (content_of other) → (p q : FieldSelection) → GoTogether pass s d (are_two one other) p q → StandIn lists (content_of p) (content_of q)
-    these lists stand p q ((is, is_too), t) = subst (λ (x : FieldSelection). StandIn lists (content_of x) (content_of q)) (sym is) (subst (λ (y : FieldSelection). StandIn lists (content_of one) (content_of y)) (sym is_too) stand)
+    these : (lists : List (List ReadField)) → StandIn lists (content_of one) (content_of other) → (p q : Member) → GoTogether pass s d (are_two one other) p q → StandIn lists (content_of p) (content_of q)
+    these lists stand p q ((is, is_too), t) = subst (λ (x : Member). StandIn lists (content_of x) (content_of q)) (sym is) (subst (λ (y : Member). StandIn lists (content_of one) (content_of y)) (sym is_too) stand)
 
     -- that were compared before
-    pub paired_known : (list : List FieldSelection) → IsListOf one other list → (known : List PlainField) → HaveSame known (contents_of list) → (old new : Kept) (told : List (Broken Place)) (next : List Sets)
-        → Contains old.lists known → new ≡ old → PairedTold (are_two one other) old new told told next next
-    paired_known list two known same old new told next there is = (
+    pub paired_known : (list : List Member) → IsListOf one other list → (old new : Kept) (told : List (Broken Place)) (next : List Sets)
+        → Remembers old (contents_of list) false new → PairedTold (are_two one other) old new told told next next
+    paired_known list two old new told next (had, is) = (
       [],
       (
         [],
@@ -180,18 +180,22 @@ module _ (pass : Pass) (s : Judged) (d : MeantDocument Place) where
               under = λ sets c. not_in_nil sets c;
               same = refl;
               more = λ l c. c;
-              stand = λ e. these old.lists (known, (there, ((same (content_of one)).1 (has_one list two), (same (content_of other)).1 (has_other list two))));
+              stand = λ e. these old.lists (stood had);
               fresh = λ e l c. inl c;
             }),
           ),
         ),
       ),
     )
+      where
+        stood : (contents_of list ≡ []) ⊎ ((known : List ReadField) × (Contains old.lists known × HaveSame known (contents_of list))) → StandIn old.lists (content_of one) (content_of other)
+        stood (inl none) = not_in_nil (content_of one) (subst (λ l. Contains l (content_of one)) none (has_one list two))
+        stood (inr (known, (there, same))) = (known, (there, ((same (content_of one)).1 (has_one list two), (same (content_of other)).1 (has_other list two))))
 
     -- that are compared now
-    pub paired_now : (list : List FieldSelection) → IsListOf one other list → (kept : List PlainField) → HaveSame (contents_of list) kept → (old new : Kept) (added : List (Broken Place)) (next : List Sets)
-        → new ≡ record old { lists = old.lists ++ kept ∷ [] } → ListExamined pass s d list added next → FieldsPaired pass s d (are_two one other) old new added next
-    paired_now list two kept same old new added next is h = subst (λ (k : Kept). FieldsPaired pass s d (are_two one other) old k added next) (sym is) (record {
+    pub paired_now : (list : List Member) → IsListOf one other list → (old new : Kept) (added : List (Broken Place)) (next : List Sets)
+        → Remembers old (contents_of list) true new → ListExamined pass s d list added next → FieldsPaired pass s d (are_two one other) old new added next
+    paired_now list two old new added next (none, (kept, (same, (order, (there, is))))) h = record {
       right = λ fault c.
           let t = h.examined.right fault c in
           let w = h.are.within t.0 t.1.1.0 t.1.1.1.0 t.1.0 t.1.1.1.1.0 t.1.1.1.1.1.0 in
@@ -200,19 +204,52 @@ module _ (pass : Pass) (s : Judged) (d : MeantDocument Place) where
       under = λ vs c.
           let u = h.examined.under vs c in
           (one, (other, ((refl, refl), (u.0, ((λ f g a b. let w = h.are.within u.0 f g u.1.0 a b in (no_more list two f w.0, w.1)), u.1.1)))));
-      same = refl;
-      more = λ l c. Contains-append_left old.lists (kept ∷ []) l c;
-      stand = λ e. these (old.lists ++ kept ∷ []) (kept, (in_last old.lists kept, ((same (content_of one)).0 (has_one list two), (same (content_of other)).0 (has_other list two))));
-      fresh = λ e l c. elim (Contains-append_cases old.lists (kept ∷ []) l c) [
-        | inl a ↦ inl a
-        | inr b ↦ inr (subst (IsFresh pass s d (all_plain next)) (sym (only kept l b)) (list_fresh pass s d list next (subst (λ a. ListExamined pass s d list a next) e h) kept same))
+      same = is;
+      more = more_there kept old.lists new.lists there;
+      stand = λ e. these new.lists (kept, (one_there kept old.lists new.lists there, ((same (content_of one)).0 (has_one list two), (same (content_of other)).0 (has_other list two))));
+      fresh = λ e l c. elim (there_before kept old.lists new.lists there l c) [
+        | inl b ↦ inr (subst (IsFresh pass s d (all_read next)) b (list_fresh pass s d list next (subst (λ a. ListExamined pass s d list a next) e h) kept same))
+        | inr a ↦ inl a
       ];
-    })
+    }
+
+-- ---- a list of two
+
+-- equal numbers are equal contents, and a list by numbers is one by contents
+pub by_contents : (one other : Member) (list : List Member) → ((one.number ≡ other.number) → content_of one ≡ content_of other) → (content_of one ≡ content_of other → one.number ≡ other.number)
+    → IsListOfTwo one other list → IsListOf one other list
+by_contents one other list to back (inl (e, is)) = inl (to e, is)
+by_contents one other list to back (inr (e, is)) = inr ((λ same. e (back same)), is)
+
+-- its members are members of nodes
+pub members_of_two : (w : FieldSets) (one other : Member) (list : List Member) → HasMember w one → HasMember w other → IsListOfTwo one other list → AreMembersOf w list
+members_of_two w one other list a b (inl (e, is)) m c = subst (HasMember w) (sym (only one m (subst (λ (l : List Member). Contains l m) is c))) a
+members_of_two w one other list a b (inr (e, is)) m c = elim (Contains-cons one (other ∷ []) m (subst (λ (l : List Member). Contains l m) is c)) [
+  | inl i ↦ subst (HasMember w) i a
+  | inr r ↦ subst (HasMember w) (sym (only other m r)) b
+]
+
+-- what is read of it
+pub read_of_two : (one other : Member) (list : List Member) → IsListOfTwo one other list → contents_of list ≡ contents_of_two one other
+read_of_two one other list (inl (e, is)) = ap contents_of is ∙ sym (ap (λ (b : Bool). cond b (content_of one ∷ []) (content_of one ∷ content_of other ∷ [])) ((Decides-eqb one.number other.number).1 e))
+read_of_two one other list (inr (e, is)) = ap contents_of is ∙ sym (ap (λ (b : Bool). cond b (content_of one ∷ []) (content_of one ∷ content_of other ∷ [])) (differ (one.number == other.number) (λ t. e ((Decides-eqb one.number other.number).0 t))))
+  where
+    differ : (b : Bool) → (b ≡ true → ⊥) → b ≡ false
+    differ true never = absurd (never refl)
+    differ false never = refl
+
+-- some list of them
+pub some_list : (one other : Member) → (list : List Member) × IsListOfTwo one other list
+some_list one other = by (one.number == other.number) refl
+  where
+    by : (b : Bool) → (one.number == other.number) ≡ b → (list : List Member) × IsListOfTwo one other list
+    by true e = (one ∷ [], inl ((Decides-eqb one.number other.number).0 e, refl))
+    by false e = (one ∷ other ∷ [], inr ((λ same. true≢false (sym ((Decides-eqb one.number other.number).1 same) ∙ e)), refl))
 
 -- fields of lists, one more
-pub front_of : (xs : List FieldSelection) (i : ℕ) (x : FieldSelection) → i < length xs → x ≡ get_or xs i x → (p : FieldSelection) → Contains (take (i + 1) xs) p → Contains (take i xs) p ⊎ (p ≡ x)
-front_of xs i x h e p c = elim (Contains-append_cases (take i xs) (x ∷ []) p (subst (λ (l : List FieldSelection). Contains l p) (taken_more xs i x h e) c)) [ inl a ↦ inl a | inr b ↦ inr (only x p b) ]
+pub front_of : (xs : List Member) (i : ℕ) (x : Member) → i < length xs → x ≡ get_or xs i x → (p : Member) → Contains (take (i + 1) xs) p → Contains (take i xs) p ⊎ (p ≡ x)
+front_of xs i x h e p c = elim (Contains-append_cases (take i xs) (x ∷ []) p (subst (λ (l : List Member). Contains l p) (taken_more xs i x h e) c)) [ inl a ↦ inl a | inr b ↦ inr (only x p b) ]
 
-pub of_front : (xs : List FieldSelection) (i : ℕ) (x : FieldSelection) → i < length xs → x ≡ get_or xs i x → (p : FieldSelection) → Contains (take i xs) p ⊎ (p ≡ x) → Contains (take (i + 1) xs) p
-of_front xs i x h e p (inl a) = subst (λ (l : List FieldSelection). Contains l p) (sym (taken_more xs i x h e)) (Contains-append_left (take i xs) (x ∷ []) p a)
-of_front xs i x h e p (inr b) = subst (λ (l : List FieldSelection). Contains l p) (sym (taken_more xs i x h e)) (Contains-append_right (take i xs) (x ∷ []) p (Contains-first x [] p (sym b)))
+pub of_front : (xs : List Member) (i : ℕ) (x : Member) → i < length xs → x ≡ get_or xs i x → (p : Member) → Contains (take i xs) p ⊎ (p ≡ x) → Contains (take (i + 1) xs) p
+of_front xs i x h e p (inl a) = subst (λ (l : List Member). Contains l p) (sym (taken_more xs i x h e)) (Contains-append_left (take i xs) (x ∷ []) p a)
+of_front xs i x h e p (inr b) = subst (λ (l : List Member). Contains l p) (sym (taken_more xs i x h e)) (Contains-append_right (take i xs) (x ∷ []) p (Contains-first x [] p (sym b)))

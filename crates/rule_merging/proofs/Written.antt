@@ -4,18 +4,18 @@ use Rattle.std.specs.List.{cons_option}
 use Rattle.std.specs.Option.{option_map}
 use Rattle.std.proofs.lemmas.List.Elements.{Contains-append_left, Contains-append_right}
 use Rattle.graphql_names.specs.Placed.{Place}
-use Rattle.document_meaning.specs.MeantTree.{MeantOperation, MeantFragment, MeantDocument}
-use Rattle.rule_definitions.proofs.Lists.{Contains-first}
-use Rattle.rule_definitions.proofs.Lookups.{under_given}
+use Rattle.rule_field_groups.specs.in_meaning.MeantTree.{MeantOperation, MeantFragment, MeantDocument}
+use Rattle.rule_field_groups.proofs.in_definitions.Lists.{Contains-first}
+use Rattle.rule_field_groups.proofs.in_definitions.Lookups.{under_given}
 use Rattle.rule_cycle_search.proofs.Lists.{given_in}
-use Rattle.rule_document_definitions.specs.Selected.{InOperation, Standing, StandingField, as_field, standing_in, all_in, operations, operation_name, fragments, all_selections}
-use Rattle.rule_document_definitions.specs.Reached.{Closed, first, next, InFragmentOf, Reached}
-use Rattle.rule_document_definitions.specs.Chains.{Chain}
-use Rattle.rule_document_definitions.specs.Contents.{unplaced_content}
-use Rattle.rule_document_definitions.specs.PlainFields.{PlainField}
-use Rattle.rule_document_definitions.specs.Merging.{Below, Starts}
-use Rattle.rule_document_definitions.proofs.Unplaced.{contains_map}
-use Rattle.rule_document_definitions.proofs.Spreading.{StandsThere, body, stands}
+use Rattle.rule_field_groups.specs.in_document_definitions.Selected.{InOperation, Standing, StandingField, as_field, standing_in, all_in, operations, operation_name, fragments, all_selections}
+use Rattle.rule_field_groups.specs.in_document_definitions.Reached.{Closed, first, next, InFragmentOf, Reached}
+use Rattle.rule_field_groups.specs.in_document_definitions.Chains.{Chain}
+use Rattle.rule_field_groups.specs.in_document_definitions.ReadFields.{field_read}
+use Rattle.rule_field_groups.specs.in_document_definitions.ReadFields.{ReadField}
+use Rattle.rule_field_groups.specs.in_document_definitions.Merging.{Below, Starts}
+use Rattle.rule_field_groups.proofs.in_document_definitions.Unplaced.{contains_map}
+use Rattle.rule_field_groups.proofs.in_document_definitions.Spreading.{StandsThere, body, stands}
 use Rattle.rule_merging.specs.Counted.{IsLast}
 use Rattle.rule_merging.specs.Merger.{written, fields_written}
 
@@ -49,9 +49,9 @@ module _ (d : MeantDocument Place) where
         Contains-append_right (flat_map (λ (p : MeantOperation Place). all_in (InOperation (operation_name p)) p.set) (operations d)) (flat_map (body d) (fragments d)) x
         (given_in (body d) x (fragments d) f (contains_map (λ (e : List ℕ × MeantFragment Place). e.1) d.fragments (n, f) (under_given n d.fragments f e)) c)
 
-  pub last_written : (x : PlainField) → IsLast d (operations d) x → Contains (fields_written d) x
+  pub last_written : (x : ReadField) → IsLast d (operations d) x → Contains (fields_written d) x
   last_written x (o, (c, (f, (there, (chain, same))))) =
       let y = last_reached o c (Starts d o) (starts_reached o) f chain in
       let stands_there : Contains (all_selections d) y.0 = stands_in o there y.0 (stands d o y.0 y.1.0) in
-      let is : written y.0 ≡ unplaced_content f ∷ [] = ap (λ (g : Option (StandingField Place)). cons_option (option_map unplaced_content g) []) y.1.1 in
-      given_in written x (all_selections d) y.0 stands_there (subst (λ l. Contains l x) (sym is) (Contains-first (unplaced_content f) [] x same))
+      let is : written y.0 ≡ field_read f ∷ [] = ap (λ (g : Option (StandingField Place)). cons_option (option_map field_read g) []) y.1.1 in
+      given_in written x (all_selections d) y.0 stands_there (subst (λ l. Contains l x) (sym is) (Contains-first (field_read f) [] x same))

@@ -1,115 +1,79 @@
 -- How often shapes were compared, and the lists that were examined for it.
-use Rattle.std.specs.Prelude.{◌≡◌, ◌≤◌, ◌+◌, ◌*◌, ◌++◌, ◌∷◌, ◌⊎◌, ℕ, Bool, List, [], map, length, slice_get, Some, IsTrue, Contains}
+use Rattle.std.specs.Prelude.{◌≡◌, ◌≤◌, ◌+◌, ◌*◌, ◌++◌, ◌∷◌, ◌⊎◌, ℕ, List, [], map, length, slice_get, Some, Contains}
 use Rattle.std.specs.List.{sum}
+use Rattle.std.specs.List.Sorted.{IsPermutation}
 use Rattle.graphql_names.specs.Placed.{Place}
 use Rattle.rule_cycle_search.specs.Paths.{HasNoRepeat}
 use Rattle.rule_number_lists.specs.NumberLists.{HaveSame, length_above_two}
-use Rattle.document_meaning.specs.MeantTree.{MeantSet, MeantOperation, MeantDocument}
-use Rattle.rule_document_definitions.specs.Selected.{StandingField}
-use Rattle.rule_document_definitions.specs.Chains.{Chain}
-use Rattle.rule_document_definitions.specs.Merging.{Below, Starts}
-use Rattle.rule_document_definitions.specs.Contents.{unplaced_content}
-use Rattle.rule_document_definitions.specs.PlainFields.{PlainField, IsSelected}
+use Rattle.rule_field_groups.specs.in_meaning.MeantTree.{MeantSet, MeantOperation, MeantDocument}
+use Rattle.rule_field_groups.specs.in_document_definitions.Selected.{StandingField}
+use Rattle.rule_field_groups.specs.in_document_definitions.Chains.{Chain}
+use Rattle.rule_field_groups.specs.in_document_definitions.Merging.{Below, Starts}
+use Rattle.rule_field_groups.specs.in_document_definitions.ReadFields.{field_read}
+use Rattle.rule_field_groups.specs.in_document_definitions.ReadFields.{ReadField}
+use Rattle.rule_field_groups.specs.in_document_definitions.PlainFields.{IsSelected}
 use Rattle.rule_field_groups.specs.Compared.{compared}
+use Rattle.rule_field_groups.specs.Paid.{Account, most_members, IsWithin}
 use Rattle.rule_field_groups.specs.declared.pass.Pass.{Pass}
 
 -- no two of these lists have the same members
-abbrev pub DifferInMembers : List (List PlainField) → Type 0
-DifferInMembers lists = (i j : ℕ) (a b : List PlainField) → slice_get lists i ≡ Some a → slice_get lists j ≡ Some b → HaveSame a b → i ≡ j
+abbrev pub DifferInMembers : List (List ReadField) → Type 0
+DifferInMembers lists = (i j : ℕ) (a b : List ReadField) → slice_get lists i ≡ Some a → slice_get lists j ≡ Some b → HaveSame a b → i ≡ j
 
 -- none of these lists has equal members
-abbrev pub AreApart : List (List PlainField) → Type 0
-AreApart lists = (list : List PlainField) → Contains lists list → HasNoRepeat list
+abbrev pub AreApart : List (List ReadField) → Type 0
+AreApart lists = (list : List ReadField) → Contains lists list → HasNoRepeat list
 
--- what is counted: the lists that were examined, the fields that were met, how many members of lists these were asked to pay for, and how
--- often shapes were compared
-pub record Account : Type 0 where
-  pub lists : List (List PlainField)
-  pub met : List PlainField
-  pub spent : ℕ
-  pub comparisons : ℕ
-
-abbrev pub no_account : Account
-no_account = record { lists = []; met = []; spent = 0; comparisons = 0 }
-
--- so many members the lists of more than two have in all, at most, for so many fields
-abbrev pub most_members : ℕ → ℕ
-most_members n = 200 + 4 * n
-
--- and so often shapes are compared
+-- so often shapes are compared, at most, for so many fields
 abbrev pub most_comparisons : ℕ → ℕ
 most_comparisons n = n * n + most_members n
-
-abbrev pub IsWithin : Account → Type 0
-IsWithin a = a.spent ≤ most_members (length a.met)
-
--- fields of a list are met, each content once; nothing is compared
-pub record Meets (list : List PlainField) (old new : Account) : Type 0 where
-  pub only : (x : PlainField) → Contains new.met x → Contains old.met x ⊎ Contains list x
-  pub once : HasNoRepeat new.met
-  pub more : length old.met ≤ length new.met
-  pub same : new.comparisons ≡ old.comparisons
-
--- and nothing is spent
-abbrev pub OnlyMeets : List PlainField → Account → Account → Type 0
-OnlyMeets list old new = Meets list old new × (new.spent ≡ old.spent)
-
--- a list is asked to pay, whether it is paid or not
-pub record Pays (list : List PlainField) (old new : Account) : Type 0 where
-  pub meets : Meets list old new
-  pub spends : old.spent ≤ new.spent
-  pub within : IsWithin old → IsWithin new
-
--- it is paid
-abbrev pub IsPaidIf : Bool → List PlainField → Account → Account → Type 0
-IsPaidIf is_paid list old new = IsTrue is_paid → old.spent + length list ≤ new.spent
 
 module _ (d : MeantDocument Place) where
   module _ (os : List (MeantOperation Place)) where
     -- the content of the last field of a chain of one of these operations, in the document
-    abbrev pub IsLast : PlainField → Type 0
+    abbrev pub IsLast : ReadField → Type 0
     IsLast x = (o : MeantOperation Place) × ((c : List (StandingField Place)) × ((f : StandingField Place) × (Contains os o
-        × (Chain (Below d) (Starts d o) (c ++ f ∷ []) × (unplaced_content f ≡ x)))))
+        × (Chain (Below d) (Starts d o) (c ++ f ∷ []) × (field_read f ≡ x)))))
 
-    abbrev pub AreLast : List PlainField → Type 0
-    AreLast list = (x : PlainField) → Contains list x → IsLast x
+    abbrev pub AreLast : List ReadField → Type 0
+    AreLast list = (x : ReadField) → Contains list x → IsLast x
 
     -- a list without equal members, all of them last fields of chains
-    pub record IsListed (list : List PlainField) : Type 0 where
+    pub record IsListed (list : List ReadField) : Type 0 where
       pub apart : HasNoRepeat list
       pub last : AreLast list
 
     -- whatever one of these lists of sets selects has the content of a last field of a chain
     abbrev pub AreListed : List (List (MeantSet Place)) → Type 0
-    AreListed lists = (sets : List (MeantSet Place)) → Contains lists sets → (x : StandingField Place) → IsSelected d sets x → IsLast (unplaced_content x)
+    AreListed lists = (sets : List (MeantSet Place)) → Contains lists sets → (x : StandingField Place) → IsSelected d sets x → IsLast (field_read x)
 
     -- shapes were compared at most as often as the lists that were examined are long in all; no two of these have the same members,
     -- each is without equal members, and all members are last fields of chains
-    pub record IsCountedBy (lists : List (List PlainField)) (count : ℕ) : Type 0 where
+    pub record IsCountedBy (lists : List (List ReadField)) (count : ℕ) : Type 0 where
       pub bound : count ≤ sum (map length lists)
       pub different : DifferInMembers lists
-      pub listed : (list : List PlainField) → Contains lists list → IsListed list
+      pub listed : (list : List ReadField) → Contains lists list → IsListed list
 
     -- what was spent is at least as much as the lists of more than two have members, and at most what the fields pay that were met:
     -- different ones, all of them last fields of chains
-    pub record IsPaidBy (lists : List (List PlainField)) (met : List PlainField) (spent : ℕ) : Type 0 where
+    pub record IsPaidBy (lists : List (List ReadField)) (met : List ReadField) (spent : ℕ) : Type 0 where
       pub paid : sum (map length_above_two lists) ≤ spent
       pub within : spent ≤ most_members (length met)
       pub once : HasNoRepeat met
       pub last : AreLast met
 
-  -- to the lists that were examined come these, without equal members, and none has the same members as another; shapes are compared
+  -- to the lists that were examined come these, in whatever order they stand, without equal members, and none has the same members as another; shapes are compared
   -- at most as often as they are long in all, and the count never falls. Those of more than two are paid. Where it is Given, they are of
   -- last fields of chains of the operations, and so are the fields that are met
   pub record Grows (Given : List (MeantOperation Place) → Type 0) (pass : Pass) (old new : Account) : Type 0 where
-    pub added : List (List PlainField)
-    pub is : new.lists ≡ old.lists ++ added
+    pub added : List (List ReadField)
+    pub is : IsPermutation (added ++ old.lists) new.lists
     pub more : old.comparisons ≤ new.comparisons
     pub count : new.comparisons ≤ old.comparisons + sum (map (compared pass) added)
     pub apart : AreApart added
     pub different : AreApart old.lists → DifferInMembers old.lists → DifferInMembers new.lists
-    pub last : (os : List (MeantOperation Place)) → Given os → (list : List PlainField) → Contains added list → AreLast os list
+    pub last : (os : List (MeantOperation Place)) → Given os → (list : List ReadField) → Contains added list → AreLast os list
     pub paid : old.spent + sum (map length_above_two added) ≤ new.spent
     pub within : IsWithin old → IsWithin new
     pub once : HasNoRepeat old.met → HasNoRepeat new.met
-    pub meets : (os : List (MeantOperation Place)) → Given os → (x : PlainField) → Contains new.met x → Contains old.met x ⊎ IsLast os x
+    pub meets : (os : List (MeantOperation Place)) → Given os → (x : ReadField) → Contains new.met x → Contains old.met x ⊎ IsLast os x

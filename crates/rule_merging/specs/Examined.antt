@@ -1,33 +1,35 @@
 -- Private: leads to `MergingBreaks` and `FieldsMerge`. What the examination of groups, of a list, of a level and of all levels comes to.
-use Rattle.std.specs.Prelude.{◌≡◌, ◌++◌, ◌∷◌, ◌≤◌, ℕ, Bool, true, false, List, [], map, length, drop, Vec, Contains}
+use Rattle.std.specs.Prelude.{◌≡◌, ◌+◌, ◌++◌, ◌∷◌, ℕ, Bool, true, false, List, [], map, length, Some, option_map, Vec, Contains}
 use Rattle.std.specs.declared.alloc.Global.{Global}
 use Rattle.graphql_names.specs.Placed.{Place}
-use Rattle.fault_document_data.specs.declared.build_error.BuildError.{BuildError}
-use Rattle.rule_field_groups.specs.in_schema.SchemaOf.{schema_tree}
-use Rattle.document_meaning.specs.MeantTree.{MeantSet, MeantOperation, MeantDocument}
-use Rattle.document_meaning.specs.Unplaced.{unplaced_document}
-use Rattle.rule_field_groups.specs.in_typing.DocumentView.{document_meant}
-use Rattle.rule_definitions.specs.Judged.{Judged, judged}
-use Rattle.rule_document_definitions.specs.DocumentFaults.{Broken}
-use Rattle.rule_document_definitions.specs.Selected.{StandingField}
-use Rattle.rule_document_definitions.specs.Groups.{AgreeWithHead, AreGroups}
-use Rattle.rule_document_definitions.specs.Merging.{MergingBreaks}
-use Rattle.rule_document_definitions.specs.Limits.{PassesChainBound}
-use Rattle.rule_field_groups.specs.in_ground.Broken.{brokens_of}
-use Rattle.rule_field_groups.specs.in_ground.Fields.{fields_of}
-use Rattle.rule_field_groups.specs.in_ground.declared.field_selection.FieldSelection.{FieldSelection}
-use Rattle.rule_document_definitions.specs.PlainFields.{PlainField, PlainSet, PlainBelow, PlainStarts, IsSelected}
-use Rattle.rule_document_definitions.specs.Settled.{StandIn, StandWhere, StartsStand, IsSettledIn, IsUnderWay}
-use Rattle.rule_field_groups.specs.Paired.{ArePairsDone}
-use Rattle.rule_field_groups.specs.Own.{Source, OfSet, own_fields, sources, opened}
-use Rattle.rule_field_groups.specs.Passes.{Together, Agree, Conflict}
+use Rattle.graphql_faults.specs.in_document_data.declared.build_error.BuildError.{BuildError}
+use Rattle.rule_field_groups.specs.in_sets.in_ground.in_schema.SchemaOf.{schema_tree}
+use Rattle.rule_field_groups.specs.in_meaning.MeantTree.{MeantSet, MeantOperation, MeantDocument}
+use Rattle.rule_field_groups.specs.in_definitions.in_schema_types.Addresses.{under}
+use Rattle.rule_field_groups.specs.in_sets.in_ground.in_typed_operations.DocumentView.{document_meant}
+use Rattle.rule_field_groups.specs.in_definitions.Judged.{Judged, judged}
+use Rattle.rule_field_groups.specs.in_document_definitions.DocumentFaults.{Broken}
+use Rattle.rule_field_groups.specs.in_document_definitions.Selected.{StandingField}
+use Rattle.rule_field_groups.specs.in_document_definitions.Groups.{AgreeWithHead, AreGroups}
+use Rattle.rule_field_groups.specs.in_document_definitions.Merging.{MergingBreaks}
+use Rattle.rule_field_groups.specs.in_document_definitions.Limits.{PassesChainBound}
+use Rattle.rule_field_groups.specs.in_sets.in_ground.Broken.{brokens_of}
+use Rattle.rule_field_groups.specs.Members.{fields_of}
+use Rattle.rule_field_groups.specs.in_sets.declared.member.Member.{Member}
+use Rattle.rule_field_groups.specs.in_document_definitions.ReadFields.{ReadField, ReadSet, list_read, fields_in, spreads_in, fragments_read, SelectsRead, ReadBelow, ReadStarts}
+use Rattle.rule_field_groups.specs.in_document_definitions.PlainFields.{IsSelected}
+use Rattle.rule_field_groups.specs.in_document_definitions.Settled.{StandIn, StandWhere, StartsStand, IsSettledIn, IsUnderWay}
+use Rattle.rule_merging.specs.Paired.{ArePairsDone}
+use Rattle.rule_field_groups.specs.Passes.{Together, Agree, Conflict, ReadTogether, ReadAgree}
 pub use Rattle.rule_field_groups.specs.Under.{Sets, all_sets, sets_in, AreOf, IsAmong, HaveBoth}
-use Rattle.rule_field_groups.specs.Below.{plain_sets}
+use Rattle.rule_field_groups.specs.Members.{read_sets}
 use Rattle.rule_field_groups.specs.declared.pass.Pass.{Pass}
-use Rattle.rule_number_lists.specs.NumberLists.{HaveSame}
-use Rattle.rule_merging.specs.Remembered.{Kept, PlainSource, plain_sources, HasLooked, account_of, kept_of}
+use Rattle.rule_field_groups.specs.Remembered.{Kept, HasLooked, account_of, kept_of}
 use Rattle.rule_merging.specs.Counted.{AreListed, Grows}
-use Rattle.rule_merging.specs.declared.remembered.Remembered.{Remembered}
+use Rattle.rule_field_groups.specs.in_sets.in_ground.Fields.{meant_fragments}
+use Rattle.rule_field_groups.specs.in_sets.Nodes.{AreSets, HasAllStarts, schema_in}
+use Rattle.rule_field_groups.specs.in_sets.declared.field_sets.FieldSets.{FieldSets}
+use Rattle.rule_field_groups.specs.declared.remembered.Remembered.{Remembered}
 use Rattle.rule_merging.specs.declared.examination.Examination.{Examination}
 
 abbrev pub schema_of : Examination → Judged
@@ -36,80 +38,69 @@ schema_of e = judged (schema_tree e.schema.now)
 abbrev pub document_of : Examination → MeantDocument Place
 document_of e = document_meant e.document.now
 
+-- the document's sets as nodes
+abbrev pub sets_of : Examination → FieldSets
+sets_of e = e.sets.now
+
+-- it has the sets of its document, those of fragments among them, under its schema
+pub record HasSets (e : Examination) : Type 0 where
+  pub are : AreSets (sets_of e)
+  pub starts : HasAllStarts (sets_of e)
+  pub schema : schema_in (sets_of e) ≡ schema_of e
+  pub fragments : meant_fragments (sets_of e).fragments.now ≡ (document_of e).fragments
+
 -- breaches
 abbrev pub Breaches : Type 0
 Breaches = Vec (Place × BuildError) Global
 
--- without places
-abbrev pub all_plain : List Sets → List (List PlainSet)
-all_plain lists = map plain_sets lists
-
--- where selections come from: from sets, as they are written
-abbrev pub Sources : Type 0
-Sources = List (Source Place)
-
-abbrev pub of_sets : Sets → Sources
-of_sets sets = map OfSet sets
-
--- without places
-abbrev pub plain_pairs : List Sources → List (List PlainSource)
-plain_pairs twos = map plain_sources twos
-
--- a source with each of the others
-abbrev pub with_each : Source Place → Sources → List Sources
-with_each v xs = map (λ w. v ∷ w ∷ []) xs
+-- what merging reads of them
+abbrev pub all_read : List Sets → List (List ReadSet)
+all_read lists = map read_sets lists
 
 -- fields that go together stand in one of the lists
-abbrev pub StandTogether : Pass → Judged → List (List PlainField) → PlainField → PlainField → Type 0
-StandTogether pass s lists = StandWhere (Together pass s) lists
+abbrev pub StandTogether : Pass → Judged → List (List ReadField) → ReadField → ReadField → Type 0
+StandTogether pass s lists = StandWhere (ReadTogether pass s) lists
 
--- ---- pairs of sources
+-- ---- pairs of sets
 
--- two sources are among these pairs
-abbrev pub AreLookedAt : List (List PlainSource) → PlainSource → PlainSource → Type 0
+-- two sets are among these pairs
+abbrev pub AreLookedAt : List (List ReadSet) → ReadSet → ReadSet → Type 0
 AreLookedAt looked a b = HasLooked looked (a ∷ b ∷ [])
 
 module _ (d : MeantDocument Place) where
-  -- contents that sets select, without places
-  abbrev pub PlainSelected : List PlainSet → PlainField → Type 0
-  PlainSelected sets x = IsSelected (unplaced_document d) sets x
+  -- what one of the sets selects, through fragments
+  abbrev pub ReadSelected : List ReadSet → ReadField → Type 0
+  ReadSelected sets x = (s : ReadSet) × (Contains sets s × SelectsRead (fragments_read d) s x)
 
   -- one of these lists of sets selects both
-  abbrev pub IsLeft : List (List PlainSet) → PlainField → PlainField → Type 0
-  IsLeft left x y = (sets : List PlainSet) × (Contains left sets × (PlainSelected sets x × PlainSelected sets y))
+  abbrev pub IsLeft : List (List ReadSet) → ReadField → ReadField → Type 0
+  IsLeft left x y = (sets : List ReadSet) × (Contains left sets × (ReadSelected sets x × ReadSelected sets y))
 
   -- any two that one of these lists of sets selects stand in one of the lists, if they go together
-  abbrev pub AllStand : Pass → Judged → List (List PlainSet) → List (List PlainField) → Type 0
-  AllStand pass s looked lists = (sets : List PlainSet) → Contains looked sets → (x y : PlainField) → PlainSelected sets x → PlainSelected sets y → StandTogether pass s lists x y
+  abbrev pub AllStand : Pass → Judged → List (List ReadSet) → List (List ReadField) → Type 0
+  AllStand pass s looked lists = (sets : List ReadSet) → Contains looked sets → (x y : ReadField) → ReadSelected sets x → ReadSelected sets y → StandTogether pass s lists x y
 
-  -- the sets of sources, in the document
-  abbrev pub opened_here : Sources → Sets
-  opened_here xs = map (opened d.fragments) xs
+  -- the fields of a set, with those of its inline fragments, and the sets of the fragments that these spread
+  abbrev pub ReadOwn : ReadSet → ReadField → Type 0
+  ReadOwn a x = Contains (fields_in a) x
 
-  abbrev pub all_opened : List Sources → List Sets
-  all_opened twos = map opened_here twos
-
-  -- what a source has itself, and where more comes from, without places
-  abbrev pub PlainOwn : PlainSource → PlainField → Type 0
-  PlainOwn a x = Contains (own_fields (opened (unplaced_document d).fragments a)) x
-
-  abbrev pub PlainSpreads : PlainSource → PlainSource → Type 0
-  PlainSpreads a b = Contains (sources (opened (unplaced_document d).fragments a)) b
+  abbrev pub ReadSpreads : ReadSet → ReadSet → Type 0
+  ReadSpreads a b = (n : List ℕ) × (Contains (spreads_in a) n × (option_map (λ f. list_read f.set) (under n d.fragments) ≡ Some b))
 
   -- of each pair that was looked at own fields stand in one of the lists, and what the one spreads was looked at with the other; or it is
   -- one of these that are left
-  abbrev pub PairsAreDone : Pass → Judged → List (List PlainSource) → Kept → Type 0
-  PairsAreDone pass s twos kept = ArePairsDone PlainOwn PlainSpreads (Together pass s) (StandIn kept.lists) (AreLookedAt kept.looked) (AreLookedAt twos)
+  abbrev pub PairsAreDone : Pass → Judged → List (List ReadSet) → Kept → Type 0
+  PairsAreDone pass s twos kept = ArePairsDone ReadOwn ReadSpreads (ReadTogether pass s) (StandIn kept.lists) (AreLookedAt kept.looked) (AreLookedAt twos)
 
   -- fields that go together are settled, what sets select that were looked at stands in the lists, and pairs are done
   pub record AreSettled (pass : Pass) (s : Judged) (kept : Kept) : Type 0 where
-    pub fields : IsSettledIn (PlainBelow d) (Together pass s) (Agree pass s) (StandTogether pass s kept.lists)
+    pub fields : IsSettledIn (ReadBelow d) (ReadTogether pass s) (ReadAgree pass s) (StandTogether pass s kept.lists)
     pub sets : AllStand pass s kept.expanded kept.lists
     pub pairs : PairsAreDone pass s [] kept
 
   -- the same while pairs and lists of sets are left, with what starts
-  pub record AreUnderWay (pass : Pass) (s : Judged) (o : MeantOperation Place) (twos : List (List PlainSource)) (left : List (List PlainSet)) (kept : Kept) : Type 0 where
-    pub fields : IsUnderWay (PlainBelow d) (Together pass s) (Agree pass s) (PlainStarts d o) (IsLeft left) (StandTogether pass s kept.lists)
+  pub record AreUnderWay (pass : Pass) (s : Judged) (o : MeantOperation Place) (twos : List (List ReadSet)) (left : List (List ReadSet)) (kept : Kept) : Type 0 where
+    pub fields : IsUnderWay (ReadBelow d) (ReadTogether pass s) (ReadAgree pass s) (ReadStarts d o) (IsLeft left) (StandTogether pass s kept.lists)
     pub sets : AllStand pass s kept.expanded kept.lists
     pub pairs : PairsAreDone pass s twos kept
 
@@ -144,15 +135,15 @@ module _ (pass : Pass) (s : Judged) (d : MeantDocument Place) where
 
   -- ---- a list of fields
 
-  pub record ListExamined (list : List FieldSelection) (added : List (Broken Place)) (next : List Sets) : Type 0 where
+  pub record ListExamined (list : List Member) (added : List (Broken Place)) (next : List Sets) : Type 0 where
     pub groups : List (List (StandingField Place))
     pub are : AreGroups (Together pass s) (fields_of list) groups
     pub examined : GroupsExamined groups added next
 
   -- two of the list that go together agree, and what lies below them is left
-  abbrev pub IsFresh : List (List PlainSet) → List PlainField → Type 0
-  IsFresh left list = (x y : PlainField) → Contains list x → Contains list y → Together pass s x y
-      → Agree pass s x y × ((u v : PlainField) → PlainBelow d x u → PlainBelow d y v → IsLeft d left u v)
+  abbrev pub IsFresh : List (List ReadSet) → List ReadField → Type 0
+  IsFresh left list = (x y : ReadField) → Contains list x → Contains list y → ReadTogether pass s x y
+      → ReadAgree pass s x y × ((u v : ReadField) → ReadBelow d x u → ReadBelow d y v → IsLeft d left u v)
 
   -- ---- lists of sets
 
@@ -173,43 +164,54 @@ module _ (pass : Pass) (s : Judged) (d : MeantDocument Place) where
   pub record SetsExamined (lists : List Sets) (old new : Kept) (added : List (Broken Place)) (next : List Sets) : Type 0 where
     pub right : (fault : Broken Place) → Contains added fault → TellsIn lists fault
     pub under : (sets : Sets) → Contains next sets → ComeFrom lists sets
-    pub more : (list : List PlainField) → Contains old.lists list → Contains new.lists list
+    pub more : (list : List ReadField) → Contains old.lists list → Contains new.lists list
     -- where nothing is told, whatever else is left
-    pub settled : added ≡ [] → (o : MeantOperation Place) (left : List (List PlainSet))
-        → AreUnderWay d pass s o [] (all_plain lists ++ left) old → AreUnderWay d pass s o [] (left ++ all_plain next) new × AllStand d pass s (all_plain lists) new.lists
+    pub settled : added ≡ [] → (o : MeantOperation Place) (left : List (List ReadSet))
+        → AreUnderWay d pass s o [] (all_read lists ++ left) old → AreUnderWay d pass s o [] (left ++ all_read next) new × AllStand d pass s (all_read lists) new.lists
 
-  -- ---- pairs of sources
+  -- ---- pairs of sets
 
   -- a pair is looked at: what each spreads is a pair with the other, and below fields of the two that go together are lists of sets
-  pub record PairExamined (two : Sources) (old new : Kept) (added : List (Broken Place)) (next : List Sets) : Type 0 where
-    pub right : (fault : Broken Place) → Contains added fault → TellsIn (opened_here d two ∷ []) fault
-    pub under : (sets : Sets) → Contains next sets → ComeFrom (opened_here d two ∷ []) sets
-    pub more : (list : List PlainField) → Contains old.lists list → Contains new.lists list
-    pub looks : (known : List PlainSource) → Contains old.looked known → Contains new.looked known
-    pub pairs : List Sources
+  pub record PairExamined (two : Sets) (old new : Kept) (added : List (Broken Place)) (next : List Sets) : Type 0 where
+    pub right : (fault : Broken Place) → Contains added fault → TellsIn (two ∷ []) fault
+    pub under : (sets : Sets) → Contains next sets → ComeFrom (two ∷ []) sets
+    pub more : (list : List ReadField) → Contains old.lists list → Contains new.lists list
+    pub looks : (known : List ReadSet) → Contains old.looked known → Contains new.looked known
+    pub pairs : List Sets
     pub is_pairs : new.pairs ≡ old.pairs ++ pairs
-    pub within : (part : Sources) → Contains pairs part → SelectsAsMuch d (opened_here d two) (opened_here d part)
+    pub count : length new.looked ≡ length old.looked + length pairs
+    pub within : (part : Sets) → Contains pairs part → SelectsAsMuch d two part
     -- where nothing is told, whatever else is left
-    pub settled : added ≡ [] → (o : MeantOperation Place) (twos : List (List PlainSource)) (left : List (List PlainSet))
-        → AreUnderWay d pass s o (plain_sources two ∷ twos) left old → AreUnderWay d pass s o (twos ++ plain_pairs pairs) (left ++ all_plain next) new
+    pub settled : added ≡ [] → (o : MeantOperation Place) (twos : List (List ReadSet)) (left : List (List ReadSet))
+        → AreUnderWay d pass s o (read_sets two ∷ twos) left old → AreUnderWay d pass s o (twos ++ all_read pairs) (left ++ all_read next) new
 
-  -- the same of the first pairs
-  pub record PairsExamined (n : ℕ) (old new : Kept) (added : List (Broken Place)) (next : List Sets) : Type 0 where
-    pub right : (fault : Broken Place) → Contains added fault → TellsIn (all_opened d old.pairs) fault
-    pub under : (sets : Sets) → Contains next sets → ComeFrom (all_opened d old.pairs) sets
-    pub more : (list : List PlainField) → Contains old.lists list → Contains new.lists list
-    pub looks : (known : List PlainSource) → Contains old.looked known → Contains new.looked known
-    pub within : (part : Sources) → Contains new.pairs part → (two : Sources) × (Contains old.pairs two × SelectsAsMuch d (opened_here d two) (opened_here d part))
+  -- the same of pairs that wait, and of those that come to them: some are taken, and the others wait
+  pub record PairsExamined (old new : Kept) (added : List (Broken Place)) (next : List Sets) : Type 0 where
+    pub right : (fault : Broken Place) → Contains added fault → TellsIn old.pairs fault
+    pub under : (sets : Sets) → Contains next sets → ComeFrom old.pairs sets
+    pub more : (list : List ReadField) → Contains old.lists list → Contains new.lists list
+    pub looks : (known : List ReadSet) → Contains old.looked known → Contains new.looked known
+    pub within : (part : Sets) → Contains new.pairs part → (two : Sets) × (Contains old.pairs two × SelectsAsMuch d two part)
     -- where nothing is told, whatever else is left
-    pub settled : added ≡ [] → (o : MeantOperation Place) (left : List (List PlainSet))
-        → AreUnderWay d pass s o (plain_pairs old.pairs) left old → AreUnderWay d pass s o (plain_pairs (drop n new.pairs)) (left ++ all_plain next) new
+    pub settled : added ≡ [] → (o : MeantOperation Place) (left : List (List ReadSet))
+        → AreUnderWay d pass s o (all_read old.pairs) left old → AreUnderWay d pass s o (all_read new.pairs) (left ++ all_read next) new
+
+  -- such pairs are looked at, and examined with those that come to them
+  pub record TwosExamined (twos : List Sets) (old new : Kept) (added : List (Broken Place)) (next : List Sets) : Type 0 where
+    pub right : (fault : Broken Place) → Contains added fault → TellsIn twos fault
+    pub under : (sets : Sets) → Contains next sets → ComeFrom twos sets
+    pub more : (list : List ReadField) → Contains old.lists list → Contains new.lists list
+    pub looks : (known : List ReadSet) → Contains old.looked known → Contains new.looked known
+    pub has : (two : Sets) → Contains twos two → HasLooked new.looked (read_sets two)
+    -- where nothing is told, none of them waits, whatever else is left
+    pub settled : added ≡ [] → (o : MeantOperation Place) (left : List (List ReadSet)) → AreUnderWay d pass s o [] left old → AreUnderWay d pass s o [] (left ++ all_read next) new
 
   -- ---- all
 
   -- from what an operation selects on all is examined, but for what is left
   pub record AllExamined (o : MeantOperation Place) (old new : Kept) (added : List (Broken Place)) (left : Bool) : Type 0 where
     pub right : (fault : Broken Place) → Contains added fault → MergingBreaks s d o fault
-    pub settled : added ≡ [] → left ≡ false → AreSettled d pass s old → AreSettled d pass s new × StartsStand (PlainStarts d o) (StandTogether pass s new.lists)
+    pub settled : added ≡ [] → left ≡ false → AreSettled d pass s old → AreSettled d pass s new × StartsStand (ReadStarts d o) (StandTogether pass s new.lists)
     pub bound : left ≡ true → PassesChainBound d o
 
 -- ---- the same of breaches and lists of the program
@@ -218,7 +220,7 @@ abbrev pub ExaminesGroups : Examination → List (List (StandingField Place)) �
 ExaminesGroups e groups old new next next' = (added : List (Broken Place)) × ((below : List Sets) × ((brokens_of new ≡ brokens_of old ++ added) × ((next' ≡ next ++ below)
     × GroupsExamined e.pass (schema_of e) (document_of e) groups added below)))
 
-abbrev pub ExaminesList : Examination → List FieldSelection → Breaches → Breaches → List Sets → List Sets → Type 0
+abbrev pub ExaminesList : Examination → List Member → Breaches → Breaches → List Sets → List Sets → Type 0
 ExaminesList e list old new next next' = (added : List (Broken Place)) × ((below : List Sets) × ((brokens_of new ≡ brokens_of old ++ added) × ((next' ≡ next ++ below)
     × ListExamined e.pass (schema_of e) (document_of e) list added below)))
 
@@ -226,22 +228,21 @@ abbrev pub ExaminesSets : Examination → List Sets → Kept → Kept → Breach
 ExaminesSets e lists examined examined' old new next next' = (added : List (Broken Place)) × ((below : List Sets) × ((brokens_of new ≡ brokens_of old ++ added) × ((next' ≡ next ++ below)
     × SetsExamined e.pass (schema_of e) (document_of e) lists examined examined' added below)))
 
--- lists of two of these sources, and any two of them are one of the lists
-pub record AreTwosOf (xs : Sources) (twos : List Sources) : Type 0 where
-  pub within : (two : Sources) → Contains twos two → (v : Source Place) → Contains two v → Contains xs v
-  pub covers : (v w : Source Place) → Contains xs v → Contains xs w → (two : Sources) × (Contains twos two × HaveSame two (v ∷ w ∷ []))
-
-abbrev pub ExaminesPair : Examination → Sources → Kept → Kept → Breaches → Breaches → List Sets → List Sets → Type 0
+abbrev pub ExaminesPair : Examination → Sets → Kept → Kept → Breaches → Breaches → List Sets → List Sets → Type 0
 ExaminesPair e two examined examined' old new next next' = (added : List (Broken Place)) × ((below : List Sets) × ((brokens_of new ≡ brokens_of old ++ added) × ((next' ≡ next ++ below)
     × PairExamined e.pass (schema_of e) (document_of e) two examined examined' added below)))
 
-abbrev pub ExaminesFirst : Examination → ℕ → Kept → Kept → Breaches → Breaches → List Sets → List Sets → Type 0
-ExaminesFirst e n examined examined' old new next next' = (added : List (Broken Place)) × ((below : List Sets) × ((brokens_of new ≡ brokens_of old ++ added) × ((next' ≡ next ++ below)
-    × PairsExamined e.pass (schema_of e) (document_of e) n examined examined' added below)))
+abbrev pub ExaminesSome : Examination → Kept → Kept → Breaches → Breaches → List Sets → List Sets → Type 0
+ExaminesSome e examined examined' old new next next' = (added : List (Broken Place)) × ((below : List Sets) × ((brokens_of new ≡ brokens_of old ++ added) × ((next' ≡ next ++ below)
+    × PairsExamined e.pass (schema_of e) (document_of e) examined examined' added below)))
 
 -- all of them, if nothing is told
 abbrev pub ExaminesPairs : Examination → Kept → Kept → Breaches → Breaches → List Sets → List Sets → Type 0
-ExaminesPairs e examined examined' old new next next' = (n : ℕ) × ((brokens_of new ≡ brokens_of old → length examined'.pairs ≤ n) × ExaminesFirst e n examined examined' old new next next')
+ExaminesPairs e examined examined' old new next next' = (brokens_of new ≡ brokens_of old → examined'.pairs ≡ []) × ExaminesSome e examined examined' old new next next'
+
+abbrev pub ExaminesTwos : Examination → List Sets → Kept → Kept → Breaches → Breaches → List Sets → List Sets → Type 0
+ExaminesTwos e twos examined examined' old new next next' = (added : List (Broken Place)) × ((below : List Sets) × ((brokens_of new ≡ brokens_of old ++ added) × ((next' ≡ next ++ below)
+    × TwosExamined e.pass (schema_of e) (document_of e) twos examined examined' added below)))
 
 abbrev pub ExaminesAll : Examination → MeantSet Place → Kept → Kept → Breaches → Breaches → Bool → Type 0
 ExaminesAll e start examined examined' old new left = (o : MeantOperation Place) → o.set ≡ start
@@ -249,11 +250,11 @@ ExaminesAll e start examined examined' old new left = (o : MeantOperation Place)
 
 -- lists of fields that come to those that were examined for what such sets select; the same for one list of fields
 abbrev pub GrowsOver : Examination → List Sets → Remembered → Remembered → Type 0
-GrowsOver e lists old new = Grows (document_of e) (λ os. AreListed (document_of e) os lists) e.pass (account_of old) (account_of new)
+GrowsOver e lists old new = Grows (document_of e) (λ os. AreListed (document_of e) os lists) e.pass (account_of (sets_of e) old) (account_of (sets_of e) new)
 
--- the same of two sources, and of the pairs
-abbrev pub GrowsOverTwo : Examination → Sources → Remembered → Remembered → Type 0
-GrowsOverTwo e two old new = GrowsOver e (opened_here (document_of e) two ∷ []) old new
+-- the same of two sets, and of the pairs
+abbrev pub GrowsOverTwo : Examination → Sets → Remembered → Remembered → Type 0
+GrowsOverTwo e two old new = GrowsOver e (two ∷ []) old new
 
 abbrev pub GrowsHere : Examination → Remembered → Remembered → Type 0
-GrowsHere e old new = GrowsOver e (all_opened (document_of e) (kept_of old).pairs) old new
+GrowsHere e old new = GrowsOver e (kept_of (sets_of e) old).pairs old new

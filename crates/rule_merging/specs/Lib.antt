@@ -1,7 +1,6 @@
-pub mod Remembered
+pub mod Paired
 pub mod Counted
 pub mod Examined
-pub mod Pairs
 pub mod Twos
 pub mod Verdict
 pub mod Merged

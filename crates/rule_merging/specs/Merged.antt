@@ -1,13 +1,13 @@
 -- What merging tells of an operation, and what it keeps (GraphQL, October 2021, section 5.3.2).
 use Rattle.std.specs.Prelude.{◌≡◌, ◌++◌, ◌∷◌, Bool, true, false, List, [], map, Contains}
 use Rattle.graphql_names.specs.Placed.{Place}
-use Rattle.document_meaning.specs.MeantTree.{MeantOperation, MeantDocument}
-use Rattle.rule_definitions.specs.Judged.{Judged}
-use Rattle.rule_document_definitions.specs.DocumentFaults.{Broken, OfData, OfDocument, OfLimit}
-use Rattle.rule_document_definitions.specs.Merging.{MergingBreaks}
-use Rattle.rule_document_definitions.specs.Limits.{PassesChainBound}
-use Rattle.rule_document_definitions.specs.Reached.{AtOperation}
-use Rattle.rule_document_definitions.specs.Told.{PlacedDocumentFault}
+use Rattle.rule_field_groups.specs.in_meaning.MeantTree.{MeantOperation, MeantDocument}
+use Rattle.rule_field_groups.specs.in_definitions.Judged.{Judged}
+use Rattle.rule_field_groups.specs.in_document_definitions.DocumentFaults.{Broken, OfData, OfDocument, OfLimit}
+use Rattle.rule_field_groups.specs.in_document_definitions.Merging.{MergingBreaks}
+use Rattle.rule_field_groups.specs.in_document_definitions.Limits.{PassesChainBound}
+use Rattle.rule_field_groups.specs.in_document_definitions.Reached.{AtOperation}
+use Rattle.rule_field_groups.specs.in_document_definitions.Told.{PlacedDocumentFault}
 use Rattle.graphql_faults.specs.DetailsTree.{of_document, Telling}
 use Rattle.rule_merging.specs.Verdict.{AreBothSettled}
 use Rattle.rule_merging.specs.declared.operation.Examined.{Examined}

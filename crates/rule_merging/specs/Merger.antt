@@ -1,20 +1,20 @@
 -- What contracts see of a `FieldsInSetCanMerge`.
-use Rattle.std.specs.Prelude.{◌≡◌, ◌≤◌, ◌↔◌, ℕ, Bool, List, [], map, flat_map, length, Contains, IsTrue}
+use Rattle.std.specs.Prelude.{◌≡◌, ◌≤◌, ◌↔◌, ◌++◌, ◌∷◌, ℕ, Bool, List, [], map, flat_map, length, Contains, IsTrue}
 use Rattle.std.specs.List.{sum, cons_option}
 use Rattle.std.specs.Option.{option_map}
 use Rattle.graphql_names.specs.Placed.{Place}
-use Rattle.rule_field_groups.specs.in_schema.SchemaOf.{schema_tree}
-use Rattle.document_meaning.specs.MeantTree.{MeantOperation, MeantDocument}
-use Rattle.rule_field_groups.specs.in_typing.DocumentView.{document_meant}
-use Rattle.rule_definitions.specs.Judged.{Judged, judged}
-use Rattle.rule_document_definitions.specs.Merging.{FieldsMerge, SameKey}
-use Rattle.rule_document_definitions.specs.Selected.{Standing, as_field, all_selections, operations}
-use Rattle.rule_document_definitions.specs.Contents.{unplaced_content}
-use Rattle.rule_document_definitions.specs.PlainFields.{PlainField, PlainStarts, AreShapesStanding}
-use Rattle.rule_document_definitions.specs.Settled.{StandWhere, StartsStand}
+use Rattle.rule_field_groups.specs.in_sets.in_ground.in_schema.SchemaOf.{schema_tree}
+use Rattle.rule_field_groups.specs.in_meaning.MeantTree.{MeantOperation, MeantDocument}
+use Rattle.rule_field_groups.specs.in_sets.in_ground.in_typed_operations.DocumentView.{document_meant}
+use Rattle.rule_field_groups.specs.in_definitions.Judged.{Judged, judged}
+use Rattle.rule_field_groups.specs.in_document_definitions.Merging.{FieldsMerge}
+use Rattle.rule_field_groups.specs.in_document_definitions.Selected.{Standing, as_field, all_selections, operations}
+use Rattle.rule_field_groups.specs.in_document_definitions.ReadFields.{ReadField, ReadSet, field_read, ReadSameKey, ReadStarts, AreReadShapesStanding}
+use Rattle.rule_field_groups.specs.in_document_definitions.Settled.{StandWhere, StartsStand}
 use Rattle.rule_number_lists.specs.NumberLists.{length_above_two}
-use Rattle.rule_merging.specs.Counted.{IsLast, IsCountedBy, IsPaidBy, most_members, most_comparisons}
-use Rattle.rule_merging.specs.Verdict.{account_in, lists_examined, comparisons_of, OnlyGrow}
+use Rattle.rule_field_groups.specs.Paid.{most_members}
+use Rattle.rule_merging.specs.Counted.{IsLast, IsCountedBy, IsPaidBy, most_comparisons}
+use Rattle.rule_merging.specs.Verdict.{AreSetsFor, account_in, lists_examined, comparisons_of, pairs_looked, sets_numbered, AreFewPairs, OnlyGrow}
 use Rattle.graphql_faults.specs.DetailsTree.{Telling}
 use Rattle.graphql_faults.specs.DetailsView.{diagnostics_of}
 use Rattle.graphql_faults.specs.declared.diagnostic_list.DiagnosticList.{DiagnosticList}
@@ -28,10 +28,13 @@ pub record Merger : Type 0 where
   pub is_clean : Bool
   -- the lists of fields that were examined for shapes, the fields that were met, how many members of lists these paid for, and how often
   -- the shapes of two fields were compared
-  pub lists : List (List PlainField)
-  pub met : List PlainField
+  pub lists : List (List ReadField)
+  pub met : List ReadField
   pub paid : ℕ
   pub comparisons : ℕ
+  -- the pairs of sets that were looked at together, and how many contents of sets were met
+  pub pairs : List (List ReadSet)
+  pub sets : ℕ
 
 abbrev pub merger_of : FieldsInSetCanMerge → Merger
 merger_of m = record {
@@ -42,7 +45,13 @@ merger_of m = record {
   met = (account_in m.examined).met;
   paid = (account_in m.examined).spent;
   comparisons = comparisons_of m.examined;
+  pairs = pairs_looked m.examined;
+  sets = sets_numbered m.examined;
 }
+
+-- the selection sets that it has are those of its document under its schema, with right numbers: so from the start, and after each call
+abbrev pub IsReady : FieldsInSetCanMerge → Type 0
+IsReady m = AreSetsFor (judged (schema_tree m.schema.now)) (document_meant m.document.now) m.examined.sets
 
 -- shapes were compared at most as often as the lists are long in all; no two lists have the same members, each is without equal
 -- members, and all members are last fields of chains of these operations, in the document; the lists of more than two have in all at most
@@ -58,20 +67,24 @@ IsCountedMerger m = IsCountedOver (operations m.document) m
 -- often as `most_comparisons` says: their number times itself, four times it, and 200. The lists of more than two have in all at most
 -- `most_members` members
 abbrev pub ComparesFew : Merger → Type 0
-ComparesFew m = (os : List (MeantOperation Place)) (all : List PlainField) → IsCountedOver os m → ((x : PlainField) → IsLast m.document os x → Contains all x)
+ComparesFew m = (os : List (MeantOperation Place)) (all : List ReadField) → IsCountedOver os m → ((x : ReadField) → IsLast m.document os x → Contains all x)
     → (m.comparisons ≤ most_comparisons (length all)) × (sum (map length_above_two m.lists) ≤ most_members (length all))
 
 -- what a selection says, if it is a field; the fields of a document at any depth, as often as they are written
-abbrev pub written : Standing Place → List PlainField
-written x = cons_option (option_map unplaced_content (as_field x)) []
+abbrev pub written : Standing Place → List ReadField
+written x = cons_option (option_map field_read (as_field x)) []
 
-abbrev pub fields_written : MeantDocument Place → List PlainField
+abbrev pub fields_written : MeantDocument Place → List ReadField
 fields_written d = flat_map written (all_selections d)
 
 -- so of the operations of a document, by how many fields are written in it
 abbrev pub ComparesFewInDocument : Merger → Type 0
 ComparesFewInDocument m = IsCountedMerger m
     → (m.comparisons ≤ most_comparisons (length (fields_written m.document))) × (sum (map length_above_two m.lists) ≤ most_members (length (fields_written m.document)))
+
+-- sets are looked at in pairs at most so often as their number says times itself, and once more each, over both passes
+abbrev pub LooksAtFewPairs : Merger → Type 0
+LooksAtFewPairs m = AreFewPairs m.pairs m.sets
 
 -- behind what was told stands only what merging tells of the operation, under the schema and in the document of the value
 abbrev pub MergerTold : Merger → MeantOperation Place → Telling → Telling → Type 0
@@ -81,11 +94,20 @@ MergerTold m o old new = MergingTold m.schema m.document o old new
 abbrev pub SilenceMeansMerging : Merger → MeantOperation Place → Telling → Telling → Type 0
 SilenceMeansMerging m o old new = IsTrue m.is_clean → new ≡ old → FieldsMerge m.schema m.document o
 
--- where a clean value tells nothing of the operation, the lists that it keeps are closed: fields of one key that stand in one of them have
--- one shape, and what lies below the one stands with what has its key and lies below the other; and so does what the operation starts with
+-- the lists are closed: fields of one key that stand in one of them have one shape, and what lies below the one stands with what has its
+-- key and lies below the other; and so does what the operation starts with
+abbrev pub AreClosed : Judged → MeantDocument Place → MeantOperation Place → List (List ReadField) → Type 0
+AreClosed s d o lists = AreReadShapesStanding d s (StandWhere ReadSameKey lists) × StartsStand (ReadStarts d o) (StandWhere ReadSameKey lists)
+
+-- these lists, and one more for each of these fields, with it alone
+abbrev pub with_alone : List (List ReadField) → List ReadField → List (List ReadField)
+with_alone lists fields = lists ++ map (λ x. x ∷ []) fields
+
+-- where a clean value tells nothing of the operation, the lists that it keeps are closed, together with some fields alone: those of the
+-- operation, if no two of them have one key, since lists of them are not made
 abbrev pub KeepsClosed : Merger → Merger → MeantOperation Place → (TellsNothing : Type 0) → Type 0
 KeepsClosed before after o TellsNothing = IsTrue before.is_clean → TellsNothing
-    → ∥ AreShapesStanding before.document before.schema (StandWhere SameKey after.lists) × StartsStand (PlainStarts before.document o) (StandWhere SameKey after.lists) ∥₁
+    → ∥ ((lone : List ReadField) × AreClosed before.schema before.document o (with_alone after.lists lone)) ∥₁
 
 -- a call adds nothing to the list
 abbrev pub AddsNothing : DiagnosticList → DiagnosticList → Type 0
@@ -99,6 +121,6 @@ StaysCleanInSilence before after old new = IsTrue after.is_clean ↔ (IsTrue bef
 abbrev pub StaysCounted : Merger → Merger → MeantOperation Place → Type 0
 StaysCounted before after o = (os : List (MeantOperation Place)) → Contains os o → IsCountedOver os before → IsCountedOver os after
 
--- the lists stay, and perhaps more come behind them; the count never falls
+-- each list stays, and perhaps more come to them; the count never falls
 abbrev pub OnlyGrows : Merger → Merger → Type 0
 OnlyGrows before after = OnlyGrow before.lists before.comparisons after.lists after.comparisons

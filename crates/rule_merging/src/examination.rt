@@ -1,20 +1,20 @@
 //! The examination of lists, level by level.
-ghost use Rattle.std.specs.Prelude.{◌≡◌, ◌≤◌, ◌+◌, ◌∷◌, [], map, IfOk, OnOk};
-ghost use Rattle.rule_field_groups.specs.in_ground.Fields.{fields_of};
+ghost use Rattle.std.specs.Prelude.{◌≡◌, ◌≤◌, ◌+◌, ◌∷◌, [], map, IsTrue, IfOk, OnOk};
+ghost use Rattle.rule_field_groups.specs.in_sets.Read.{set_at};
+ghost use Rattle.rule_field_groups.specs.Members.{fields_of, meant_sets, AreMembersOf};
+ghost use Rattle.rule_field_groups.specs.Below.{IsMergedIn};
 ghost use Rattle.rule_field_groups.specs.Compared.{compared};
+ghost use Rattle.rule_field_groups.specs.Grouped.{lists_of};
 ghost use Rattle.rule_field_groups.specs.KeyGroups.{parts_of, compared_in};
-ghost use Rattle.rule_field_groups.specs.Under.{sets_in};
-ghost use Rattle.rule_field_groups.specs.Below.{meant_at, meant_sets};
-ghost use Rattle.rule_merging.specs.Examined.{document_of, HaveFields, ExaminesGroups, ExaminesList, GrowsOver};
+ghost use Rattle.rule_field_groups.specs.Under.{sets_in, IsGroupOf};
+ghost use Rattle.rule_merging.specs.Examined.{HasSets, sets_of, document_of, HaveFields, ExaminesGroups, ExaminesList, GrowsOver};
 ghost use Rattle.rule_merging.specs.OfProgram.{Comes, ExaminesLevel, ExaminesFrom, ExaminesThese};
 
-use crate::remembered::Remembered;
 use document_typed_operations::ExecutableDocument;
 use rule_field_groups::{
-    Breach, FieldSelection, KeyGroup, Pass, Schema, SelectedSet, check_key_group, groups_of,
-    lists_below, merged_list,
+    Breach, FieldSets, KeyGroup, Member, MergedList, NumberLists, NumberSet, Pass, Remembered,
+    Schema, Toll, check_key_group, groups_of, lists_below, merged_list,
 };
-use rule_number_lists::ListMemory;
 use std::alloc::{AllocError, Global};
 use std::mem::replace;
 
@@ -23,41 +23,49 @@ const CHAIN_BOUND: usize = 128;
 
 /// What lists are examined for, and the document that they are of.
 #[derive(Clone, Copy)]
-pub(crate) struct Examination<'doc> {
+pub(crate) struct Examination<'a, 'doc> {
     pub(crate) pass: Pass,
     pub(crate) schema: &'doc Schema,
     pub(crate) document: &'doc ExecutableDocument,
+    /// The sets of the document.
+    pub(crate) sets: &'a FieldSets<'doc>,
 }
 
 /// A level of one list, of this set alone.
-fn first_level<'doc>(
-    alloc: Global,
-    start: SelectedSet<'doc>,
-) -> Result<Vec<Vec<SelectedSet<'doc>>>, AllocError>
-    ensures { IfOk result (λ level. sets_in level ≡ (meant_at start.entry ∷ []) ∷ []) }
+fn first_level(alloc: Global, start: usize) -> Result<Vec<Vec<usize>>, AllocError>
+    ensures { IfOk result (λ level. lists_of level ≡ (start ∷ []) ∷ []) }
 {
-    let mut sets = Vec::new(alloc);
-    sets.push(start)?;
+    let mut nodes = Vec::new(alloc);
+    nodes.push(start)?;
     let mut level = Vec::new(alloc);
-    level.push(sets)?;
+    level.push(nodes)?;
     Ok(level)
 }
 
-impl<'doc> Examination<'doc> {
+/// Whether a list is whole, with so few fields that these are compared two by two rather than so many sets.
+fn has_few(list: &MergedList<'_>, sets: usize) -> bool
+    ensures { IsTrue result → IsTrue list.now.is_whole }
+{
+    list.is_whole && list.members.len() / 2 <= sets
+}
+
+impl<'doc> Examination<'_, 'doc> {
     /// Compares the fields of one key, and adds the lists of sets below them.
     fn examine_group(
         &self,
         group: &KeyGroup<'doc>,
-        next: &mut Vec<Vec<SelectedSet<'doc>>>,
+        next: &mut Vec<Vec<usize>>,
         breaches: &mut Vec<Breach>,
         comparisons: &mut u128,
     ) -> Result<(), AllocError>
-        ensures examined { OnOk result (ExaminesGroups self.now (map fields_of (parts_of group.now)) breaches.old breaches.new (sets_in next.old) (sets_in next.new)) }
+        requires sets { HasSets self.now }
+        requires members { IsGroupOf (sets_of self.now) group.now }
+        ensures examined { OnOk result (ExaminesGroups self.now (map fields_of (parts_of group.now)) breaches.old breaches.new (sets_in (sets_of self.now) next.old) (sets_in (sets_of self.now) next.new)) }
         ensures more { comparisons.old ≤ comparisons.new }
         ensures counted { comparisons.new ≤ comparisons.old + compared_in self.now.pass group.now }
     {
         check_key_group(self.pass, self.schema, group, breaches, comparisons)?;
-        let mut lists = lists_below(*next.allocator(), group)?;
+        let mut lists = lists_below(*next.allocator(), self.sets, group)?;
         next.append(&mut lists)?;
         Ok(())
     }
@@ -65,12 +73,14 @@ impl<'doc> Examination<'doc> {
     /// Examines a list: compares the fields of each group, and adds the sets below the groups.
     pub(crate) fn examine_list(
         &self,
-        list: &[FieldSelection<'doc>],
-        next: &mut Vec<Vec<SelectedSet<'doc>>>,
+        list: &[Member<'doc>],
+        next: &mut Vec<Vec<usize>>,
         breaches: &mut Vec<Breach>,
         comparisons: &mut u128,
     ) -> Result<(), AllocError>
-        ensures examined { OnOk result (ExaminesList self.now list.now breaches.old breaches.new (sets_in next.old) (sets_in next.new)) }
+        requires sets { HasSets self.now }
+        requires members { AreMembersOf (sets_of self.now) list.now }
+        ensures examined { OnOk result (ExaminesList self.now list.now breaches.old breaches.new (sets_in (sets_of self.now) next.old) (sets_in (sets_of self.now) next.new)) }
         ensures more { comparisons.old ≤ comparisons.new }
         ensures counted { comparisons.new ≤ comparisons.old + compared self.now.pass list.now }
     {
@@ -81,24 +91,50 @@ impl<'doc> Examination<'doc> {
         Ok(())
     }
 
+    /// Examines what some sets select where a list of it is not paid: two by two, the fields where they are few for so many sets, or
+    /// else the sets.
+    fn examine_unpaid(
+        &self,
+        nodes: &[usize],
+        list: &MergedList<'doc>,
+        examined: &mut Remembered,
+        breaches: &mut Vec<Breach>,
+    ) -> Result<(), AllocError>
+        requires sets { HasSets self.now }
+        requires members { AreMembersOf (sets_of self.now) list.now.members.items }
+        requires whole { IsTrue list.now.is_whole → IsMergedIn (document_of self.now) (meant_sets (sets_of self.now) nodes.now) list.now.members.items }
+        ensures examined { OnOk result (ExaminesThese self.now nodes.now examined.old examined.new breaches.old breaches.new) }
+        ensures counted { GrowsOver self.now (meant_sets (sets_of self.now) nodes.now ∷ []) examined.old examined.new }
+    {
+        if !has_few(list, nodes.len()) {
+            return self.examine_twos(nodes, examined, breaches);
+        }
+        self.examine_each(&list.members, &list.members, examined, breaches)
+    }
+
     /// Examines what some sets select: all of it, unless a list with the same contents was examined before; or where that is not
     /// paid, what each two of them select.
     fn examine_paid(
         &self,
-        sets: &[SelectedSet<'doc>],
-        examined: &mut Remembered<'doc>,
+        nodes: &[usize],
+        examined: &mut Remembered,
         breaches: &mut Vec<Breach>,
     ) -> Result<(), AllocError>
-        ensures examined { OnOk result (ExaminesThese self.now sets.now examined.old examined.new breaches.old breaches.new) }
-        ensures counted { GrowsOver self.now (meant_sets sets.now ∷ []) examined.old examined.new }
+        requires sets { HasSets self.now }
+        ensures examined { OnOk result (ExaminesThese self.now nodes.now examined.old examined.new breaches.old breaches.new) }
+        ensures counted { GrowsOver self.now (meant_sets (sets_of self.now) nodes.now ∷ []) examined.old examined.new }
     {
-        let list = merged_list(*breaches.allocator(), &self.document.fragments, sets)?;
-        match examined.remember_paid(&list)? {
-            None => self.examine_twos(sets, examined, breaches),
+        let alloc = *breaches.allocator();
+        let mut toll = examined.toll();
+        // what is not paid takes as many steps in any case, to look at the sets in pairs
+        toll.paid = toll.paid.max(nodes.len().saturating_mul(nodes.len()));
+        let list = merged_list(alloc, self.sets, toll, nodes)?;
+        match examined.remember_paid(alloc, &list)? {
+            None => self.examine_unpaid(nodes, &list, examined, breaches),
             Some(false) => Ok(()),
             Some(true) => {
                 let comparisons = &mut examined.comparisons;
-                self.examine_list(&list, &mut examined.next, breaches, comparisons)
+                self.examine_list(&list.members, &mut examined.next, breaches, comparisons)
             }
         }
     }
@@ -106,21 +142,22 @@ impl<'doc> Examination<'doc> {
     /// Examines what some sets select, unless this was looked at before. What is skipped is remembered by its pairs alone.
     fn examine_once(
         &self,
-        sets: &[SelectedSet<'doc>],
-        examined: &mut Remembered<'doc>,
+        nodes: &[usize],
+        examined: &mut Remembered,
         breaches: &mut Vec<Breach>,
     ) -> Result<(), AllocError>
-        ensures examined { OnOk result (ExaminesThese self.now sets.now examined.old examined.new breaches.old breaches.new) }
-        ensures counted { GrowsOver self.now (meant_sets sets.now ∷ []) examined.old examined.new }
+        requires sets { HasSets self.now }
+        ensures examined { OnOk result (ExaminesThese self.now nodes.now examined.old examined.new breaches.old breaches.new) }
+        ensures counted { GrowsOver self.now (meant_sets (sets_of self.now) nodes.now ∷ []) examined.old examined.new }
     {
-        if examined.skips(sets) {
-            return self.examine_twos(sets, examined, breaches);
+        if examined.skips(nodes) {
+            return self.examine_twos(nodes, examined, breaches);
         }
         // the lists are apart while this one is examined: it is theirs only when what it selects stands
-        let none = ListMemory::new(*breaches.allocator());
-        let mut expanded = replace(&mut examined.expanded, none);
-        if expanded.remember(sets)? {
-            self.examine_paid(sets, examined, breaches)?;
+        let alloc = *breaches.allocator();
+        let mut expanded = replace(&mut examined.expanded, NumberLists::new(alloc));
+        if Remembered::expand(&mut expanded, alloc, self.sets, nodes)? {
+            self.examine_paid(nodes, examined, breaches)?;
         }
         examined.expanded = expanded;
         Ok(())
@@ -129,32 +166,50 @@ impl<'doc> Examination<'doc> {
     /// Examines the lists of one level. The lists of the next one are given.
     fn examine_level(
         &self,
-        level: &[Vec<SelectedSet<'doc>>],
-        examined: &mut Remembered<'doc>,
+        level: &[Vec<usize>],
+        examined: &mut Remembered,
         breaches: &mut Vec<Breach>,
-    ) -> Result<Vec<Vec<SelectedSet<'doc>>>, AllocError>
+    ) -> Result<Vec<Vec<usize>>, AllocError>
+        requires sets { HasSets self.now }
         ensures examined { IfOk result (λ next. ExaminesLevel self.now level.now examined.old examined.new breaches.old breaches.new next) }
-        ensures counted { GrowsOver self.now (map (λ v. meant_sets v.items) level.now) examined.old examined.new }
+        ensures counted { GrowsOver self.now (map (λ v. meant_sets (sets_of self.now) v.items) level.now) examined.old examined.new }
     {
         examined.next.clear();
-        for sets in level {
-            self.examine_once(sets, examined, breaches)?;
+        for nodes in level {
+            self.examine_once(nodes, examined, breaches)?;
         }
         let none = Vec::new(*breaches.allocator());
         Ok(replace(&mut examined.next, none))
     }
 
-    /// Whether one of the lists of sets selects a field.
-    fn have_fields(
-        &self,
-        alloc: Global,
-        level: &[Vec<SelectedSet<'doc>>],
-    ) -> Result<bool, AllocError>
-        ensures { IfOk result (λ some. HaveFields (document_of self.now) some (map (λ v. meant_sets v.items) level.now)) }
+    /// Whether these sets select a field.
+    fn selects_fields(&self, alloc: Global, nodes: &[usize]) -> Result<bool, AllocError>
+        requires sets { HasSets self.now }
+        ensures { IfOk result (λ some. HaveFields (document_of self.now) some (meant_sets (sets_of self.now) nodes.now ∷ [])) }
     {
-        for sets in level {
-            let list = merged_list(alloc, &self.document.fragments, sets)?;
-            if !list.is_empty() {
+        let met = NumberSet::new(alloc);
+        let toll = Toll {
+            met: &met,
+            paid: usize::MAX,
+            each: 0,
+        };
+        let list = merged_list(alloc, self.sets, toll, nodes)?;
+        if !list.members.is_empty() {
+            return Ok(true);
+        }
+        if list.is_whole {
+            return Ok(false);
+        }
+        Err(AllocError)
+    }
+
+    /// Whether one of the lists of sets selects a field. What is too much to be counted is told as if memory did not suffice.
+    fn have_fields(&self, alloc: Global, level: &[Vec<usize>]) -> Result<bool, AllocError>
+        requires sets { HasSets self.now }
+        ensures { IfOk result (λ some. HaveFields (document_of self.now) some (map (λ v. meant_sets (sets_of self.now) v.items) level.now)) }
+    {
+        for nodes in level {
+            if self.selects_fields(alloc, nodes)? {
                 return Ok(true);
             }
         }
@@ -164,12 +219,13 @@ impl<'doc> Examination<'doc> {
     /// Examines what a set selects and all below it, to 128 levels. Answers whether fields are left below these.
     pub(crate) fn examine_all(
         &self,
-        start: SelectedSet<'doc>,
-        examined: &mut Remembered<'doc>,
+        start: usize,
+        examined: &mut Remembered,
         breaches: &mut Vec<Breach>,
     ) -> Result<bool, AllocError>
-        ensures examined { IfOk result (λ left. ExaminesFrom self.now start.entry examined.old examined.new breaches.old breaches.new left) }
-        ensures counted { GrowsOver self.now ((meant_at start.entry ∷ []) ∷ []) examined.old examined.new }
+        requires sets { HasSets self.now }
+        ensures examined { IfOk result (λ left. ExaminesFrom self.now start examined.old examined.new breaches.old breaches.new left) }
+        ensures counted { GrowsOver self.now ((set_at (sets_of self.now) start ∷ []) ∷ []) examined.old examined.new }
     {
         let alloc = *breaches.allocator();
         let mut level = first_level(alloc, start)?;

@@ -1,11 +1,19 @@
 //! Merging of fields: those that may be answered under one key agree (section 5.3.2, "Field Selection Merging").
 //!
-//! Fields are examined in lists: what the set of an operation selects, and then what the sets of each group of a list select,
-//! level by level. How a list is grouped, and what is told of a group, is of `rule_field_groups`. Sets that were looked at
-//! together are not looked at again, nor is a list whose contents were examined before. Where lists are not paid by fields that
-//! are new (`budget.rt`), their sets are looked at in pairs (`pairs.rt`, `twos.rt`), each pair once: own fields of the two are
-//! compared, and a spread is a step in one of the two alone, to the fragment by its name. Where fields go together, lists of their sets are left for the
-//! next level.
+//! Numbers are compared, not contents: `rule_field_sets` has the selection sets of a document as nodes, in which equal numbers are equal
+//! contents of fields and of sets. So nothing that is nested is read here. How the fields of one list are compared is in
+//! `rule_field_groups`.
+//!
+//! Fields are examined in lists: what the set of an operation selects, and then what the sets of each group of a list select, level by
+//! level, in two passes. Sets that were looked at together are not looked at again, nor is a list whose contents were examined before.
+//! Where a list is not paid by fields that are new, and has few fields for its many sets, its fields are compared two by two. Else its sets
+//! are looked at in pairs (`twos.rt`), each pair once: fields of the two are compared, and a spread is a step in one of the two alone. A
+//! set is looked at with those before it, and the pairs that come of it are examined before the next set is looked at, so few wait. Where
+//! fields go together, lists of their sets are left for the next level.
+//!
+//! Of most operations nothing is examined: no two of their fields have one response key, in any selection set, so nothing is to be merged
+//! (`rule_lone_keys`). This is asked of each operation up to the first where it is not so; from there on all are examined
+//! (`examine_operation` of `operation.rt`).
 //!
 //! For the layers above: a `FieldsInSetCanMerge` tells a list of faults what does not merge in an operation (`MergerTold` of
 //! `specs/Merger.antt`, over `specs/Merged.antt`), and is clean where the fields of all operations merge so far. It calls
@@ -13,22 +21,19 @@
 //! (`ExaminesOperation` of `specs/Verdict.antt`) and how often shapes were compared (`IsCounted` of `specs/Counted.antt`).
 //! `append_breaches` adds breaches to a list of faults.
 //!
-//! Begin with `merging.rt`, then `operation.rt`, `examination.rt` and `remembered.rt`.
+//! Begin with `merging.rt`, then `operation.rt` and `examination.rt`.
 #![tactic(auto)]
 
-mod budget;
 mod examination;
 mod merging;
 mod operation;
-mod pairs;
-mod remembered;
 mod told;
 mod twos;
 
 pub use merging::FieldsInSetCanMerge;
 pub use operation::{Examined, examine_operation};
-pub use rule_field_groups::Breach;
 pub use told::append_breaches;
 
-// Of the crates beneath, for those above.
+// Of the crates below, for those above.
 pub use graphql_faults::{Details, DiagnosticList};
+pub use rule_field_groups::Breach;

@@ -2,10 +2,10 @@
 ghost use Rattle.std.specs.Prelude.{◌≡◌, ◌↔◌, ◌++◌, [], false, map, IsTrue, OnOk, OnErr};
 ghost use Rattle.graphql_faults.specs.DetailsTree.{of_document};
 ghost use Rattle.graphql_faults.specs.DetailsView.{diagnostics_of, BeginsAs};
-ghost use Rattle.rule_field_groups.specs.in_ground.Broken.{brokens_of};
-ghost use Rattle.rule_definitions.specs.Judged.{judged};
-ghost use Rattle.rule_field_groups.specs.in_schema.SchemaOf.{schema_tree};
-ghost use Rattle.rule_field_groups.specs.in_typing.DocumentView.{document_meant, operation_meant};
+ghost use Rattle.rule_field_groups.specs.in_sets.in_ground.Broken.{brokens_of};
+ghost use Rattle.rule_field_groups.specs.in_definitions.Judged.{judged};
+ghost use Rattle.rule_field_groups.specs.in_sets.in_ground.in_schema.SchemaOf.{schema_tree};
+ghost use Rattle.rule_field_groups.specs.in_sets.in_ground.in_typed_operations.DocumentView.{document_meant, operation_meant};
 ghost use Rattle.rule_merging.specs.Merged.{AreSettledIf, limit_told, conflicts_told};
 ghost use Rattle.rule_merging.specs.OfProgram.{AddsDetails};
 
@@ -18,7 +18,8 @@ use rule_field_groups::{Breach, Schema};
 use std::alloc::{AllocError, Global};
 
 /// Whether the fields of operations merge (section 5.3.2, "FieldsInSetCanMerge"). What was examined is kept over all
-/// operations of a document, so that no list of fields is examined twice.
+/// operations of a document, so that no list of fields is examined twice. Of an operation of which no two fields have one
+/// response key, in any of its sets, nothing is examined, and nothing is kept.
 ///
 /// A value is clean at first, and after each call on a clean one that ends and adds nothing.
 pub struct FieldsInSetCanMerge<'doc> {
@@ -43,7 +44,7 @@ impl Drop for FieldsInSetCanMerge<'_> {
 }
 
 impl<'doc> FieldsInSetCanMerge<'doc> {
-    ghost use Rattle.rule_merging.specs.Merger.{merger_of, IsCountedMerger, ComparesFew, ComparesFewInDocument, OnlyGrows, MergerTold, SilenceMeansMerging, KeepsClosed, AddsNothing, StaysCleanInSilence, StaysCounted};
+    ghost use Rattle.rule_merging.specs.Merger.{merger_of, IsReady, IsCountedMerger, ComparesFew, ComparesFewInDocument, LooksAtFewPairs, OnlyGrows, MergerTold, SilenceMeansMerging, KeepsClosed, AddsNothing, StaysCleanInSilence, StaysCounted};
 
     /// A clean value, for the operations of the document.
     pub fn new(
@@ -53,6 +54,7 @@ impl<'doc> FieldsInSetCanMerge<'doc> {
     ) -> FieldsInSetCanMerge<'doc>
         ensures schema { (merger_of result).schema ≡ judged (schema_tree schema.now) }
         ensures document { (merger_of result).document ≡ document_meant document.now }
+        ensures ready { IsReady result }
         ensures clean { IsTrue (merger_of result).is_clean }
         ensures counted { IsCountedMerger (merger_of result) }
         ensures none { (merger_of result).lists ≡ [] }
@@ -62,7 +64,7 @@ impl<'doc> FieldsInSetCanMerge<'doc> {
             alloc,
             schema,
             document,
-            examined: Examined::new(alloc),
+            examined: Examined::new(alloc, schema, document),
             is_clean: true,
         }
     }
@@ -92,6 +94,8 @@ impl<'doc> FieldsInSetCanMerge<'doc> {
         operation: &'doc Node<Operation>,
         list: &mut DiagnosticList,
     ) -> Result<(), AllocError>
+        requires ready { IsReady self.old }
+        ensures ready { IsReady self.new }
         ensures told { OnOk result (MergerTold (merger_of self.old) (operation_meant operation.now) (diagnostics_of list.old) (diagnostics_of list.new)) }
         ensures merged { OnOk result (SilenceMeansMerging (merger_of self.old) (operation_meant operation.now) (diagnostics_of list.old) (diagnostics_of list.new)) }
         ensures closed { OnOk result (KeepsClosed (merger_of self.old) (merger_of self.new) (operation_meant operation.now) (AddsNothing list.old list.new)) }
@@ -102,6 +106,7 @@ impl<'doc> FieldsInSetCanMerge<'doc> {
         ensures document { (merger_of self.new).document ≡ (merger_of self.old).document }
         ensures counted { StaysCounted (merger_of self.old) (merger_of self.new) (operation_meant operation.now) }
         ensures grown { OnlyGrows (merger_of self.old) (merger_of self.new) }
+        ensures pairs { OnOk result (LooksAtFewPairs (merger_of self.new)) }
     {
         let was_clean = self.is_clean;
         self.is_clean = false;

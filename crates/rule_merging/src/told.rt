@@ -1,9 +1,9 @@
 //! Adding breaches to a list of faults.
 ghost use Rattle.std.specs.Prelude.{◌≡◌, ◌++◌, map, OnErr, OnOk};
-ghost use Rattle.rule_document_definitions.specs.DocumentFaults.{OfDocument};
+ghost use Rattle.rule_field_groups.specs.in_document_definitions.DocumentFaults.{OfDocument};
 ghost use Rattle.graphql_faults.specs.DetailsTree.{of_document};
 ghost use Rattle.graphql_faults.specs.DetailsView.{diagnostics_of, BeginsAs};
-ghost use Rattle.rule_field_groups.specs.in_ground.Broken.{brokens_of};
+ghost use Rattle.rule_field_groups.specs.in_sets.in_ground.Broken.{brokens_of};
 
 use graphql_faults::{Details, DiagnosticList};
 use rule_field_groups::Breach;

@@ -1,36 +1,43 @@
-//! The examination of two sets or fragments that are looked at together.
-ghost use Rattle.std.specs.Prelude.{◌≡◌, ◌<◌, ◌∷◌, [], length, IsTrue, OnOk, IfOk};
-ghost use Rattle.std.specs.Str.{bytes_eq};
-ghost use Rattle.rule_field_groups.specs.Grouped.{key_of};
-ghost use Rattle.rule_field_groups.specs.Below.{meant_sets};
-ghost use Rattle.rule_merging.specs.Remembered.{two_of};
-ghost use Rattle.rule_merging.specs.Twos.{are_two, are_of, IsListOf, GrowsByTwo};
-ghost use Rattle.rule_merging.specs.Examined.{ExaminesPair, ExaminesPairs, GrowsOver, GrowsOverTwo, GrowsHere};
+//! The examination of two sets that are looked at together.
+ghost use Rattle.std.specs.Prelude.{◌≡◌, ◌↔◌, ◌<◌, ◌∷◌, [], length, IsTrue, OnOk, IfOk};
+ghost use Rattle.rule_field_groups.specs.in_sets.Nodes.{HasMember};
+ghost use Rattle.rule_field_groups.specs.in_sets.Read.{set_at};
+ghost use Rattle.rule_field_groups.specs.Members.{meant_sets, AreMembersOf};
+ghost use Rattle.rule_field_groups.specs.Remembered.{two_of};
+ghost use Rattle.rule_merging.specs.Twos.{are_two, are_of, IsListOfTwo, GrowsByTwo};
+ghost use Rattle.rule_merging.specs.Examined.{sets_of, HasSets, ExaminesPair, ExaminesPairs, ExaminesTwos, GrowsOver, GrowsOverTwo, GrowsHere};
+ghost use Rattle.rule_field_groups.specs.Pairs.{each_with};
 ghost use Rattle.rule_merging.specs.OfProgram.{Comes, ExaminesThese, PairsOf};
 
 use crate::examination::Examination;
-use crate::remembered::{Pair, Remembered};
-use rule_field_groups::{Breach, FieldSelection, SelectedSet, own_fields_of, sources_of};
+use rule_field_groups::{Breach, Member, Pair, Remembered, node_of, starts_of};
 use std::alloc::{AllocError, Global};
 
 /// Whether two fields are answered under one key.
-fn have_one_key(one: FieldSelection<'_>, other: FieldSelection<'_>) -> bool
-    ensures { result ≡ bytes_eq (key_of one.entry) (key_of other.entry) }
+fn have_one_key(one: &Member<'_>, other: &Member<'_>) -> bool
+    ensures { IsTrue result ↔ (one.now.key ≡ other.now.key) }
 {
-    one.response_key().as_str() == other.response_key().as_str()
+    one.key == other.key
+}
+
+/// Whether both lists are empty.
+fn are_empty(ones: &[usize], others: &[usize]) -> bool
+    ensures { IsTrue result → (ones.now ≡ []) × (others.now ≡ []) }
+{
+    ones.is_empty() && others.is_empty()
 }
 
 /// Two fields, or one of them where both say the same.
 fn list_of_two<'doc>(
     alloc: Global,
-    one: FieldSelection<'doc>,
-    other: FieldSelection<'doc>,
-) -> Result<Vec<FieldSelection<'doc>>, AllocError>
-    ensures { IfOk result (λ list. IsListOf one.entry other.entry list.items) }
+    one: Member<'doc>,
+    other: Member<'doc>,
+) -> Result<Vec<Member<'doc>>, AllocError>
+    ensures { IfOk result (λ list. IsListOfTwo one.entry other.entry list.items) }
 {
     let mut list = Vec::new(alloc);
     list.push(one)?;
-    if one != other {
+    if one.number != other.number {
         list.push(other)?;
     }
     Ok(list)
@@ -43,25 +50,28 @@ fn is_told(breaches: &[Breach], told: usize) -> bool
     breaches.len() > told
 }
 
-impl<'doc> Examination<'doc> {
+impl<'doc> Examination<'_, 'doc> {
     /// Compares two fields of one key, if they were not compared before, and adds the lists of sets below them.
     fn examine_two_fields(
         &self,
-        one: FieldSelection<'doc>,
-        other: FieldSelection<'doc>,
-        examined: &mut Remembered<'doc>,
+        one: &Member<'doc>,
+        other: &Member<'doc>,
+        examined: &mut Remembered,
         breaches: &mut Vec<Breach>,
     ) -> Result<(), AllocError>
-        ensures examined { OnOk result (PairsOf self.now (are_two one.entry other.entry) examined.old examined.new breaches.old breaches.new) }
-        ensures counted { GrowsByTwo self.now (are_two one.entry other.entry) examined.old examined.new }
+        requires sets { HasSets self.now }
+        requires one { HasMember (sets_of self.now) one.now }
+        requires other { HasMember (sets_of self.now) other.now }
+        ensures examined { OnOk result (PairsOf self.now (are_two one.now other.now) examined.old examined.new breaches.old breaches.new) }
+        ensures counted { GrowsByTwo self.now (are_two one.now other.now) examined.old examined.new }
     {
         if !have_one_key(one, other) {
             return Ok(());
         }
-        let list = list_of_two(*breaches.allocator(), one, other)?;
-        if !examined.remember(&list)? {
+        if !examined.remember_two(*one, *other)? {
             return Ok(());
         }
+        let list = list_of_two(*breaches.allocator(), *one, *other)?;
         let comparisons = &mut examined.comparisons;
         self.examine_list(&list, &mut examined.next, breaches, comparisons)
     }
@@ -69,29 +79,35 @@ impl<'doc> Examination<'doc> {
     /// Compares a field with each of the others.
     fn examine_with_each(
         &self,
-        one: FieldSelection<'doc>,
-        others: &[FieldSelection<'doc>],
-        examined: &mut Remembered<'doc>,
+        one: Member<'doc>,
+        others: &[Member<'doc>],
+        examined: &mut Remembered,
         breaches: &mut Vec<Breach>,
     ) -> Result<(), AllocError>
+        requires sets { HasSets self.now }
+        requires one { HasMember (sets_of self.now) one }
+        requires others { AreMembersOf (sets_of self.now) others.now }
         ensures examined { OnOk result (PairsOf self.now (are_of (one.entry ∷ []) others.now) examined.old examined.new breaches.old breaches.new) }
         ensures counted { GrowsByTwo self.now (are_of (one.entry ∷ []) others.now) examined.old examined.new }
     {
         for other in others {
-            self.examine_two_fields(one, *other, examined, breaches)?;
+            self.examine_two_fields(&one, other, examined, breaches)?;
         }
         Ok(())
     }
 
     /// Compares each field of the one list with each of the other, up to the first that is told of: all that do not merge could be
     /// as many as fields times fields.
-    fn examine_each(
+    pub(crate) fn examine_each(
         &self,
-        ones: &[FieldSelection<'doc>],
-        others: &[FieldSelection<'doc>],
-        examined: &mut Remembered<'doc>,
+        ones: &[Member<'doc>],
+        others: &[Member<'doc>],
+        examined: &mut Remembered,
         breaches: &mut Vec<Breach>,
     ) -> Result<(), AllocError>
+        requires sets { HasSets self.now }
+        requires ones { AreMembersOf (sets_of self.now) ones.now }
+        requires others { AreMembersOf (sets_of self.now) others.now }
         ensures examined { OnOk result (PairsOf self.now (are_of ones.now others.now) examined.old examined.new breaches.old breaches.new) }
         ensures counted { GrowsByTwo self.now (are_of ones.now others.now) examined.old examined.new }
     {
@@ -108,58 +124,88 @@ impl<'doc> Examination<'doc> {
     /// Compares the own fields of the two, and looks at what each of them spreads with the other.
     fn examine_pair(
         &self,
-        pair: Pair<'doc>,
-        examined: &mut Remembered<'doc>,
+        pair: Pair,
+        examined: &mut Remembered,
         breaches: &mut Vec<Breach>,
     ) -> Result<(), AllocError>
-        ensures examined { OnOk result (Comes (ExaminesPair self.now (two_of pair.entry)) examined.old examined.new breaches.old breaches.new) }
-        ensures counted { GrowsOverTwo self.now (two_of pair.entry) examined.old examined.new }
+        requires sets { HasSets self.now }
+        ensures examined { OnOk result (Comes (sets_of self.now) (ExaminesPair self.now (two_of (sets_of self.now) pair)) examined.old examined.new breaches.old breaches.new) }
+        ensures counted { GrowsOverTwo self.now (two_of (sets_of self.now) pair) examined.old examined.new }
     {
+        let one = pair.one as usize;
+        let other = pair.other as usize;
+        let sets = self.sets;
+        let first = node_of(sets, one)?;
+        let second = node_of(sets, other)?;
+        self.examine_each(&first.members, &second.members, examined, breaches)?;
+        if are_empty(&first.spreads, &second.spreads) {
+            return Ok(());
+        }
         let alloc = *breaches.allocator();
-        let fragments = &self.document.fragments;
-        let Pair { one, other } = pair;
-        let ones = own_fields_of(alloc, one, fragments)?;
-        let others = own_fields_of(alloc, other, fragments)?;
-        self.examine_each(&ones, &others, examined, breaches)?;
-        let spreads = sources_of(alloc, one, fragments)?;
-        examined.look_at_each(&spreads, other)?;
-        let spreads = sources_of(alloc, other, fragments)?;
-        examined.look_before_each(one, &spreads)
+        let starts = starts_of(alloc, sets, &first.spreads)?;
+        examined.look_at_each(sets, &starts, other)?;
+        let starts = starts_of(alloc, sets, &second.spreads)?;
+        examined.look_before_each(sets, one, &starts)
     }
 
-    /// Examines the pairs, and those that come to them, up to the first that is told of.
+    /// Examines the pairs that wait, the last one first, and those that come to them, up to the first that is told of.
     fn examine_pairs(
         &self,
-        examined: &mut Remembered<'doc>,
+        examined: &mut Remembered,
         breaches: &mut Vec<Breach>,
     ) -> Result<(), AllocError>
-        ensures examined { OnOk result (Comes (ExaminesPairs self.now) examined.old examined.new breaches.old breaches.new) }
+        requires sets { HasSets self.now }
+        ensures examined { OnOk result (Comes (sets_of self.now) (ExaminesPairs self.now) examined.old examined.new breaches.old breaches.new) }
         ensures counted { GrowsHere self.now examined.old examined.new }
     {
         let told = breaches.len();
-        let mut done = 0;
-        while done < examined.pairs.len() {
+        while let Some(pair) = examined.pairs.pop() {
+            self.examine_pair(pair, examined, breaches)?;
             if is_told(breaches, told) {
                 return Ok(());
             }
-            let pair = examined.pairs[done];
-            self.examine_pair(pair, examined, breaches)?;
-            done += 1;
         }
         Ok(())
     }
 
-    /// Examines what each two of the sets select, and what each of them does.
-    pub(crate) fn examine_twos(
+    /// Looks at each of these sets with the other, which comes after them, and examines the pairs, up to the first that is told of.
+    fn examine_with_those(
         &self,
-        sets: &[SelectedSet<'doc>],
-        examined: &mut Remembered<'doc>,
+        nodes: &[usize],
+        other: usize,
+        examined: &mut Remembered,
         breaches: &mut Vec<Breach>,
     ) -> Result<(), AllocError>
-        ensures examined { OnOk result (ExaminesThese self.now sets.now examined.old examined.new breaches.old breaches.new) }
-        ensures counted { GrowsOver self.now (meant_sets sets.now ∷ []) examined.old examined.new }
+        requires sets { HasSets self.now }
+        ensures examined { OnOk result (Comes (sets_of self.now) (ExaminesTwos self.now (each_with (meant_sets (sets_of self.now) nodes.now) (set_at (sets_of self.now) other))) examined.old examined.new breaches.old breaches.new) }
+        ensures counted { GrowsOver self.now (each_with (meant_sets (sets_of self.now) nodes.now) (set_at (sets_of self.now) other)) examined.old examined.new }
     {
-        examined.look_at_twos(sets)?;
+        examined.begin_pairs();
+        examined.look_at_each(self.sets, nodes, other)?;
         self.examine_pairs(examined, breaches)
+    }
+
+    /// Examines what each two of the sets select, and what each of them does, up to the first that is told of. Each set is examined with
+    /// those before it and with itself, so that no more pairs wait than one set is in, and those that come to them.
+    pub(crate) fn examine_twos(
+        &self,
+        nodes: &[usize],
+        examined: &mut Remembered,
+        breaches: &mut Vec<Breach>,
+    ) -> Result<(), AllocError>
+        requires sets { HasSets self.now }
+        ensures examined { OnOk result (ExaminesThese self.now nodes.now examined.old examined.new breaches.old breaches.new) }
+        ensures counted { GrowsOver self.now (meant_sets (sets_of self.now) nodes.now ∷ []) examined.old examined.new }
+    {
+        let told = breaches.len();
+        let mut seen = Vec::new(*breaches.allocator());
+        for node in nodes {
+            if is_told(breaches, told) {
+                return Ok(());
+            }
+            seen.push(*node)?;
+            self.examine_with_those(&seen, *node, examined, breaches)?;
+        }
+        Ok(())
     }
 }

@@ -1,25 +1,28 @@
 -- How long lists can be in all that have the same things in other groups: those of at most two are as many as things times things.
 use Rattle.std.proofs.Common.{◌≡◌, ◌∙◌, ℕ, zero, suc, ◌+◌, ◌*◌, ◌≤◌, List, [], ◌∷◌, ◌++◌, map, length, slice_get, Some, Contains, refl, sym, ap, subst, arith, length-append, inl, inr}
 use Rattle.std.specs.List.{sum}
+use Rattle.std.specs.List.Sorted.{IsPermutation}
 use Rattle.std.proofs.Math.Nat.{mul-le-mul_left}
 use Rattle.std.proofs.lemmas.List.{length-map}
 use Rattle.std.proofs.lemmas.List.Sums.{sum_by-cons}
 use Rattle.std.proofs.lemmas.List.Elements.{Contains-append_left, Contains-append_right, Contains-append_cases}
+use Rattle.std.proofs.lemmas.List.Sorted.{IsPermutation-sym, Contains-permutation}
+use Rattle.std.proofs.lemmas.Option.{slice_get_within}
 use Rattle.rule_cycle_search.specs.Paths.{HasNoRepeat}
 use Rattle.rule_cycle_search.proofs.Lists.{not_in_nil, only, Contains-cons, Contains-first, index_found, index_given}
 use Rattle.rule_number_lists.specs.NumberLists.{HaveSame, length_above_two}
-use Rattle.rule_number_lists.proofs.Standing.{in_map, same_sym, same_trans}
+use Rattle.rule_number_lists.proofs.Standing.{in_map, same_sym, same_trans, no_repeat_order}
 
 -- the square of a number that is no smaller
 pub squares : (m n : ℕ) → m ≤ n → m * m ≤ n * n
 squares m n le = omega (arith, mul-le-mul_left m le, mul-le-mul_left n le)
 
 module _ {X : Type 0} where
-  in_rest : (x : X) (xs : List X) (y : X) → Contains xs y → Contains (x ∷ xs) y
+  pub in_rest : (x : X) (xs : List X) (y : X) → Contains xs y → Contains (x ∷ xs) y
   in_rest x xs y c = let i = index_found xs y c in index_given (x ∷ xs) (suc i.0) y i.1
 
   -- none stands among those behind it
-  abbrev Apart : List X → Type 0
+  abbrev pub Apart : List X → Type 0
   Apart [] = Unit {0}
   Apart (x ∷ xs) = (Contains xs x → ⊥) × Apart xs
 
@@ -30,7 +33,17 @@ module _ {X : Type 0} where
     apart_from xs (λ i j y a b. let e = h (suc i) (suc j) y a b in omega (arith, e)),
   )
 
-  apart_append : (xs ys : List X) → Apart xs → Apart ys → ((x : X) → Contains xs x → Contains ys x → ⊥) → Apart (xs ++ ys)
+  some_is : (y x : X) → Some y ≡ Some x → y ≡ x
+  some_is y x e = cc
+
+  pub from_apart : (xs : List X) → Apart xs → HasNoRepeat xs
+  from_apart [] a i j x h k = absurd (omega (arith, slice_get_within [] i x h))
+  from_apart (y ∷ ys) a zero zero x h k = refl
+  from_apart (y ∷ ys) a zero (suc j) x h k = absurd (a.0 (subst (Contains ys) (sym (some_is y x h)) (index_given ys j x k)))
+  from_apart (y ∷ ys) a (suc i) zero x h k = absurd (a.0 (subst (Contains ys) (sym (some_is y x k)) (index_given ys i x h)))
+  from_apart (y ∷ ys) a (suc i) (suc j) x h k = ap suc (from_apart ys a.1 i j x h k)
+
+  pub apart_append : (xs ys : List X) → Apart xs → Apart ys → ((x : X) → Contains xs x → Contains ys x → ⊥) → Apart (xs ++ ys)
   apart_append [] ys a b none = b
   apart_append (x ∷ xs) ys a b none = (
     λ c. elim (Contains-append_cases xs ys x c) [ inl h ↦ a.0 h | inr h ↦ none x (Contains-first x xs x refl) h ],
@@ -73,17 +86,17 @@ module _ {X : Type 0} where
 
 -- each of these with each of those
 module _ {X : Type 0} where
-  abbrev pairs_of : List X → List X → List (X × X)
+  abbrev pub pairs_of : List X → List X → List (X × X)
   pairs_of [] ys = []
   pairs_of (x ∷ xs) ys = map (λ y. (x, y)) ys ++ pairs_of xs ys
 
-  length_pairs : (xs ys : List X) → length (pairs_of xs ys) ≡ length xs * length ys
+  pub length_pairs : (xs ys : List X) → length (pairs_of xs ys) ≡ length xs * length ys
   length_pairs [] ys = omega arith
   length_pairs (x ∷ xs) ys =
       let one : List (X × X) = map (λ y. (x, y)) ys in
       omega (arith, length-append one (pairs_of xs ys), length-map {B = X × X} ys (λ (y : X). (x, y)), length_pairs xs ys)
 
-  in_pairs : (xs ys : List X) (x y : X) → Contains xs x → Contains ys y → Contains (pairs_of xs ys) (x, y)
+  pub in_pairs : (xs ys : List X) (x y : X) → Contains xs x → Contains ys y → Contains (pairs_of xs ys) (x, y)
   in_pairs [] ys x y c d = not_in_nil x c
   in_pairs (z ∷ xs) ys x y c d = elim (Contains-cons z xs x c) [
     | inl e ↦ Contains-append_left (map (λ w. (z, w)) ys) (pairs_of xs ys) (x, y) (subst (λ u. Contains {X = X × X} (map (λ w. (z, w)) ys) (u, y)) e (in_map {Y = X × X} (λ w. (z, w)) ys y d))
@@ -149,8 +162,23 @@ module _ {X : Type 0} where
   ]
 
   -- no two of the lists have the same members
-  abbrev Differ : List (List X) → Type 0
+  abbrev pub Differ : List (List X) → Type 0
   Differ lists = (i j : ℕ) (a b : List X) → slice_get lists i ≡ Some a → slice_get lists j ≡ Some b → HaveSame a b → i ≡ j
+
+  -- one more list, and another order
+  pub differ_cons : (l : List X) (ls : List (List X)) → Differ ls → ((k : List X) → Contains ls k → HaveSame k l → ⊥) → Differ (l ∷ ls)
+  differ_cons l ls differ none zero zero a b h k same = refl
+  differ_cons l ls differ none zero (suc j) a b h k same = absurd (none b (index_given ls j b k) (subst (HaveSame b) (sym (some_is l a h)) (same_sym a b same)))
+  differ_cons l ls differ none (suc i) zero a b h k same = absurd (none a (index_given ls i a h) (subst (HaveSame a) (sym (some_is l b k)) same))
+  differ_cons l ls differ none (suc i) (suc j) a b h k same = ap suc (differ i j a b h k same)
+
+  pub differ_order : (xs ys : List (List X)) → IsPermutation xs ys → Differ xs → Differ ys
+  differ_order xs ys order differ i j a b h k same =
+      let u = index_found xs a (Contains-permutation ys xs a (IsPermutation-sym xs ys order) (index_given ys i a h)) in
+      let v = index_found xs b (Contains-permutation ys xs b (IsPermutation-sym xs ys order) (index_given ys j b k)) in
+      let at : u.0 ≡ v.0 = differ u.0 v.0 a b u.1 v.1 same in
+      let equal : a ≡ b = some_is a b (sym u.1 ∙ ap (slice_get xs) at ∙ v.1) in
+      no_repeat_order xs ys order (λ m n c p q. differ m n c c p q (λ x. (λ o. o, λ o. o))) i j b (h ∙ ap (λ o. Some o) equal) k
 
   all_apart : (ls : List (List X)) → Differ ls → ((l : List X) → Contains ls l → HasNoRepeat l) → Apart (all_ordered ls)
   all_apart [] differ each = tt

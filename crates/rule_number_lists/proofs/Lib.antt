@@ -1,4 +1,8 @@
 pub mod Standing
-pub mod Growing
 pub mod Rising
 pub mod Few
+pub mod Words
+pub mod Rows
+pub mod Kept
+pub mod Sets
+pub mod Said

@@ -11,7 +11,7 @@ use Rattle.std.proofs.lemmas.List.Elements.{Contains-push_cases}
 use Rattle.indexmap.specs.IndexSet.{insert_key}
 use Rattle.rule_cycle_search.specs.Paths.{HasNoRepeat}
 use Rattle.rule_cycle_search.proofs.Lists.{not_in_nil, Contains-cons, Contains-first, index_found, index_given}
-use Rattle.rule_number_lists.specs.NumberLists.{HaveSame, Keeps}
+use Rattle.rule_number_lists.specs.NumberLists.{HaveSame}
 use Rattle.rule_number_lists.proofs.Standing.{in_map, of_map, same_order, same_trans, no_repeat_order}
 
 -- each is below all behind it
@@ -104,43 +104,47 @@ none_among {X} test (x ∷ xs) e y c t = by (test x) refl e (none_among test xs)
       | inr r ↦ rest h y r t
     ]
 
-module _ (old new : List (Vec ℕ Global)) (v : Vec ℕ Global) (all : (w : Vec ℕ Global) → Contains old w → IsNonDecreasing w.items) (up : IsNonDecreasing v.items) where
-  more_ordered : new ≡ insert_key same_vec old v → (w : Vec ℕ Global) → Contains new w → IsNonDecreasing w.items
-  more_ordered is w c = by (list_any (same_vec v) old) refl
+module _ (old new : List (Vec ℕ Global)) (v : Vec ℕ Global) where
+  more_so : (Q : Vec ℕ Global → Type 0) → ((w : Vec ℕ Global) → Contains old w → Q w) → Q v → new ≡ insert_key same_vec old v → (w : Vec ℕ Global) → Contains new w → Q w
+  more_so Q all here is w c = by (list_any (same_vec v) old) refl
     where
-      by : (b : Bool) → list_any (same_vec v) old ≡ b → IsNonDecreasing w.items
+      by : (b : Bool) → list_any (same_vec v) old ≡ b → Q w
       by true i = all w (subst (λ l. Contains l w) (is ∙ ap (λ b. if b then old else old ++ v ∷ []) i) c)
       by false i = elim (Contains-push_cases old v w (subst (λ l. Contains l w) (is ∙ ap (λ b. if b then old else old ++ v ∷ []) i) c)) [
         | inl a ↦ all w a
-        | inr e ↦ subst (λ (u : Vec ℕ Global). IsNonDecreasing u.items) e up
+        | inr e ↦ subst Q e here
       ]
 
-  -- after an insertion all are in order
-  pub still_ordered : {E : Type 0} (r : Result Bool E) → IfOk r (λ b. new ≡ insert_key same_vec old v) → OnErr r (new ≡ old) → (w : Vec ℕ Global) → Contains new w → IsNonDecreasing w.items
-  still_ordered (Ok b) is kept w c = more_ordered is w c
-  still_ordered (Err e) is kept w c = all w (subst (λ l. Contains l w) kept c)
+  -- what is so of all, and of the one that is inserted, is so after the insertion
+  pub still_so : {E : Type 0} (Q : Vec ℕ Global → Type 0) (r : Result Bool E) → ((w : Vec ℕ Global) → Contains old w → Q w) → Q v
+      → IfOk r (λ b. new ≡ insert_key same_vec old v) → OnErr r (new ≡ old) → (w : Vec ℕ Global) → Contains new w → Q w
+  still_so Q (Ok b) all here is kept w c = more_so Q all here is w c
+  still_so Q (Err e) all here is kept w c = all w (subst (λ l. Contains l w) kept c)
 
-  module _ (ns : List ℕ) (order : IsPermutation ns v.items) where
-    pub keeps : (is_new : Bool) → is_new ≡ not (list_any (same_vec v) old) → new ≡ insert_key same_vec old v → Keeps (map items_of old) ns is_new (map items_of new)
-    keeps is_new e is = by (list_any (same_vec v) old) refl is_new e
-      where
-        by : (b : Bool) → list_any (same_vec v) old ≡ b → (r : Bool) → r ≡ not b → Keeps (map items_of old) ns r (map items_of new)
-        by true i true k = absurd (true≢false k)
-        by true i false k =
-            let y = any_among (same_vec v) old i in (
-              (y.0.items, (in_map items_of old y.0 y.1.0, subst (IsPermutation ns) (same_items v.items y.0.items y.1.1) order)),
-              ap (map items_of) (is ∙ ap (λ b. if b then old else old ++ v ∷ []) i),
-            )
-        by false i true k = (
-          λ list c apart apart_too same.
-              let y = of_map items_of old list c in
-              let here = rising y.0.items (all y.0 y.1.0) (subst HasNoRepeat (sym y.1.1) apart) in
-              let there = rising v.items up (no_repeat_order ns v.items order apart_too) in
-              let equal : y.0.items ≡ v.items = same_rising y.0.items v.items here there (subst (λ l. HaveSame l v.items) (sym y.1.1) (same_trans list ns v.items same (same_order ns v.items order))) in
-              none_among (same_vec v) old i y.0 y.1.0 (subst (λ l. pointwise nat_eq v.items l ≡ true) (sym equal) (equal_items v.items)),
-          (v.items, (order, ap (map items_of) (is ∙ ap (λ b. if b then old else old ++ v ∷ []) i) ∙ map-append items_of old (v ∷ []))),
-        )
-        by false i false k = absurd (true≢false (sym k))
+-- a list that is new is put last, and none that stood there has the same members, if nothing stands in it twice; one that is not new
+-- stands there in another order
+abbrev pub IsPutLast : List (List ℕ) → List ℕ → List ℕ → Bool → List (List ℕ) → Type 0
+IsPutLast old ns kept true new = ((list : List ℕ) → Contains old list → HasNoRepeat list → HasNoRepeat ns → HaveSame list ns → ⊥) × (new ≡ old ++ kept ∷ [])
+IsPutLast old ns kept false new = ((list : List ℕ) × (Contains old list × IsPermutation ns list)) × (new ≡ old)
 
-    pub has_kept : list_any (same_vec v) old ≡ true → (k : List ℕ) × (Contains (map items_of old) k × IsPermutation ns k)
-    has_kept i = let y = any_among (same_vec v) old i in (y.0.items, (in_map items_of old y.0 y.1.0, subst (IsPermutation ns) (same_items v.items y.0.items y.1.1) order))
+module _ (old new : List (Vec ℕ Global)) (v : Vec ℕ Global) (all : (w : Vec ℕ Global) → Contains old w → IsNonDecreasing w.items) (up : IsNonDecreasing v.items) (ns : List ℕ) (order : IsPermutation ns v.items) where
+  pub put_last : (is_new : Bool) → is_new ≡ not (list_any (same_vec v) old) → new ≡ insert_key same_vec old v → IsPutLast (map items_of old) ns v.items is_new (map items_of new)
+  put_last is_new e is = by (list_any (same_vec v) old) refl is_new e
+    where
+      by : (b : Bool) → list_any (same_vec v) old ≡ b → (r : Bool) → r ≡ not b → IsPutLast (map items_of old) ns v.items r (map items_of new)
+      by true i true k = absurd (true≢false k)
+      by true i false k =
+          let y = any_among (same_vec v) old i in (
+            (y.0.items, (in_map items_of old y.0 y.1.0, subst (IsPermutation ns) (same_items v.items y.0.items y.1.1) order)),
+            ap (map items_of) (is ∙ ap (λ b. if b then old else old ++ v ∷ []) i),
+          )
+      by false i true k = (
+        λ list c apart apart_too same.
+            let y = of_map items_of old list c in
+            let here = rising y.0.items (all y.0 y.1.0) (subst HasNoRepeat (sym y.1.1) apart) in
+            let there = rising v.items up (no_repeat_order ns v.items order apart_too) in
+            let equal : y.0.items ≡ v.items = same_rising y.0.items v.items here there (subst (λ l. HaveSame l v.items) (sym y.1.1) (same_trans list ns v.items same (same_order ns v.items order))) in
+            none_among (same_vec v) old i y.0 y.1.0 (subst (λ l. pointwise nat_eq v.items l ≡ true) (sym equal) (equal_items v.items)),
+        ap (map items_of) (is ∙ ap (λ b. if b then old else old ++ v ∷ []) i) ∙ map-append items_of old (v ∷ []),
+      )
+      by false i false k = absurd (true≢false (sym k))

@@ -1,11 +1,9 @@
 -- What stands at numbers of a table: lists of numbers and lists of what they number have the same members alike.
-use Rattle.std.proofs.Common.{◌≡◌, ◌⊎◌, ◌∙◌, ℕ, suc, ◌<◌, Bool, true, false, List, [], ◌∷◌, ◌++◌, map, length, get_or, slice_get, Some, Result, Ok, Err, Contains, refl, sym, ap, subst, length-append, arith, inl, inr}
+use Rattle.std.proofs.Common.{◌≡◌, ◌⊎◌, ◌∙◌, ℕ, suc, ◌<◌, Bool, true, List, [], ◌∷◌, ◌++◌, map, length, get_or, slice_get, Some, Contains, refl, sym, ap, subst, length-append, arith, inl, inr}
 use Rattle.std.specs.Option.{option_map}
-use Rattle.std.specs.Result.{IfOk, OnErr}
 use Rattle.std.specs.List.{swap}
 use Rattle.std.specs.List.Sorted.{IsPermutation}
-use Rattle.std.proofs.lemmas.List.{length-map, map-append, get_or_append_left}
-use Rattle.std.proofs.lemmas.List.Elements.{Contains-push_cases}
+use Rattle.std.proofs.lemmas.List.{length-map, get_or_append_left}
 use Rattle.std.proofs.lemmas.List.Edits.{Swapped, swapped_from_swap, length-swap}
 use Rattle.std.proofs.lemmas.List.Sorted.{IsPermutation-refl, IsPermutation-map, IsPermutation-keeps, IsPermutation-sym, Contains-permutation}
 use Rattle.std.proofs.lemmas.Option.{slice_get_within, slice_get-get_or, get_or_from_slice_get}
@@ -13,7 +11,7 @@ use Rattle.std.proofs.lemmas.Bool.{cases_eq}
 use Rattle.rule_cycle_search.specs.Paths.{HasNoRepeat}
 use Rattle.rule_cycle_search.proofs.Lists.{not_in_nil, Contains-cons, Contains-first, index_found, index_given, slice_get-map}
 use Rattle.rule_number_lists.specs.Numbered.{AreNumbersIn, Grows, AreWithin, at_places}
-use Rattle.rule_number_lists.specs.NumberLists.{HaveSame, Keeps}
+use Rattle.rule_number_lists.specs.NumberLists.{HaveSame}
 
 -- ---- members of a list that is mapped
 
@@ -207,20 +205,6 @@ module _ {X : Type 0} where
       rest : (a : List ℕ) (bs : List (List ℕ)) (b : List ℕ) → Contains bs b → Contains (a ∷ bs) b
       rest a bs b (k, low, e) = (suc k, omega (arith, low), e)
 
-  -- one more, of numbers of the table
-  pub still_within : (table : List X) (old new : List (List ℕ)) (numbers : List ℕ) (is_new : Bool) → AllWithin table old → AreWithin table numbers → Keeps old numbers is_new new → AllWithin table new
-  still_within table old new numbers true all here (none, (kept, (order, is))) l c = elim (Contains-push_cases old kept l (subst (λ ls. Contains ls l) is c)) [
-    | inl a ↦ all l a
-    | inr e ↦ subst (AreWithin table) e (within_order table numbers kept order here)
-  ]
-  still_within table old new numbers false all here (known, is) l c = all l (subst (λ ls. Contains ls l) is c)
-
-  -- whatever comes of a call that keeps a list
-  pub after_keeping : {E : Type 0} (r : Result Bool E) (table : List X) (old new : List (List ℕ)) (numbers : List ℕ) → AllWithin table old → AreWithin table numbers
-      → IfOk r (λ is_new. Keeps old numbers is_new new) → OnErr r (new ≡ old) → AllWithin table new
-  after_keeping (Ok b) table old new numbers all here keeps kept = still_within table old new numbers b all here keeps
-  after_keeping (Err e) table old new numbers all here keeps kept = all_same table old new kept all
-
 -- numbers of items are places of the table
 pub of_table : {T : Type 0} (eq : T → T → Bool) (table items : List T) (numbers : List ℕ) → AreNumbersIn eq table items numbers → AreWithin table numbers
 of_table eq table [] [] h n c = not_in_nil n c
@@ -238,16 +222,6 @@ module _ {X : Type 0} where
   abbrev pub HasSame : List (List X) → List X → Type 0
   HasSame lists list = (known : List X) × (Contains lists known × HaveSame known list)
 
-  -- the list is put last, in some order, or one with the same members is there
-  abbrev pub Notes : List (List X) → List X → Bool → List (List X) → Type 0
-  Notes old list true new = (kept : List X) × (IsPermutation list kept × (new ≡ old ++ kept ∷ []))
-  Notes old list false new = HasSame old list × (new ≡ old)
-
-  -- none with the same members was there, if it is put there
-  abbrev pub NoneSame : List (List X) → List X → Bool → Type 0
-  NoneSame old list true = (known : List X) → Contains old known → HasNoRepeat known → HasNoRepeat list → HaveSame known list → ⊥
-  NoneSame old list false = Unit {0}
-
   pub kept_same : (table : List X) (lists : List (List ℕ)) (numbers kept : List ℕ) → Contains lists kept → IsPermutation numbers kept → HasSame (map (at_places table) lists) (at_places table numbers)
   kept_same table lists numbers kept there order = (
     at_places table kept,
@@ -256,16 +230,3 @@ module _ {X : Type 0} where
       same_sym (at_places table numbers) (at_places table kept) (same_order (at_places table numbers) (at_places table kept) (places_order table numbers kept order)),
     ),
   )
-
-  pub notes : (table : List X) (old new : List (List ℕ)) (numbers : List ℕ) (is_new : Bool) → Keeps old numbers is_new new → Notes (map (at_places table) old) (at_places table numbers) is_new (map (at_places table) new)
-  notes table old new numbers true (none, (kept, (order, is))) =
-      (at_places table kept, (places_order table numbers kept order, ap (map (at_places table)) is ∙ map-append (at_places table) old (kept ∷ [])))
-  notes table old new numbers false ((known, (there, order)), is) = (kept_same table old numbers known there order, ap (map (at_places table)) is)
-
-  pub none_same : (table : List X) (old new : List (List ℕ)) (numbers : List ℕ) (is_new : Bool) → HasNoRepeat table → AllWithin table old → AreWithin table numbers → Keeps old numbers is_new new
-      → NoneSame (map (at_places table) old) (at_places table numbers) is_new
-  none_same table old new numbers true apart all here (none, put) = λ known c no_repeat no_repeat_too same.
-      let l = of_map (at_places table) old known c in
-      none l.0 l.1.0 (places_apart table l.0 (all l.0 l.1.0) (subst HasNoRepeat (sym l.1.1) no_repeat)) (places_apart table numbers here no_repeat_too)
-      (places_same table l.0 numbers apart (all l.0 l.1.0) here (subst (λ k. HaveSame k (at_places table numbers)) (sym l.1.1) same))
-  none_same table old new numbers false apart all here kept = tt

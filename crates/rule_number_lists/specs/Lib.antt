@@ -1,3 +1,5 @@
 pub mod Numbered
+pub mod Bits
+pub mod NumberPairs
 pub mod NumberLists
-pub mod ListMemory
+pub mod NumberSet

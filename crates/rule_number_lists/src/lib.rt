@@ -1,14 +1,17 @@
-//! Lists of numbers, remembered by which numbers they have, and numbers of items by what they are equal to.
+//! Lists and pairs of numbers, remembered by which numbers they have.
 //!
-//! For the layer above: `numbers_of` gives items the numbers that they have in a table (`AreNumbersIn` of
-//! `specs/Numbered.antt`); a `NumberLists` remembers lists of numbers in whatever order (`Keeps` of `specs/NumberLists.antt`).
-//! `proofs/Standing.antt` has what lists of the numbered things come to.
+//! For the layer above: a `NumberPairs` remembers pairs of numbers (`KeepsPair` of `specs/NumberPairs.antt`), a `NumberLists` lists
+//! of numbers (`Keeps` of `specs/NumberLists.antt`), in whatever order these stand; a `NumberSet` is a set of numbers
+//! (`specs/NumberSet.antt`). Each tells a number above all that it has (`bound`). `proofs/Rows.antt` and `proofs/Kept.antt` say what
+//! is kept after a call and how many pairs there can be, `proofs/Few.antt` how long lists can be in all, and
+//! `proofs/Standing.antt` what lists of numbered things come to.
 #![tactic(auto)]
 
+mod bits;
 mod lists;
-mod memory;
-mod numbers;
+mod pairs;
+mod set;
 
 pub use lists::NumberLists;
-pub use memory::ListMemory;
-pub use numbers::numbers_of;
+pub use pairs::NumberPairs;
+pub use set::NumberSet;

@@ -1,43 +1,109 @@
 //! Lists of numbers that are remembered.
-ghost use Rattle.std.specs.Prelude.{◌≡◌, ℕ, [], IfOk, OnErr, IsPermutation, Contains, Vec};
+ghost use Rattle.std.specs.Prelude.{◌≡◌, ℕ, List, [], ◌≤◌, ◌<◌, ◌+◌, length, IfOk, OnErr, IsPermutation, Contains, Vec};
 ghost use Rattle.std.specs.Global.{Global};
 ghost use Rattle.std.specs.List.Sorted.{IsNonDecreasing};
 ghost use Rattle.std.proofs.Props.{props};
 
+use crate::pairs::NumberPairs;
 use indexmap::IndexSet;
 use std::alloc::{AllocError, Global};
 
-/// Lists of numbers, remembered by which numbers they have, in whatever order these stand.
+/// Lists of numbers, remembered by which numbers they have, in whatever order these stand. A list of two is a pair, and a list of one
+/// is a pair of it with itself.
 pub struct NumberLists {
-    lists: IndexSet<Vec<usize>>,
-    ghost ordered: { (v : Vec ℕ Global) → Contains lists.keys v → IsNonDecreasing v.items } by { Prim.hlevel props },
+    pairs: NumberPairs,
+    longer: IndexSet<Vec<usize>>,
+    /// A number above all in the longer lists.
+    above: usize,
+    ghost ordered: { (v : Vec ℕ Global) → Contains longer.keys v → IsNonDecreasing v.items } by { Prim.hlevel props },
+    ghost within: { (v : Vec ℕ Global) → Contains longer.keys v → (n : ℕ) → Contains v.items n → n < above } by { Prim.hlevel props },
+    ghost long: { (v : Vec ℕ Global) → Contains longer.keys v → 3 ≤ length v.items } by { Prim.hlevel props },
 }
 
 impl Drop for NumberLists {
     fn drop(self) {
-        let NumberLists { lists: _ } = self;
+        let NumberLists {
+            pairs: _,
+            longer: _,
+            above: _,
+        } = self;
     }
 }
 
 impl NumberLists {
-    ghost use Rattle.rule_number_lists.specs.NumberLists.{lists_kept, Keeps};
+    ghost use Rattle.rule_number_lists.specs.NumberLists.{list_of, lists_kept, Keeps};
 
     /// None.
     pub fn new(alloc: Global) -> NumberLists
         ensures { lists_kept result ≡ [] }
     {
         NumberLists {
-            lists: IndexSet::new(alloc),
+            pairs: NumberPairs::new(alloc),
+            longer: IndexSet::new(alloc),
+            above: 0,
         }
     }
 
-    /// Remembers a list. Whether it was not remembered before is given, in whatever order.
+    /// A number above all that are in lists.
+    pub fn bound(&self) -> usize
+        ensures { (list : List ℕ) → Contains (lists_kept self.now) list → (n : ℕ) → Contains list n → n < result }
+    {
+        self.above.max(self.pairs.bound())
+    }
+
+    /// Remembers a list of two numbers, or of one where both are it. Whether it was not remembered before is given.
+    pub fn remember_two(&mut self, one: usize, other: usize) -> Result<bool, AllocError>
+        ensures keeps { IfOk result (λ is_new. Keeps (lists_kept self.old) (list_of (one, other)) is_new (lists_kept self.new)) }
+        ensures refused { OnErr result (lists_kept self.new ≡ lists_kept self.old) }
+    {
+        self.pairs.remember(one, other)
+    }
+
+    /// Remembers a list. Whether it was not remembered before is given, in whatever order. One without numbers is remembered from the
+    /// start.
     pub fn remember(&mut self, numbers: Vec<usize>) -> Result<bool, AllocError>
         ensures keeps { IfOk result (λ is_new. Keeps (lists_kept self.old) numbers.items is_new (lists_kept self.new)) }
         ensures refused { OnErr result (lists_kept self.new ≡ lists_kept self.old) }
     {
+        match numbers.as_slice() {
+            [] => Ok(false),
+            [one] => self.remember_two(*one, *one),
+            [one, other] => self.remember_two(*one, *other),
+            _ => self.remember_longer(numbers),
+        }
+    }
+
+    /// Remembers a list of three numbers or more. Whether it was not remembered before is given, in whatever order.
+    fn remember_longer(&mut self, numbers: Vec<usize>) -> Result<bool, AllocError>
+        requires { 3 ≤ length numbers.items }
+        ensures keeps { IfOk result (λ is_new. Keeps (lists_kept self.old) numbers.items is_new (lists_kept self.new)) }
+        ensures refused { OnErr result (lists_kept self.new ≡ lists_kept self.old) }
+    {
+        let above = above(&numbers)?;
         let numbers = in_order(numbers);
-        Ok(self.lists.insert(numbers)?)
+        self.above = self.above.max(above);
+        Ok(self.longer.insert(numbers)?)
+    }
+}
+
+/// A number above all of these. Where there is none that can be told it fails, as where memory does not suffice.
+fn above(numbers: &[usize]) -> Result<usize, AllocError>
+    ensures { IfOk result (λ bound. (n : ℕ) → Contains numbers.now n → n < bound) }
+{
+    let mut bound: usize = 0;
+    for number in numbers {
+        bound = bound.max(one_above(*number)?);
+    }
+    Ok(bound)
+}
+
+/// The next number, if there is one.
+fn one_above(number: usize) -> Result<usize, AllocError>
+    ensures { IfOk result (λ next. next ≡ number + 1) }
+{
+    match number.checked_add(1) {
+        Some(next) => Ok(next),
+        None => Err(AllocError),
     }
 }
 

@@ -8,7 +8,7 @@ use Rattle.schema_types.specs.Plain.{plain}
 use Rattle.schema_types.specs.Addresses.{under}
 use Rattle.rule_selections.proofs.FieldPlaces.{some_is}
 use Rattle.document_meaning.specs.MeantTree.{MeantSelection, MeantField, MeantSpread, MeantInline, MeantOperation, MeantFragment, MeantDocument}
-use Rattle.rule_document_ground.specs.in_typing.Meanings.{meanings}
+use Rattle.document_typing.specs.Meanings.{meanings}
 use Rattle.rule_definitions.specs.Words.{Present}
 use Rattle.rule_definitions.specs.Judged.{judged}
 use Rattle.rule_definitions.specs.GivenValues.{Variables}

@@ -6,8 +6,8 @@ use Rattle.schema_components.proofs.Places.{not_in_nil, Contains-cons, Contains-
 use Rattle.schema_types.specs.SchemaTree.{SchemaTree}
 use Rattle.tree_operations.specs.SelectionTree.{FieldHead}
 use Rattle.document_meaning.specs.MeantTree.{Definition, MeantSelection, MeantField, MeantSpread, MeantInline, MeantSet, meant_set, MeantSelections, no_meant, meant_then}
-use Rattle.rule_document_ground.specs.in_typing.Meanings.{Meanings, inner_type}
-use Rattle.rule_document_ground.specs.in_typing.TypedByPlace.{IsTyped, IsSetOn, AreTyped}
+use Rattle.document_typing.specs.Meanings.{Meanings, inner_type}
+use Rattle.document_typing.specs.TypedByPlace.{IsTyped, IsSetOn, AreTyped}
 use Rattle.rule_document_definitions.specs.Selected.{InOperation}
 use Rattle.rule_document_ground.specs.Reach.{Member}
 use Rattle.rule_selections.specs.Steps.{selects_none}

@@ -4,6 +4,7 @@ pub mod SameUses
 pub mod Members
 pub mod Takers
 pub mod Selecting
+pub mod TypedReached
 pub mod Typing
 pub mod NoArguments
 pub mod WithoutVariables
@@ -14,3 +15,4 @@ pub mod SameFaults
 pub mod Thinning
 pub mod Standing
 pub mod SetsWithin
+pub use Rattle.document_typing.proofs as in_typing

@@ -14,8 +14,8 @@ use Rattle.document_typed_selections.proofs.TypedTrees.{typed_tree_field, typed_
 use Rattle.document_meaning.specs.MeantTree.{meant}
 use Rattle.schema_types.specs.SchemaTree.{SchemaTree}
 use Rattle.schema_types.specs.Plain.{plain}
-use Rattle.rule_document_ground.specs.in_typing.Meanings.{meanings}
-use Rattle.rule_document_ground.specs.in_typing.TypedByPlace.{IsTyped}
+use Rattle.document_typing.specs.Meanings.{meanings}
+use Rattle.document_typing.specs.TypedByPlace.{IsTyped}
 use Rattle.rule_definitions.specs.Words.{Present}
 use Rattle.rule_document_definitions.specs.Selected.{StandingField, selection_directives, selection_location}
 use Rattle.rule_definitions.proofs.Listing.{present_known}

@@ -7,7 +7,7 @@ use Rattle.schema_types.specs.SchemaTree.{SchemaTree}
 use Rattle.schema_types.specs.Plain.{plain}
 use Rattle.schema_types.specs.Addresses.{TypeAt, under}
 use Rattle.document_meaning.specs.MeantTree.{MeantOperation, MeantFragment, MeantDocument}
-use Rattle.rule_document_ground.specs.in_typing.Meanings.{meanings}
+use Rattle.document_typing.specs.Meanings.{meanings}
 use Rattle.rule_definitions.specs.Diagnostics.{UndefinedFragment, InvalidFragmentTarget, InvalidFragmentSpread}
 use Rattle.rule_definitions.specs.Words.{Present, AtSomeIndex}
 use Rattle.rule_definitions.specs.Faults.{wrong}

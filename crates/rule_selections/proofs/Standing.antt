@@ -16,7 +16,7 @@ use Rattle.rule_selections.proofs.FieldPlaces.{some_is}
 use Rattle.document_typed_operations.specs.TypedDocument.{TypedFragment, typed_fragment_tree}
 use Rattle.document_typed_operations.specs.declared.operation.Fragment.{Fragment}
 use Rattle.document_meaning.specs.MeantTree.{MeantFragment}
-use Rattle.rule_document_ground.specs.in_typing.DocumentView.{meant_by_fragment}
+use Rattle.rule_document_ground.specs.in_typed_operations.DocumentView.{meant_by_fragment}
 use Rattle.rule_selections.specs.Settled.{fragment_meant, StandsInFor, StandIn}
 use Rattle.rule_selections.proofs.Leaving.{leaves_same}
 

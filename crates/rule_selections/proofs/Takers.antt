@@ -16,7 +16,7 @@ use Rattle.schema_components.specs.declared.component.Component.{Component}
 use Rattle.schema_types.specs.SchemaTree.{SchemaTree}
 use Rattle.schema_types.specs.Addresses.{FieldAt, ArgumentAt, TypeReferenceAt}
 use Rattle.schema_types.specs.Plain.{plain}
-use Rattle.rule_document_ground.specs.in_typing.Meanings.{meanings}
+use Rattle.document_typing.specs.Meanings.{meanings}
 use Rattle.rule_document_ground.specs.in_schema.LookUps.{field_named}
 use Rattle.rule_document_ground.proofs.in_schema.FieldLooks.{fields_plain}
 use Rattle.document_typed_selections.specs.declared.selection.Field.{Field}

@@ -18,7 +18,7 @@ use Rattle.document_typed_selections.specs.declared.selection.Selection.TheViews
 use Rattle.document_typed_selections.proofs.TypedTrees.{typed_tree_field, typed_tree_inline}
 use Rattle.document_typed_operations.specs.TypedDocument.{TypedFragment}
 use Rattle.document_meaning.specs.MeantTree.{MeantSelection, MeantField, MeantInline, MeantSet, meant_set, MeantSelections, no_meant, meant_then, members, meant, meant_of_set, meant_of_all}
-use Rattle.rule_document_ground.specs.in_typing.DocumentView.{meant_by_fragment}
+use Rattle.rule_document_ground.specs.in_typed_operations.DocumentView.{meant_by_fragment}
 use Rattle.rule_definitions.specs.Told.{PlacedFault}
 use Rattle.rule_definitions.proofs.Listing.{Gains}
 use Rattle.rule_selections.specs.Steps.{selects_none}

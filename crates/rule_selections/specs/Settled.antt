@@ -11,9 +11,9 @@ use Rattle.document_typed_selections.specs.TypedParts.{set_and}
 use Rattle.document_typed_operations.specs.TypedDocument.{typed_fragment_tree}
 use Rattle.document_typed_operations.specs.declared.operation.Fragment.{Fragment}
 use Rattle.document_meaning.specs.MeantTree.{MeantSelection, MeantField, MeantSpread, MeantInline, MeantSet, meant_set, MeantSelections, no_meant, meant_then, meant_of_set, MeantFragment, meant}
-use Rattle.rule_document_ground.specs.in_typing.DocumentView.{meant_by_fragment}
-use Rattle.rule_document_ground.specs.in_typing.Meanings.{meanings}
-use Rattle.rule_document_ground.specs.in_typing.TypedByPlace.{IsTyped}
+use Rattle.rule_document_ground.specs.in_typed_operations.DocumentView.{meant_by_fragment}
+use Rattle.document_typing.specs.Meanings.{meanings}
+use Rattle.document_typing.specs.TypedByPlace.{IsTyped}
 use Rattle.rule_definitions.specs.Told.{PlacedFault}
 use Rattle.rule_document_ground.specs.Reach.{Member}
 use Rattle.rule_selections.specs.Steps.{SelectionBreaks}

@@ -15,7 +15,7 @@ use Rattle.document_typed_selections.specs.TypedTree.{typed_set_tree}
 use Rattle.document_typed_selections.specs.TypedParts.{typed_head}
 use Rattle.document_typed_selections.specs.declared.selection.Field.{Field}
 use Rattle.document_meaning.specs.MeantTree.{MeantSet, meant_set, no_meant, meant_of_set}
-use Rattle.rule_document_ground.specs.in_typing.Meanings.{meanings}
+use Rattle.document_typing.specs.Meanings.{meanings}
 use Rattle.rule_definitions.specs.Diagnostics.{MissingSubselection}
 use Rattle.rule_definitions.specs.Words.{Present}
 use Rattle.rule_definitions.specs.Faults.{wrong}

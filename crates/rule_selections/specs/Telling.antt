@@ -16,8 +16,8 @@ use Rattle.document_typed_selections.specs.declared.selection.SelectionSet.{Sele
 use Rattle.document_typed_operations.specs.TypedDocument.{typed_fragment_tree}
 use Rattle.document_typed_operations.specs.declared.operation.Fragment.{Fragment}
 use Rattle.document_meaning.specs.MeantTree.{MeantFragment, meant, meant_of_set}
-use Rattle.rule_document_ground.specs.in_typing.Meanings.{meanings}
-use Rattle.rule_document_ground.specs.in_typing.TypedByPlace.{IsTyped}
+use Rattle.document_typing.specs.Meanings.{meanings}
+use Rattle.document_typing.specs.TypedByPlace.{IsTyped}
 use Rattle.fault_data.specs.Adds.{Adds}
 use Rattle.fault_data.specs.declared.fault.Fault.{Fault}
 use Rattle.rule_definitions.specs.GivenValues.{Variables}

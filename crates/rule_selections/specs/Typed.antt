@@ -1,7 +1,7 @@
 -- Private: leads to `IsTypedUnder` and `IsTypedSet`. What an operation reaches is typed by its place: so it is in a document that is typed, and in a field set.
 use Rattle.document_meaning.specs.MeantTree.{MeantOperation, MeantDocument}
-use Rattle.rule_document_ground.specs.in_typing.Meanings.{Meanings}
-use Rattle.rule_document_ground.specs.in_typing.TypedByPlace.{IsTyped}
+use Rattle.document_typing.specs.Meanings.{Meanings}
+use Rattle.document_typing.specs.TypedByPlace.{IsTyped}
 use Rattle.rule_document_definitions.specs.Selected.{Standing}
 use Rattle.rule_document_definitions.specs.Reached.{Reached}
 

@@ -9,7 +9,7 @@ ghost use Rattle.rule_uses.specs.in_rule_values.Wanting.{variables_of};
 ghost use Rattle.document_meaning.specs.MeantTree.{MeantDocument, meant};
 ghost use Rattle.document_typed_selections.specs.TypedTree.{typed_selection_tree};
 ghost use Rattle.document_typed_operations.specs.TypedDocument.{typed_fragment_tree, typed_operation_tree};
-ghost use Rattle.rule_document_ground.specs.in_typing.DocumentView.{meant_by_operation};
+ghost use Rattle.rule_document_ground.specs.in_typed_operations.DocumentView.{meant_by_operation};
 ghost use Rattle.rule_document_definitions.specs.Standalone.{GivenInBreaks};
 ghost use Rattle.rule_document_definitions.specs.Told.{places_alone};
 ghost use Rattle.rule_document_ground.specs.Reach.{reached_members, reached_fragments_of, IsReachOf};

@@ -16,8 +16,8 @@ ghost use Rattle.rule_selections.specs.Telling.{AddsTaken, AddsOfField};
 use document_typed_selections::Field;
 use graphql_names::{Name, Node};
 use rule_uses::{
-    DefinedVariables, DiagnosticData, Fault, Schema, Taker, TakerName, TypeAttributeCoordinate,
-    check_given, check_taken, tell,
+    DefinedVariables, DiagnosticData, Fault, IndexedSchema, Schema, Taker, TakerName,
+    TypeAttributeCoordinate, check_given, check_taken, tell,
 };
 use schema_types::TypeKind;
 use std::alloc::AllocError;
@@ -94,7 +94,7 @@ fn is_without_arguments(field: &Field) -> bool
 
 /// Adds the faults of what is given by the definition of the field on the type around it.
 fn check_defined(
-    schema: &Schema,
+    schema: &IndexedSchema<'_>,
     parent: &Name,
     field: &Node<Field>,
     variables: &DefinedVariables<'_>,
@@ -106,13 +106,14 @@ fn check_defined(
     if is_without_arguments(selected) {
         return Ok(());
     }
-    let Ok(definition) = schema.type_field(parent, &selected.name) else {
+    let Ok(definition) = schema.schema().type_field(parent, &selected.name) else {
         return Ok(());
     };
+    let defined = schema.arguments_of_field(parent, &selected.name, definition);
     let taker = Taker {
         location: field.location(),
         given: selected.arguments.as_slice(),
-        definitions: definition.node.content().arguments.as_slice(),
+        definitions: &defined,
         definition_location: definition.node.location(),
         name: TakerName::OfField(parent, &selected.name),
     };
@@ -121,7 +122,7 @@ fn check_defined(
 
 /// Adds the faults of a field: MissingSubselection, and the rules on its arguments, apart from their directives.
 pub(crate) fn check_field(
-    schema: &Schema,
+    schema: &IndexedSchema<'_>,
     parent: &Name,
     field: &Node<Field>,
     variables: &DefinedVariables<'_>,
@@ -129,7 +130,7 @@ pub(crate) fn check_field(
 ) -> Result<(), AllocError>
     ensures { OnOk result (AddsOfField (schema_tree schema.now) (variables_of variables.now) (standing_field parent.now field.now) faults.old faults.new) }
 {
-    missing_subselection(schema, parent, field, faults)?;
+    missing_subselection(schema.schema(), parent, field, faults)?;
     check_given(&field.content().arguments, variables, faults)?;
     check_defined(schema, parent, field, variables, faults)
 }

@@ -2,7 +2,8 @@
 //! some of their fields, and arguments and directives keep the rules on uses.
 //!
 //! For the layers above: each check adds exactly the faults by which the rules of its name break, over what the operation
-//! reaches in a document: `SelectionsBreak` under a schema, `GivenInBreaks` without one.
+//! reaches in a document: `SelectionsBreak` under a schema, `GivenInBreaks` without one. What is reached in a typed document, or
+//! in a typed field set, is typed (`proofs/TypedReached.antt`).
 //!
 //! What operations share is judged once: `settled_fragments` gives what replaces the fragments of a document (`StandIn` of
 //! `specs/Settled.antt`), each without those of its selections, at any depth, of which nothing is told, whatever the variables.
@@ -22,3 +23,6 @@ mod within;
 pub use alone::check_selections_alone;
 pub use selections::check_selections;
 pub use settled::settled_fragments;
+
+// Of the crates beneath, for those above.
+pub use rule_uses::{IndexedSchema, SchemaInputs};

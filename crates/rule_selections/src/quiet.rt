@@ -9,7 +9,7 @@ ghost use Rattle.rule_selections.specs.Telling.{member_there};
 
 use crate::selections::check_selection;
 use document_typed_selections::Selection;
-use rule_uses::{DefinedVariables, Fault, Schema};
+use rule_uses::{DefinedVariables, Fault, IndexedSchema};
 use std::alloc::{AllocError, Global};
 use tree_literals::NamedType;
 
@@ -37,7 +37,7 @@ fn is_nothing(faults: &Vec<Fault>) -> bool
 /// of its own; what it selects is not judged. So it uses no variable, and breaks none in any operation.
 pub(crate) fn is_quiet(
     alloc: Global,
-    schema: &Schema,
+    schema: &IndexedSchema<'_>,
     ty: &NamedType,
     selection: &Selection,
 ) -> Result<bool, AllocError>

@@ -11,8 +11,8 @@ ghost use Rattle.tree_directives.specs.declared.directive_location.DirectiveLoca
 ghost use Rattle.document_meaning.specs.MeantTree.{MeantDocument, meant};
 ghost use Rattle.document_typed_selections.specs.TypedTree.{typed_selection_tree};
 ghost use Rattle.document_typed_operations.specs.TypedDocument.{typed_operation_tree};
-ghost use Rattle.rule_document_ground.specs.in_typing.DocumentView.{meant_by_operation};
-ghost use Rattle.rule_document_ground.specs.in_typing.Meanings.{meanings};
+ghost use Rattle.rule_document_ground.specs.in_typed_operations.DocumentView.{meant_by_operation};
+ghost use Rattle.document_typing.specs.Meanings.{meanings};
 ghost use Rattle.rule_document_definitions.specs.Selected.{selection_location};
 ghost use Rattle.rule_document_definitions.specs.Selections.{SelectionsBreak};
 ghost use Rattle.rule_document_definitions.specs.Told.{places_in};
@@ -25,7 +25,7 @@ use document_typed_operations::{Fragment, Operation};
 use document_typed_selections::Selection;
 use graphql_names::Node;
 use rule_document_ground::Reach;
-use rule_uses::{DefinedVariables, Fault, Schema, check_uses};
+use rule_uses::{DefinedVariables, Fault, IndexedSchema, check_uses};
 use std::alloc::AllocError;
 use tree_directives::DirectiveLocation;
 use tree_literals::NamedType;
@@ -44,7 +44,7 @@ fn location_of(selection: &Selection) -> DirectiveLocation
 
 /// Adds the faults of a selection: of its directives, and of a field by itself.
 pub(crate) fn check_selection(
-    schema: &Schema,
+    schema: &IndexedSchema<'_>,
     parent: &NamedType,
     selection: &Selection,
     variables: &DefinedVariables<'_>,
@@ -68,7 +68,7 @@ pub(crate) fn check_selection(
 
 /// Adds the faults of each selection.
 fn check_each_selection(
-    schema: &Schema,
+    schema: &IndexedSchema<'_>,
     reach: &Reach<'_>,
     variables: &DefinedVariables<'_>,
     faults: &mut Vec<Fault>,
@@ -83,7 +83,7 @@ fn check_each_selection(
 
 /// Adds the faults of the directives of a fragment.
 fn check_fragment(
-    schema: &Schema,
+    schema: &IndexedSchema<'_>,
     fragment: &Node<Fragment>,
     variables: &DefinedVariables<'_>,
     faults: &mut Vec<Fault>,
@@ -102,7 +102,7 @@ fn check_fragment(
 
 /// Adds the faults of the directives of each fragment.
 fn check_fragments(
-    schema: &Schema,
+    schema: &IndexedSchema<'_>,
     reach: &Reach<'_>,
     variables: &DefinedVariables<'_>,
     faults: &mut Vec<Fault>,
@@ -118,7 +118,7 @@ fn check_fragments(
 /// Adds the faults of what an operation reaches, where that is typed: MissingSubselection, the rules on arguments of those of
 /// fields, and the rules on directives of those of the operation, of each selection and of each fragment.
 pub fn check_selections(
-    schema: &Schema,
+    schema: &IndexedSchema<'_>,
     operation: &Node<Operation>,
     reach: &Reach<'_>,
     faults: &mut Vec<Fault>,

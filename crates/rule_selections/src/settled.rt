@@ -1,7 +1,7 @@
 //! What replaces the fragments of a document, so that what its operations share is judged once.
 ghost use Rattle.std.specs.Prelude.{IfOk, OnOk, unwrap_or};
 ghost use Rattle.rule_document_ground.specs.in_schema.SchemaOf.{schema_tree};
-ghost use Rattle.rule_document_ground.specs.in_typing.DocumentView.{document_meant};
+ghost use Rattle.rule_document_ground.specs.in_typed_operations.DocumentView.{document_meant};
 ghost use Rattle.rule_document_ground.specs.Reach.{meant_fragments};
 ghost use Rattle.rule_selections.specs.Settled.{fragment_meant, StandsInFor, StandIn};
 ghost use Rattle.rule_selections.specs.Telling.{StillStandIn};
@@ -9,13 +9,13 @@ ghost use Rattle.rule_selections.specs.Telling.{StillStandIn};
 use crate::thinned::thinned;
 use document_typed_operations::{ExecutableDocument, Fragment, FragmentMap};
 use graphql_names::{Name, Node};
-use rule_uses::Schema;
+use rule_uses::IndexedSchema;
 use std::alloc::{AllocError, Global};
 
 /// The fragment without those selections, where it stands.
 fn thinned_fragment(
     alloc: Global,
-    schema: &Schema,
+    schema: &IndexedSchema<'_>,
     fragment: &Node<Fragment>,
 ) -> Result<Node<Fragment>, AllocError>
     ensures { IfOk result (λ r. StandsInFor (schema_tree schema.now) (fragment_meant r) (fragment_meant fragment.now)) }
@@ -34,7 +34,7 @@ fn thinned_fragment(
 
 /// Replaces the fragment of that name by itself without those selections.
 fn settle(
-    schema: &Schema,
+    schema: &IndexedSchema<'_>,
     fragments: &FragmentMap,
     name: &Name,
     instead: &mut FragmentMap,
@@ -55,7 +55,7 @@ fn settle(
 /// fragment on a type of its own, nor does what they select. Fails where memory is refused.
 pub fn settled_fragments(
     alloc: Global,
-    schema: &Schema,
+    schema: &IndexedSchema<'_>,
     document: &ExecutableDocument,
 ) -> Result<Option<FragmentMap>, AllocError>
     ensures { IfOk result (λ r. StandIn (schema_tree schema.now) (document_meant document.now).fragments (meant_fragments (unwrap_or r document.now.fragments))) }

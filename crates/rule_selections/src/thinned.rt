@@ -14,7 +14,7 @@ use crate::quiet::is_quiet;
 use crate::within::sets_within;
 use document_typed_selections::{Field, InlineFragment, Selection, SelectionSet};
 use graphql_names::Node;
-use rule_uses::Schema;
+use rule_uses::IndexedSchema;
 use std::alloc::{AllocError, Global};
 use tree_literals::{NamedType, copies_of_three, copies_of_two};
 
@@ -106,7 +106,7 @@ fn selection_with(
 /// the selection itself is quiet.
 fn is_settled(
     alloc: Global,
-    schema: &Schema,
+    schema: &IndexedSchema<'_>,
     ty: &NamedType,
     selection: &Selection,
     left: &SelectionSet,
@@ -132,7 +132,7 @@ fn left_below(selection: &Selection, thin: &mut Vec<SelectionSet>) -> Option<Sel
 /// Puts what stays of a selection of a set on that type last, unless nothing is told of it, and of all that it selects.
 fn keep_unless_settled(
     alloc: Global,
-    schema: &Schema,
+    schema: &IndexedSchema<'_>,
     ty: &NamedType,
     selection: &Selection,
     thin: &mut Vec<SelectionSet>,
@@ -154,7 +154,7 @@ fn keep_unless_settled(
 /// What is left of a set. What is left of the sets of its selections is taken from these: that of the first one is the last.
 fn thinned_set(
     alloc: Global,
-    schema: &Schema,
+    schema: &IndexedSchema<'_>,
     set: &SelectionSet,
     thin: &mut Vec<SelectionSet>,
 ) -> Result<SelectionSet, AllocError>
@@ -171,7 +171,7 @@ fn thinned_set(
 /// end there is one for each that is in no other, the first one last.
 fn thinned_sets<'doc>(
     alloc: Global,
-    schema: &Schema,
+    schema: &IndexedSchema<'_>,
     mut sets: Vec<&'doc SelectionSet>,
 ) -> Result<Vec<SelectionSet>, AllocError>
     ensures { IfOk result (λ thin. AreThinned (schema_tree schema.now) sets.entry.items thin.items) }
@@ -188,7 +188,7 @@ fn thinned_sets<'doc>(
 /// and neither they nor what they select enters a fragment on a type of its own. A field keeps some selection if it has any.
 pub(crate) fn thinned(
     alloc: Global,
-    schema: &Schema,
+    schema: &IndexedSchema<'_>,
     set: &SelectionSet,
 ) -> Result<SelectionSet, AllocError>
     ensures { IfOk result (λ r. LeavesOfTyped (schema_tree schema.now) (typed_set_tree set.now) (typed_set_tree r)) }

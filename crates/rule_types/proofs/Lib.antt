@@ -4,5 +4,16 @@ pub mod Says
 pub mod RootFaults
 pub mod Whole
 pub mod ExtensionPlaces
+pub mod FirstNamed
 pub mod SeenFacts
 pub mod SameRoots
+pub mod InterfacesByPlace
+pub mod SameTypes
+pub mod Subtypes
+pub mod TellsFirst
+pub mod FirstsFacts
+pub mod Required
+pub mod Standing
+pub mod Listed
+pub mod InterfacesSays
+pub mod InterfacesWhole

@@ -1,23 +1,21 @@
 -- What the check of repeated names has noted.
-use Rattle.std.proofs.Common.{◌≡◌, ℕ, Bool, true, false, cond, List, [], ◌∷◌, ◌++◌, map, Option, None, Some, is_some, refl, sym, ap, subst, ◌∙◌, if◌then◌else◌, true≢false}
-use Rattle.std.specs.List.{find}
+use Rattle.std.proofs.Common.{◌≡◌, Bool, true, false, cond, [], ◌∷◌, ◌++◌, Option, None, Some, is_some, refl, sym, ap, subst, ◌∙◌, if◌then◌else◌, true≢false}
 use Rattle.std.specs.Option.{option_map, option_map_or, option_or}
 use Rattle.std.specs.Str.{bytes_eq}
 use Rattle.std.proofs.lemmas.Slice.Eq.{bytes_eq-Decides}
 use Rattle.indexmap.specs.IndexMap.{IndexMap, get}
 use Rattle.graphql_names.specs.NameValue.{NameValue}
-use Rattle.graphql_names.specs.Placed.{Placed, Place}
-use Rattle.tree_directives.specs.DirectiveTree.{InputValueTree, InputValues}
+use Rattle.graphql_names.specs.Placed.{Place}
+use Rattle.tree_directives.specs.DirectiveTree.{InputValues}
 use Rattle.schema_components.specs.Names.{same_text}
 use Rattle.schema_types.specs.TypeView.{name_text}
 use Rattle.fault_data.specs.in_rule_definitions.Diagnostics.{UniqueInputValue}
 use Rattle.fault_data.specs.in_rule_definitions.Faults.{wrong}
 use Rattle.fault_data.specs.in_rule_definitions.Told.{PlacedFault}
 use Rattle.rule_types.specs.FaultLists.{first_named, unique_input_value}
+use Rattle.rule_types.specs.InterfaceFaults.{Input}
 use Rattle.rule_types.specs.Seen.{AreSeen}
-
-abbrev pub Input : Type 0
-Input = Placed Place (InputValueTree Place)
+use Rattle.rule_types.proofs.FirstNamed.{first_push, or_none}
 
 abbrev pub place : Input → Place
 place v = v.place
@@ -33,19 +31,6 @@ told_seen before v o e = ap (λ o. option_map_or (λ p. again v p ∷ []) o []) 
     by : (f : Option Input) → option_map_or (λ (p : Place). again v p ∷ []) (option_map place f) [] ≡ option_map_or (λ (w : Input). again v w.place ∷ []) f []
     by None = refl
     by (Some w) = refl
-
-first_push : (before : InputValues Place) (v : Input) (n : List ℕ) → first_named (before ++ v ∷ []) n ≡ option_or (first_named before n) (if bytes_eq n v.it.name.it then Some v else None)
-first_push [] v n = refl
-first_push (w ∷ before) v n = by (bytes_eq n w.it.name.it) (first_push before v n)
-  where
-    by : (b : Bool) → first_named (before ++ v ∷ []) n ≡ option_or (first_named before n) (if bytes_eq n v.it.name.it then Some v else None)
-        → (if b then Some w else first_named (before ++ v ∷ []) n) ≡ option_or (if b then Some w else first_named before n) (if bytes_eq n v.it.name.it then Some v else None)
-    by true rest = refl
-    by false rest = rest
-
-or_none : {X : Type 0} (o : Option X) → option_or o None ≡ o
-or_none None = refl
-or_none (Some x) = refl
 
 module _ {S : Type 0} (before : InputValues Place) (v : Input) where
   -- a name that was noted already

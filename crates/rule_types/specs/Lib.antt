@@ -4,3 +4,6 @@ pub mod Seen
 pub mod NamedWords
 pub mod Adds
 pub mod Trees
+pub mod InterfaceFaults
+pub mod Firsts
+pub mod InterfaceTrees

@@ -1,4 +1,4 @@
-//! What the rules on schemas are given.
+//! What the rules on roots, names, the types that are named, and what a type must have are given.
 
 use graphql_schema::Schema;
 use std::alloc::Global;

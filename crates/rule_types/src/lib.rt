@@ -1,20 +1,33 @@
-//! The rules on roots, on names, on the types that are named, and on what a type must have (section 3).
+//! The rules on types of schemas (section 3): on roots, on names, on the types that are named, on what a type must have, and
+//! on types that implement interfaces.
 //!
-//! For the layer above: `check_types` tells each fault of these rules, with its place and data, and nothing else. Each
-//! rule is a function named after the variant of the fault that it tells; `rule_definitions` says what they
-//! mean, and `specs/FaultLists.antt` what each tells of one place.
+//! For the layer above: `check_interfaces` tells each fault of the rules on types that implement interfaces, `check_types`
+//! each fault of the others, with its place and data, and nothing else. Each rule is a function named after the variant of
+//! the fault that it tells; `rule_definitions` says what they mean, and `specs/FaultLists.antt` and
+//! `specs/InterfaceFaults.antt` what each tells of one place.
 //!
-//! Begin with `check.rt`.
+//! Begin with `check.rt`, and for interfaces with `interface_check.rt`.
 #![tactic(auto)]
 
 mod arguments;
 mod check;
+mod copies;
 mod empty;
+mod implementation;
+mod interface_arguments;
+mod interface_check;
+mod interface_fields;
+mod interface_judging;
+mod interface_look_ups;
+mod interfaces;
 mod judging;
 mod look_ups;
 mod members;
 mod reserved;
 mod roots;
 mod types_used;
+mod valid_types;
 
 pub use check::check_types;
+pub use interface_check::check_interfaces;
+pub use valid_types::is_valid_implementation_field_type;

@@ -10,7 +10,7 @@ use Rattle.rule_values.specs.in_rule_definitions.Faults.{wrong}
 use Rattle.rule_values.specs.in_rule_definitions.Names.{argument_name, directive_name}
 use Rattle.rule_values.specs.in_rule_definitions.Told.{PlacedFault}
 use Rattle.rule_values.specs.Firsts.{first_told}
-use Rattle.rule_values.proofs.Noted.{told_found}
+use Rattle.rule_values.proofs.in_inputs.Noted.{told_found}
 use Rattle.rule_uses.specs.UseFaults.{argument_again, repeated_argument, directive_again, found_repeated, repeated_directive}
 
 -- nothing stands again where less than two stand

@@ -1,5 +1,5 @@
 -- What holds of uses alone, and what their variables add to it.
-use Rattle.std.proofs.Common.{◌≡◌, ◌⊎◌, ◌↔◌, refl, inl, inr}
+use Rattle.std.proofs.Common.{◌⊎◌, ◌↔◌, refl, inl, inr}
 use Rattle.graphql_names.specs.Placed.{Placed, Place}
 use Rattle.tree_directives.specs.DirectiveTree.{Arguments, DirectiveTree}
 use Rattle.tree_directives.specs.declared.directive_location.DirectiveLocation.{DirectiveLocation}

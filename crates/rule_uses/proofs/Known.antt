@@ -1,5 +1,5 @@
 -- What is told where look-ups are known.
-use Rattle.std.proofs.Common.{◌≡◌, ◌↔◌, false, [], ◌∷◌, refl, sym, ap, subst, ◌∙◌, Option, None, Some, is_some, find, bytes_eq, true≢false}
+use Rattle.std.proofs.Common.{◌≡◌, ◌↔◌, false, [], ◌∷◌, refl, sym, ap, ◌∙◌, Option, None, Some, is_some, find, bytes_eq, true≢false}
 use Rattle.std.specs.Option.{option_map}
 use Rattle.graphql_names.specs.Placed.{Placed, Place, Text}
 use Rattle.tree_literals.specs.TypeTree.{unplaced_type}

@@ -6,6 +6,7 @@ pub mod SchemaTold
 pub mod Types
 pub mod ReadPlaces
 pub mod Known
+pub mod RequiredOnly
 pub mod Again
 pub mod Numbered
 pub mod Uses

@@ -1,5 +1,5 @@
 -- Private: leads to `Uses` of the definitions of the rules. What is told of uses, arguments and definitions as the program has them.
-use Rattle.std.specs.Prelude.{◌↔◌, Bool, List, take, Option, IsTrue, Vec, Contains}
+use Rattle.std.specs.Prelude.{◌≡◌, ◌↔◌, Bool, ℕ, List, take, slice_get, Option, Some, IsTrue, Vec, Contains}
 use Rattle.std.specs.List.{flat_map}
 use Rattle.std.specs.declared.alloc.Global.{Global}
 use Rattle.indexmap.specs.IndexMap.{IndexMap}
@@ -66,6 +66,10 @@ undefined_arguments_of taker = flat_map (undefined_argument (taker_of taker) (in
 -- each required argument that is not given
 abbrev pub required_arguments_of : Taker → List PlacedFault
 required_arguments_of taker = flat_map (required_argument (taker_of taker)) (input_value_trees taker.definitions.now)
+
+-- the argument at that index has that name
+abbrev pub IsNamedAt : List (Node Argument) → ℕ → NameValue → Type 0
+IsNamedAt given index name = (a : Node Argument) × ((slice_get given index ≡ Some a) × ((content a).name.text ≡ name.text))
 
 -- a variable that is given for an argument and may not stand there
 abbrev pub told_usage : Node Argument → NameValue → Node VariableDefinition → InputValueDefinition → PlacedFault

@@ -24,15 +24,20 @@ use crate::taken::check_taken;
 use crate::taker::{Taker, TakerName};
 use graphql_names::{Name, Node, SourceSpan};
 use indexmap::IndexMap;
-use rule_values::{DefinedVariables, DiagnosticData, Fault, Schema, note_first, tell};
+use rule_values::{
+    DefinedVariables, DiagnosticData, Fault, IndexedSchema, Schema, note_first, tell,
+};
 use std::alloc::AllocError;
 use tree_directives::{Directive, DirectiveDefinition, DirectiveLocation};
 
 /// The definition of the directive of that name, if there is one.
-fn find_definition<'a>(schema: &'a Schema, name: &Name) -> Option<&'a Node<DirectiveDefinition>>
+fn find_definition<'a>(
+    schema: &'a IndexedSchema<'_>,
+    name: &Name,
+) -> Option<&'a Node<DirectiveDefinition>>
     ensures { option_map (λ d. node_tree directive_definition_tree d.now) result ≡ directive_definition_at (schema_tree schema.now) name.now.text }
 {
-    schema.directive_definitions.get(name)
+    schema.schema().directive_definitions.get(name)
 }
 
 /// UndefinedDirective: a use of a directive is valid only if the directive is defined (section 5.7.1). This one is not.
@@ -86,7 +91,7 @@ fn unsupported_location(
 /// UniqueDirective: a use of a directive that is not repeatable is valid only if the directive has no other use at that
 /// place (section 5.7.3). `first` is the place of the first of its name, if one is before it.
 fn unique_directive(
-    schema: &Schema,
+    schema: &IndexedSchema<'_>,
     first: Option<Option<SourceSpan>>,
     later: &Node<Directive>,
     faults: &mut Vec<Fault>,
@@ -113,7 +118,7 @@ fn unique_directive(
 
 /// Adds a fault for each directive that is not repeatable and is used before.
 fn tell_repeated_directives(
-    schema: &Schema,
+    schema: &IndexedSchema<'_>,
     directives: &[Node<Directive>],
     faults: &mut Vec<Fault>,
 ) -> Result<(), AllocError>
@@ -128,7 +133,7 @@ fn tell_repeated_directives(
 
 /// The same. `places` gets the place of the first of each name; it has none yet.
 fn tell_directives_again(
-    schema: &Schema,
+    schema: &IndexedSchema<'_>,
     directives: &[Node<Directive>],
     places: &mut IndexMap<Name, Option<SourceSpan>>,
     faults: &mut Vec<Fault>,
@@ -158,10 +163,13 @@ fn check_defined_use(
     unsupported_location(directive, definition, location, faults)?;
     let place = directive.location();
     let used = directive.content();
+    let defined = judging
+        .schema
+        .arguments_of_directive(&used.name, definition);
     let taker = Taker {
         location: place,
         given: used.arguments.as_slice(),
-        definitions: definition.content().arguments.as_slice(),
+        definitions: &defined,
         definition_location: place,
         name: TakerName::OfDirective(&used.name),
     };
@@ -203,7 +211,7 @@ fn check_each_use(
 /// Adds the faults of the directives that are used at one place of a document or a schema, with an operation's variables or
 /// none: UniqueDirective, UndefinedDirective, UnsupportedLocation, and the rules on arguments.
 pub fn check_uses(
-    schema: &Schema,
+    schema: &IndexedSchema<'_>,
     directives: &[Node<Directive>],
     location: DirectiveLocation,
     variables: &DefinedVariables<'_>,
@@ -279,6 +287,9 @@ pub fn check_directives(
 {
     match schema {
         None => check_undefined_uses(directives, variables, faults),
-        Some(schema) => check_uses(schema, directives, location, variables, faults),
+        Some(schema) => {
+            let schema = IndexedSchema::plain(schema);
+            check_uses(&schema, directives, location, variables, faults)
+        }
     }
 }

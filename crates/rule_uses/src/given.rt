@@ -1,5 +1,5 @@
 //! Arguments that are given, defined or not.
-ghost use Rattle.std.specs.Prelude.{◌≡◌, ◌++◌, ◌⊎◌, [], find, IfOk, OnOk};
+ghost use Rattle.std.specs.Prelude.{◌≡◌, ◌++◌, ◌⊎◌, [], find, IfOk, IfSome, OnOk};
 ghost use Rattle.std.specs.Option.{option_map};
 ghost use Rattle.graphql_names.specs.Placed.{node_tree};
 ghost use Rattle.tree_directives.specs.DirectiveTree.{argument_tree};
@@ -26,8 +26,11 @@ use rule_values::{
 use std::alloc::{AllocError, Global};
 use tree_directives::Argument;
 
+/// So many arguments are looked through faster than they are noted.
+pub(crate) const FEW: usize = 8;
+
 /// Of each name the index of the first of these arguments that has it.
-pub(crate) fn argument_numbers(
+fn argument_numbers(
     alloc: Global,
     given: &[Node<Argument>],
 ) -> Result<IndexMap<Name, usize>, AllocError>
@@ -40,8 +43,36 @@ pub(crate) fn argument_numbers(
     Ok(numbers)
 }
 
+/// Of each name the index of the first of these arguments that has it, where they are more than a few.
+pub(crate) fn numbers_if_many(
+    alloc: Global,
+    given: &[Node<Argument>],
+) -> Result<Option<IndexMap<Name, usize>>, AllocError>
+    ensures { IfOk result (λ r. IfSome r (λ numbers. AreNumbers argument_name numbers (arguments_of given.now))) }
+{
+    if given.len() <= FEW {
+        return Ok(None);
+    }
+    Ok(Some(argument_numbers(alloc, given)?))
+}
+
+/// The first of these arguments that has that name; they are looked through.
+pub(crate) fn find_listed<'a>(
+    given: &'a [Node<Argument>],
+    name: &Name,
+) -> Option<&'a Node<Argument>>
+    ensures { option_map (λ a. node_tree argument_tree a.now) result ≡ find (argument_has_name name.now.text) (arguments_of given.now) }
+{
+    for argument in given {
+        if argument.content().name.as_str() == name.as_str() {
+            return Some(argument);
+        }
+    }
+    None
+}
+
 /// The first of these arguments that has that name; `numbers` has where it stands.
-pub(crate) fn find_argument<'a>(
+fn find_numbered<'a>(
     given: &'a [Node<Argument>],
     numbers: &IndexMap<Name, usize>,
     name: &Name,
@@ -52,6 +83,21 @@ pub(crate) fn find_argument<'a>(
     match numbers.get(name) {
         None => None,
         Some(index) => given.get(*index),
+    }
+}
+
+/// The first of these arguments that has that name; `numbers` has where it stands, if they are noted.
+pub(crate) fn find_argument<'a>(
+    given: &'a [Node<Argument>],
+    numbers: Option<&IndexMap<Name, usize>>,
+    name: &Name,
+) -> Option<&'a Node<Argument>>
+    requires { IfSome numbers (λ numbers. AreNumbers argument_name numbers.now (arguments_of given.now)) }
+    ensures { option_map (λ a. node_tree argument_tree a.now) result ≡ find (argument_has_name name.now.text) (arguments_of given.now) }
+{
+    match numbers {
+        None => find_listed(given, name),
+        Some(numbers) => find_numbered(given, numbers, name),
     }
 }
 

@@ -1,10 +1,10 @@
 //! What the rules on uses are given.
 
-use rule_values::{DefinedVariables, Schema};
+use rule_values::{DefinedVariables, IndexedSchema};
 
 /// The schema by which uses are judged, and the variables that are defined where they stand.
 #[derive(Clone, Copy)]
 pub(crate) struct Judging<'a> {
-    pub(crate) schema: &'a Schema,
+    pub(crate) schema: &'a IndexedSchema<'a>,
     pub(crate) variables: &'a DefinedVariables<'a>,
 }

@@ -26,6 +26,6 @@ pub use usage::usage_fault;
 
 // Of the crates beneath, for those above.
 pub use rule_values::{
-    DefinedVariables, DiagnosticData, Fault, Schema, TypeAttributeCoordinate, check_value,
-    note_first, tell, type_breaks, unique_input_values,
+    DefinedArguments, DefinedVariables, DiagnosticData, Fault, IndexedSchema, Schema, SchemaInputs,
+    TypeAttributeCoordinate, check_value, note_first, tell, type_breaks, unique_input_values,
 };

@@ -22,7 +22,7 @@ ghost use Rattle.rule_uses.specs.Telling.{fields_of, definitions_of};
 use crate::directives::check_uses;
 use graphql_names::{Name, Node};
 use indexmap::IndexMap;
-use rule_values::{DefinedVariables, Fault, Schema};
+use rule_values::{DefinedVariables, Fault, IndexedSchema};
 use schema_components::{Component, DirectiveList};
 use schema_types::{ExtendedType, TypeKind};
 use std::alloc::{AllocError, Global};
@@ -56,7 +56,7 @@ fn type_location(kind: TypeKind) -> DirectiveLocation
 
 /// Adds the faults of directives at one place, where there are no variables.
 fn check_at(
-    schema: &Schema,
+    schema: &IndexedSchema<'_>,
     directives: &[Node<Directive>],
     location: DirectiveLocation,
     faults: &mut Vec<Fault>,
@@ -69,7 +69,7 @@ fn check_at(
 
 /// The same of the directives that definitions and extensions give a schema or a type.
 fn check_applied(
-    schema: &Schema,
+    schema: &IndexedSchema<'_>,
     list: &DirectiveList,
     location: DirectiveLocation,
     faults: &mut Vec<Fault>,
@@ -82,7 +82,7 @@ fn check_applied(
 
 /// Adds the faults at argument definitions.
 fn check_arguments(
-    schema: &Schema,
+    schema: &IndexedSchema<'_>,
     definitions: &[Node<InputValueDefinition>],
     faults: &mut Vec<Fault>,
 ) -> Result<(), AllocError>
@@ -101,7 +101,7 @@ fn check_arguments(
 
 /// Adds the faults at a field and its arguments.
 fn check_field(
-    schema: &Schema,
+    schema: &IndexedSchema<'_>,
     field: &FieldDefinition,
     faults: &mut Vec<Fault>,
 ) -> Result<(), AllocError>
@@ -118,7 +118,7 @@ fn check_field(
 
 /// Adds the faults at fields.
 fn check_fields(
-    schema: &Schema,
+    schema: &IndexedSchema<'_>,
     fields: &IndexMap<Name, Component<FieldDefinition>>,
     faults: &mut Vec<Fault>,
 ) -> Result<(), AllocError>
@@ -132,7 +132,7 @@ fn check_fields(
 
 /// Adds the faults at the values of an enum.
 fn check_values(
-    schema: &Schema,
+    schema: &IndexedSchema<'_>,
     values: &IndexMap<Name, Component<EnumValueDefinition>>,
     faults: &mut Vec<Fault>,
 ) -> Result<(), AllocError>
@@ -151,7 +151,7 @@ fn check_values(
 
 /// Adds the faults at the fields of an input object.
 fn check_inputs(
-    schema: &Schema,
+    schema: &IndexedSchema<'_>,
     fields: &IndexMap<Name, Component<InputValueDefinition>>,
     faults: &mut Vec<Fault>,
 ) -> Result<(), AllocError>
@@ -169,7 +169,11 @@ fn check_inputs(
 }
 
 /// Adds the faults at a type itself. Those of the built-in scalars are not judged.
-fn check_own(schema: &Schema, ty: &ExtendedType, faults: &mut Vec<Fault>) -> Result<(), AllocError>
+fn check_own(
+    schema: &IndexedSchema<'_>,
+    ty: &ExtendedType,
+    faults: &mut Vec<Fault>,
+) -> Result<(), AllocError>
     ensures { OnOk result (Adds faults.old faults.new (OwnUses (schema_tree schema.now) (extended_type ty.now))) }
 {
     if ty.is_scalar() && ty.is_built_in() {
@@ -180,7 +184,7 @@ fn check_own(schema: &Schema, ty: &ExtendedType, faults: &mut Vec<Fault>) -> Res
 
 /// Adds the faults at what a type has.
 fn check_parts(
-    schema: &Schema,
+    schema: &IndexedSchema<'_>,
     ty: &ExtendedType,
     faults: &mut Vec<Fault>,
 ) -> Result<(), AllocError>
@@ -197,7 +201,7 @@ fn check_parts(
 
 /// Adds the faults at types and what they have.
 fn check_types(
-    schema: &Schema,
+    schema: &IndexedSchema<'_>,
     types: &IndexMap<Name, ExtendedType>,
     faults: &mut Vec<Fault>,
 ) -> Result<(), AllocError>
@@ -212,7 +216,7 @@ fn check_types(
 
 /// Adds the faults at the definition of a directive itself. Those of the built-in directives are not judged.
 fn check_own_definition(
-    schema: &Schema,
+    schema: &IndexedSchema<'_>,
     definition: &Node<DirectiveDefinition>,
     faults: &mut Vec<Fault>,
 ) -> Result<(), AllocError>
@@ -231,7 +235,7 @@ fn check_own_definition(
 
 /// Adds the faults at directives' definitions and their arguments.
 fn check_definitions(
-    schema: &Schema,
+    schema: &IndexedSchema<'_>,
     definitions: &IndexMap<Name, Node<DirectiveDefinition>>,
     faults: &mut Vec<Fault>,
 ) -> Result<(), AllocError>
@@ -247,16 +251,20 @@ fn check_definitions(
 /// Adds the faults of the directives that are used in the schema: at its definition, at types but built-in scalars, at
 /// fields, arguments, values and input fields, and at definitions of directives but built-in ones. In it no two things of
 /// one kind have one name, as in every map.
-pub fn check_schema_directives(schema: &Schema, faults: &mut Vec<Fault>) -> Result<(), AllocError>
+pub fn check_schema_directives(
+    schema: &IndexedSchema<'_>,
+    faults: &mut Vec<Fault>,
+) -> Result<(), AllocError>
     requires { AreAllDistinct (schema_tree schema.now) }
     ensures { OnOk result (Adds faults.old faults.new (Told (schema_tree schema.now) SchemaUsesBreak)) }
 {
+    let whole = schema.schema();
     check_applied(
         schema,
-        &schema.schema_definition.content().directives,
+        &whole.schema_definition.content().directives,
         DirectiveLocation::Schema,
         faults,
     )?;
-    check_types(schema, &schema.types, faults)?;
-    check_definitions(schema, &schema.directive_definitions, faults)
+    check_types(schema, &whole.types, faults)?;
+    check_definitions(schema, &whole.directive_definitions, faults)
 }

@@ -1,11 +1,11 @@
 //! Arguments that are given against those that are defined.
-ghost use Rattle.std.specs.Prelude.{◌≡◌, ◌⊎◌, ◌↔◌, find, is_none, IfOk, IsTrue, OnOk, slice_get, ◌<◌, length, Some};
+ghost use Rattle.std.specs.Prelude.{◌≡◌, ◌⊎◌, ◌↔◌, find, take, length, IfSome, IsTrue, OnOk, ◌<◌, Some, None};
 ghost use Rattle.std.specs.Option.{option_map};
 ghost use Rattle.indexmap.specs.IndexMap.{get};
 ghost use Rattle.graphql_names.specs.Placed.{node_tree};
 ghost use Rattle.tree_literals.specs.ValueTree.{value_tree};
 ghost use Rattle.tree_directives.specs.DirectiveTree.{input_value_tree, input_value_trees};
-ghost use Rattle.tree_directives.specs.DirectiveQueries.{input_value_has_name, given_value};
+ghost use Rattle.tree_directives.specs.DirectiveQueries.{argument_has_name, input_value_has_name, given_value};
 ghost use Rattle.schema_components.specs.Names.{same_text};
 ghost use Rattle.rule_values.specs.in_schema.in_schema_types.TypeView.{name_text};
 ghost use Rattle.rule_values.specs.in_schema.SchemaOf.{schema_tree};
@@ -18,34 +18,38 @@ ghost use Rattle.rule_values.specs.Telling.{Tells};
 ghost use Rattle.rule_uses.specs.AddedFaults.{AddsTakerFaults};
 ghost use Rattle.rule_uses.specs.Trees.{arguments_of, taker_of};
 ghost use Rattle.rule_uses.specs.UseFaults.{required_argument};
-ghost use Rattle.rule_uses.specs.Telling.{schema_of, variables_in, undefined_argument_of, undefined_arguments_of, required_arguments_of, BreaksDefinition, BreaksIfDefined, SomeGivenBreaks};
+ghost use Rattle.rule_uses.specs.Telling.{schema_of, variables_in, IsNamedAt, undefined_argument_of, undefined_arguments_of, required_arguments_of, BreaksDefinition, BreaksIfDefined, SomeGivenBreaks};
 
-use crate::given::{argument_numbers, find_argument};
+use crate::given::{FEW, find_argument, find_listed, numbers_if_many};
 use crate::judging::Judging;
 use crate::taker::Taker;
 use crate::usage::disallowed_variable_usage;
 use graphql_names::{Name, Node};
 use indexmap::IndexMap;
-use rule_values::{DefinedVariables, DiagnosticData, Fault, Schema, note_first, tell, type_breaks};
-use std::alloc::{AllocError, Global};
+use rule_values::{
+    DefinedArguments, DefinedVariables, DiagnosticData, Fault, IndexedSchema, definition_numbers,
+    tell, type_breaks,
+};
+use std::alloc::AllocError;
 use tree_directives::{Argument, InputValueDefinition};
 
-/// Of each name the index of the first of these definitions that has it.
-fn definition_numbers(
-    alloc: Global,
-    definitions: &[Node<InputValueDefinition>],
-) -> Result<IndexMap<Name, usize>, AllocError>
-    ensures { IfOk result (λ numbers. AreNumbers input_name numbers (input_value_trees definitions.now)) }
+/// The first of these definitions that has that name; they are looked through.
+fn find_listed_definition<'a>(
+    definitions: &'a [Node<InputValueDefinition>],
+    name: &Name,
+) -> Option<&'a Node<InputValueDefinition>>
+    ensures { option_map (λ v. node_tree input_value_tree v.now) result ≡ find (input_value_has_name name.now.text) (input_value_trees definitions.now) }
 {
-    let mut numbers = IndexMap::new(alloc);
-    for index in 0..definitions.len() {
-        note_first(&mut numbers, &definitions[index].content().name, index)?;
+    for definition in definitions {
+        if definition.content().name.as_str() == name.as_str() {
+            return Some(definition);
+        }
     }
-    Ok(numbers)
+    None
 }
 
 /// The first of these definitions that has that name; `numbers` has where it stands.
-fn find_definition<'a>(
+fn find_numbered_definition<'a>(
     definitions: &'a [Node<InputValueDefinition>],
     numbers: &IndexMap<Name, usize>,
     name: &Name,
@@ -59,14 +63,30 @@ fn find_definition<'a>(
     }
 }
 
+/// The first of these definitions that has that name; `numbers` has where it stands, if they are noted.
+fn find_definition<'a>(
+    definitions: &DefinedArguments<'a>,
+    numbers: Option<&IndexMap<Name, usize>>,
+    name: &Name,
+) -> Option<&'a Node<InputValueDefinition>>
+    requires { IfSome numbers (λ numbers. AreNumbers input_name numbers.now (input_value_trees definitions.now)) }
+    ensures { option_map (λ v. node_tree input_value_tree v.now) result ≡ find (input_value_has_name name.now.text) (input_value_trees definitions.now) }
+{
+    let nodes = definitions.nodes();
+    match numbers {
+        None => find_listed_definition(nodes, name),
+        Some(numbers) => find_numbered_definition(nodes, numbers, name),
+    }
+}
+
 /// UndefinedArgument: an argument is valid only if the field or directive defines it (section 5.4.1).
 fn undefined_argument(
     taker: &Taker<'_>,
-    defined: &IndexMap<Name, usize>,
+    defined: Option<&IndexMap<Name, usize>>,
     argument: &Node<Argument>,
     faults: &mut Vec<Fault>,
 ) -> Result<(), AllocError>
-    requires { AreNumbers input_name defined.now (input_value_trees taker.now.definitions.now) }
+    requires { IfSome defined (λ numbers. AreNumbers input_name numbers.now (input_value_trees taker.now.definitions.now)) }
     ensures { OnOk result (Tells faults.old faults.new (undefined_argument_of taker.now argument.now)) }
 {
     let name = &argument.content().name;
@@ -86,10 +106,10 @@ fn undefined_argument(
 /// Adds a fault for each argument that is given and not defined.
 fn tell_undefined_arguments(
     taker: &Taker<'_>,
-    defined: &IndexMap<Name, usize>,
+    defined: Option<&IndexMap<Name, usize>>,
     faults: &mut Vec<Fault>,
 ) -> Result<(), AllocError>
-    requires { AreNumbers input_name defined.now (input_value_trees taker.now.definitions.now) }
+    requires { IfSome defined (λ numbers. AreNumbers input_name numbers.now (input_value_trees taker.now.definitions.now)) }
     ensures { OnOk result (Tells faults.old faults.new (undefined_arguments_of taker.now)) }
 {
     for argument in taker.given {
@@ -99,8 +119,12 @@ fn tell_undefined_arguments(
 }
 
 /// Whether no argument of that name is given, or it is null.
-fn is_not_given(given: &[Node<Argument>], numbers: &IndexMap<Name, usize>, name: &Name) -> bool
-    requires { AreNumbers argument_name numbers.now (arguments_of given.now) }
+fn is_not_given(
+    given: &[Node<Argument>],
+    numbers: Option<&IndexMap<Name, usize>>,
+    name: &Name,
+) -> bool
+    requires { IfSome numbers (λ numbers. AreNumbers argument_name numbers.now (arguments_of given.now)) }
     ensures { result ≡ is_absent_or_null (given_value name.now.text (arguments_of given.now)) }
 {
     match find_argument(given, numbers, name) {
@@ -113,11 +137,11 @@ fn is_not_given(given: &[Node<Argument>], numbers: &IndexMap<Name, usize>, name:
 /// (section 5.4.2.1).
 fn required_argument(
     taker: &Taker<'_>,
-    given: &IndexMap<Name, usize>,
+    given: Option<&IndexMap<Name, usize>>,
     definition: &Node<InputValueDefinition>,
     faults: &mut Vec<Fault>,
 ) -> Result<(), AllocError>
-    requires { AreNumbers argument_name given.now (arguments_of taker.now.given.now) }
+    requires { IfSome given (λ numbers. AreNumbers argument_name numbers.now (arguments_of taker.now.given.now)) }
     ensures { OnOk result (Tells faults.old faults.new (required_argument (taker_of taker.now) (node_tree input_value_tree definition.now))) }
 {
     let defined = definition.content();
@@ -139,13 +163,14 @@ fn required_argument(
 /// Adds a fault for each required argument that is not given.
 fn tell_required_arguments(
     taker: &Taker<'_>,
-    given: &IndexMap<Name, usize>,
+    given: Option<&IndexMap<Name, usize>>,
     faults: &mut Vec<Fault>,
 ) -> Result<(), AllocError>
-    requires { AreNumbers argument_name given.now (arguments_of taker.now.given.now) }
+    requires { IfSome given (λ numbers. AreNumbers argument_name numbers.now (arguments_of taker.now.given.now)) }
     ensures { OnOk result (Tells faults.old faults.new (required_arguments_of taker.now)) }
 {
-    for definition in taker.definitions {
+    let definitions = taker.definitions.with_required();
+    for definition in definitions {
         required_argument(taker, given, definition, faults)?;
     }
     Ok(())
@@ -176,11 +201,11 @@ fn check_argument(
 fn check_if_defined(
     judging: &Judging<'_>,
     taker: &Taker<'_>,
-    defined: &IndexMap<Name, usize>,
+    defined: Option<&IndexMap<Name, usize>>,
     argument: &Node<Argument>,
     faults: &mut Vec<Fault>,
 ) -> Result<(), AllocError>
-    requires { AreNumbers input_name defined.now (input_value_trees taker.now.definitions.now) }
+    requires { IfSome defined (λ numbers. AreNumbers input_name numbers.now (input_value_trees taker.now.definitions.now)) }
     ensures { OnOk result (Adds faults.old faults.new (BreaksIfDefined judging.now taker.now argument.now)) }
 {
     let name = &argument.content().name;
@@ -200,21 +225,40 @@ fn has_number(numbers: &IndexMap<Name, usize>, name: &Name, number: usize) -> bo
     }
 }
 
+/// Whether none of these arguments before that index has that name, which is that of the argument there; `numbers` has where the
+/// first of each name stands, if they are noted.
+fn is_first(
+    given: &[Node<Argument>],
+    numbers: Option<&IndexMap<Name, usize>>,
+    index: usize,
+    name: &Name,
+) -> bool
+    requires inside { index < length given.now }
+    requires named { IsNamedAt given.now index name.now }
+    requires noted { IfSome numbers (λ numbers. AreNumbers argument_name numbers.now (arguments_of given.now)) }
+    ensures { IsTrue result ↔ (find (argument_has_name name.now.text) (take index (arguments_of given.now)) ≡ None) }
+{
+    match numbers {
+        None => find_listed(&given[..index], name).is_none(),
+        Some(numbers) => has_number(numbers, name, index),
+    }
+}
+
 /// Adds the same for the first argument of each name.
 fn check_arguments(
     judging: &Judging<'_>,
     taker: &Taker<'_>,
-    defined: &IndexMap<Name, usize>,
-    given: &IndexMap<Name, usize>,
+    defined: Option<&IndexMap<Name, usize>>,
+    given: Option<&IndexMap<Name, usize>>,
     faults: &mut Vec<Fault>,
 ) -> Result<(), AllocError>
-    requires defined { AreNumbers input_name defined.now (input_value_trees taker.now.definitions.now) }
-    requires given { AreNumbers argument_name given.now (arguments_of taker.now.given.now) }
+    requires defined { IfSome defined (λ numbers. AreNumbers input_name numbers.now (input_value_trees taker.now.definitions.now)) }
+    requires given { IfSome given (λ numbers. AreNumbers argument_name numbers.now (arguments_of taker.now.given.now)) }
     ensures { OnOk result (Adds faults.old faults.new (SomeGivenBreaks judging.now taker.now)) }
 {
     for index in 0..taker.given.len() {
         let argument = &taker.given[index];
-        if has_number(given, &argument.content().name, index) {
+        if is_first(taker.given, given, index, &argument.content().name) {
             check_if_defined(judging, taker, defined, argument, faults)?;
         }
     }
@@ -225,34 +269,55 @@ fn check_arguments(
 /// rules on values of what is given for an argument against its type. What is defined has its place in the schema, or the one
 /// in its definition, as a meta-field's arguments do.
 pub fn check_taken(
-    schema: &Schema,
+    schema: &IndexedSchema<'_>,
     taker: &Taker<'_>,
     variables: &DefinedVariables<'_>,
     faults: &mut Vec<Fault>,
 ) -> Result<(), AllocError>
     ensures { OnOk result (AddsTakerFaults (schema_tree schema.now) (variables_of variables.now) taker.now faults.old faults.new) }
 {
-    let alloc = *faults.allocator();
-    let given = argument_numbers(alloc, taker.given)?;
     if taker.given.is_empty() {
-        return tell_required_arguments(taker, &given, faults);
+        return tell_required_arguments(taker, None, faults);
     }
     let judging = Judging { schema, variables };
-    check_some_taken(&judging, taker, &given, faults)
+    let alloc = *faults.allocator();
+    let given = numbers_if_many(alloc, taker.given)?;
+    check_some_taken(&judging, taker, given.as_ref(), faults)
 }
 
-/// The same; `given` has of each name the index of the first argument that is given so.
+/// The same; `given` has of each name the index of the first argument that is given so, if they are noted.
 fn check_some_taken(
     judging: &Judging<'_>,
     taker: &Taker<'_>,
-    given: &IndexMap<Name, usize>,
+    given: Option<&IndexMap<Name, usize>>,
     faults: &mut Vec<Fault>,
 ) -> Result<(), AllocError>
-    requires { AreNumbers argument_name given.now (arguments_of taker.now.given.now) }
+    requires { IfSome given (λ numbers. AreNumbers argument_name numbers.now (arguments_of taker.now.given.now)) }
     ensures { OnOk result (AddsTakerFaults (schema_of judging.now) (variables_in judging.now) taker.now faults.old faults.new) }
 {
-    let defined = definition_numbers(*faults.allocator(), taker.definitions)?;
-    tell_undefined_arguments(taker, &defined, faults)?;
+    let definitions = taker.definitions.nodes();
+    let known = taker.definitions.numbers();
+    if known.is_some() || definitions.len() <= FEW {
+        return check_numbered(judging, taker, known, given, faults);
+    }
+    let alloc = *faults.allocator();
+    let defined = definition_numbers(alloc, definitions)?;
+    check_numbered(judging, taker, Some(&defined), given, faults)
+}
+
+/// The same; `defined` has of each name the index of the first argument that is defined so.
+fn check_numbered(
+    judging: &Judging<'_>,
+    taker: &Taker<'_>,
+    defined: Option<&IndexMap<Name, usize>>,
+    given: Option<&IndexMap<Name, usize>>,
+    faults: &mut Vec<Fault>,
+) -> Result<(), AllocError>
+    requires defined { IfSome defined (λ numbers. AreNumbers input_name numbers.now (input_value_trees taker.now.definitions.now)) }
+    requires given { IfSome given (λ numbers. AreNumbers argument_name numbers.now (arguments_of taker.now.given.now)) }
+    ensures { OnOk result (AddsTakerFaults (schema_of judging.now) (variables_in judging.now) taker.now faults.old faults.new) }
+{
+    tell_undefined_arguments(taker, defined, faults)?;
     tell_required_arguments(taker, given, faults)?;
-    check_arguments(judging, taker, &defined, given, faults)
+    check_arguments(judging, taker, defined, given, faults)
 }

@@ -6,11 +6,11 @@ ghost use Rattle.rule_uses.specs.Trees.{coordinate_of, argument_coordinate_of};
 
 use graphql_names::{Name, Node, SourceSpan};
 use rule_values::{
-    DirectiveArgumentCoordinate, DirectiveCoordinate, FieldArgumentCoordinate, SchemaCoordinate,
-    TypeAttributeCoordinate,
+    DefinedArguments, DirectiveArgumentCoordinate, DirectiveCoordinate, FieldArgumentCoordinate,
+    SchemaCoordinate, TypeAttributeCoordinate,
 };
 use std::alloc::AllocError;
-use tree_directives::{Argument, InputValueDefinition};
+use tree_directives::Argument;
 
 /// How what takes arguments is called: a directive, or a field of a type.
 #[derive(Clone, Copy)]
@@ -25,7 +25,7 @@ pub enum TakerName<'a> {
 pub struct Taker<'a> {
     pub location: Option<SourceSpan>,
     pub given: &'a [Node<Argument>],
-    pub definitions: &'a [Node<InputValueDefinition>],
+    pub definitions: &'a DefinedArguments<'a>,
     pub definition_location: Option<SourceSpan>,
     pub name: TakerName<'a>,
 }

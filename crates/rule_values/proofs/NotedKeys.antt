@@ -14,12 +14,12 @@ use Rattle.fault_data.specs.in_rule_definitions.Diagnostics.{UniqueInputValue}
 use Rattle.fault_data.specs.in_rule_definitions.Faults.{wrong}
 use Rattle.fault_data.specs.in_rule_definitions.GivenValues.{Variables}
 use Rattle.fault_data.specs.in_rule_definitions.Told.{PlacedFault}
-use Rattle.rule_values.specs.Firsts.{first_told}
+use Rattle.schema_inputs.specs.Firsts.{first_told}
 use Rattle.rule_values.specs.KeyFaults.{key_again, repeated_key, repeated_keys}
 use Rattle.rule_values.specs.ValueFaults.{is_key, given_entry, is_missing_entry, field_faults, entry_faults}
 use Rattle.rule_values.specs.Wanting.{nulls_of}
 use Rattle.rule_values.proofs.EntryKeys.{keys_of_entries}
-use Rattle.rule_values.proofs.Noted.{told_found}
+use Rattle.schema_inputs.proofs.Noted.{told_found}
 
 abbrev Entry : Type 0
 Entry = NameValue × Node Value

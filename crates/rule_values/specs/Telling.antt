@@ -1,5 +1,5 @@
 -- Private: leads to `TypeBreaks` and `UndefinedVariableIn`. What is told of values, types and entries as the program has them.
-use Rattle.std.specs.Prelude.{◌≡◌, ◌++◌, ◌∷◌, [], List, Vec, find, bytes_eq, Option}
+use Rattle.std.specs.Prelude.{◌≡◌, ◌++◌, ◌∷◌, [], List, Vec, find, bytes_eq, Option, IfSome}
 use Rattle.std.specs.declared.alloc.Global.{Global}
 use Rattle.indexmap.specs.IndexMap.{IndexMap}
 use Rattle.graphql_names.specs.Placed.{Placed, Place}
@@ -33,6 +33,8 @@ use Rattle.rule_values.specs.ValueFaults.{unsupported_value_type, int_coercion_e
 use Rattle.rule_values.specs.VariableFaults.{variable_faults, variable_faults_entries}
 use Rattle.rule_values.specs.declared.judging.Judging.{Judging}
 use Rattle.rule_values.specs.declared.objects.GivenObject.{GivenObject}
+use Rattle.rule_values.specs.declared.objects.InputFields.{InputFields}
+use Rattle.schema_inputs.specs.Inputs.{AreRequired}
 use Rattle.rule_values.specs.declared.wanted.Wanted.{Wanted}
 
 -- the faults that were there, and after them these
@@ -94,6 +96,10 @@ required_of_given given name field = required_if (is_not_provided given.nulls.no
 
 abbrev pub required_by_given : GivenObject → List (NameValue × Component InputValueDefinition) → List PlacedFault
 required_by_given given fields = required_among (is_not_provided given.nulls.now) given.name.now.text given.location fields
+
+-- the required ones of the fields are known, if any are
+abbrev pub AreRequiredIfKnown : InputFields → Type 0
+AreRequiredIfKnown fields = IfSome fields.required (λ required. AreRequired (entries_of name_text (component_tree input_value_tree) fields.all.now) required.now)
 
 -- ---- whole values
 

@@ -10,18 +10,18 @@ ghost use Rattle.fault_data.specs.Adds.{Adds};
 ghost use Rattle.rule_values.specs.Wanting.{wanted_type, variables_of};
 
 use crate::defined::DefinedVariables;
+use crate::indexed::IndexedSchema;
 use crate::keys::tell_key_faults;
 use crate::types::tell_type_faults;
 use crate::variables::tell_variable_faults;
 use fault_data::Fault;
 use graphql_names::Node;
-use graphql_schema::Schema;
 use std::alloc::AllocError;
 use tree_literals::{Type, Value};
 
 /// Adds the faults of a value that is given for a type: those of `type_breaks` and of `undefined_variables`.
 pub fn check_value(
-    schema: &Schema,
+    schema: &IndexedSchema<'_>,
     ty: &Node<Type>,
     value: &Node<Value>,
     variables: &DefinedVariables<'_>,
@@ -36,7 +36,7 @@ pub fn check_value(
 /// Adds the faults of a value, at any depth, against a type: it fits the type, and what is inside it fits the types of items
 /// and fields (section 5.6).
 pub fn type_breaks(
-    schema: &Schema,
+    schema: &IndexedSchema<'_>,
     ty: &Node<Type>,
     value: &Node<Value>,
     variables: &DefinedVariables<'_>,

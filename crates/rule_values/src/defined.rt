@@ -4,13 +4,13 @@ ghost use Rattle.std.specs.Option.{option_map};
 ghost use Rattle.graphql_names.specs.Placed.{node_tree};
 ghost use Rattle.tree_operations.specs.OperationTree.{variable_definition_tree};
 ghost use Rattle.fault_data.specs.in_rule_definitions.Names.{defined_name};
-ghost use Rattle.rule_values.specs.Firsts.{AreNumbers};
+ghost use Rattle.schema_inputs.specs.Firsts.{AreNumbers};
 ghost use Rattle.rule_values.specs.Wanting.{variables_of};
 ghost use Rattle.rule_values.specs.Telling.{first_defined};
 
-use crate::firsts::note_first;
 use graphql_names::{Name, Node};
 use indexmap::IndexMap;
+use schema_inputs::note_first;
 use std::alloc::{AllocError, Global};
 use std::marker::Model;
 use tree_operations::VariableDefinition;
@@ -30,7 +30,7 @@ impl<'a> Model for DefinedVariables<'a> {
     ghost use Rattle.graphql_names.specs.declared.node.Node.{Node};
     ghost use Rattle.tree_operations.specs.declared.operation.VariableDefinition.{VariableDefinition};
     ghost use Rattle.fault_data.specs.in_rule_definitions.Names.{defined_name};
-    ghost use Rattle.rule_values.specs.Firsts.{AreNumbers};
+    ghost use Rattle.schema_inputs.specs.Firsts.{AreNumbers};
     ghost use Rattle.rule_values.specs.Wanting.{variables_of};
     ghost use Rattle.std.specs.Coded.{codes};
     ghost use Rattle.tree_operations.specs.contracts.operation.VariableDefinition as definition;

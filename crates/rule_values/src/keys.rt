@@ -6,10 +6,10 @@ ghost use Rattle.tree_literals.specs.ValueTree.{value_tree, item_trees, entry_tr
 ghost use Rattle.fault_data.specs.FaultView.{faults_of};
 ghost use Rattle.rule_values.specs.KeyFaults.{key_again, repeated_keys, key_faults, key_faults_items, key_faults_object, key_faults_entries};
 
-use crate::firsts::note_first;
 use fault_data::{DiagnosticData, Fault, tell};
 use graphql_names::{Name, Node, SourceSpan};
 use indexmap::IndexMap;
+use schema_inputs::note_first;
 use std::alloc::AllocError;
 use tree_literals::Value;
 

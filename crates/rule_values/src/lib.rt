@@ -4,14 +4,17 @@
 //! For the layers above: each check adds exactly the faults by which the rules of its name break, which are predicates of
 //! `rule_definitions` (`specs/Values.antt`) on the value's tree.
 //!
+//! The schema is given as an `IndexedSchema`: with `SchemaInputs`, which are found once, a use of many arguments or input fields
+//! costs what it gives.
+//!
 //! Begin with `checks.rt`; the rules themselves are in `forms.rt` and `objects.rt`.
 #![tactic(auto)]
 
 mod checks;
 mod defined;
 mod find;
-mod firsts;
 mod forms;
+mod indexed;
 mod judging;
 mod keys;
 mod objects;
@@ -25,5 +28,6 @@ pub use fault_data::{
     DiagnosticData, DirectiveArgumentCoordinate, DirectiveCoordinate, Fault,
     FieldArgumentCoordinate, SchemaCoordinate, TypeAttributeCoordinate, tell,
 };
-pub use firsts::note_first;
 pub use graphql_schema::Schema;
+pub use indexed::IndexedSchema;
+pub use schema_inputs::{DefinedArguments, SchemaInputs, definition_numbers, note_first};

@@ -5,16 +5,16 @@ ghost use Rattle.graphql_schema.specs.in_schema_types.TypeView.{extended_type};
 ghost use Rattle.schema_coordinates.specs.Coordinate.{OfAttribute};
 ghost use Rattle.schema_coordinates.specs.CoordinateView.{attribute_coordinate};
 ghost use Rattle.rule_values.specs.ValueFaults.{undefined_input_value};
-ghost use Rattle.rule_values.specs.Firsts.{AreFirsts};
+ghost use Rattle.schema_inputs.specs.Firsts.{AreFirsts};
 ghost use Rattle.rule_values.specs.Wanting.{is_not_provided, nulls_of};
-ghost use Rattle.rule_values.specs.Telling.{Tells, undefined_key_of, told_key, required_fields_of, required_among_entries, required_of_given, required_by_given};
+ghost use Rattle.rule_values.specs.Telling.{Tells, undefined_key_of, told_key, required_fields_of, required_among_entries, required_of_given, required_by_given, AreRequiredIfKnown};
 
 use crate::find::find_input;
-use crate::firsts::note_first;
 use fault_data::{DiagnosticData, Fault, TypeAttributeCoordinate, tell};
 use graphql_names::{Name, Node, SourceSpan};
 use indexmap::IndexMap;
 use schema_components::Component;
+use schema_inputs::{FoundType, note_first};
 use schema_types::ExtendedType;
 use std::alloc::{AllocError, Global};
 use tree_directives::InputValueDefinition;
@@ -104,6 +104,13 @@ fn is_missing_entry(nulls: &IndexMap<Name, bool>, name: &Name) -> bool
     }
 }
 
+/// The fields of an input object, and the required ones, if they are known.
+#[derive(Clone, Copy)]
+struct InputFields<'a> {
+    all: &'a IndexMap<Name, Component<InputValueDefinition>>,
+    required: Option<&'a [(Name, Component<InputValueDefinition>)]>,
+}
+
 /// An object that is given for an input object: the name of that type, the place of the object, and of each key whether the
 /// value of its first entry is null.
 #[derive(Clone, Copy)]
@@ -153,7 +160,7 @@ fn attribute_coordinate(ty: &Name, attribute: &Name) -> Result<TypeAttributeCoor
 /// Adds the faults of the required fields that an object does not give.
 pub(crate) fn tell_required_fields(
     name: &Name,
-    found: &ExtendedType,
+    found: &FoundType<'_>,
     value: &Value,
     location: Option<SourceSpan>,
     faults: &mut Vec<Fault>,
@@ -163,10 +170,14 @@ pub(crate) fn tell_required_fields(
     let Some(entries) = value.as_object() else {
         return Ok(());
     };
-    let ExtendedType::InputObject(object) = found else {
+    let ExtendedType::InputObject(object) = found.ty() else {
         return Ok(());
     };
-    tell_required(name, location, entries, &object.content().fields, faults)
+    let fields = InputFields {
+        all: &object.content().fields,
+        required: found.required(),
+    };
+    tell_required(name, location, entries, &fields, faults)
 }
 
 /// Adds the faults of the required ones of these fields that the entries do not give.
@@ -174,12 +185,13 @@ fn tell_required(
     name: &Name,
     location: Option<SourceSpan>,
     entries: &[(Name, Node<Value>)],
-    fields: &IndexMap<Name, Component<InputValueDefinition>>,
+    fields: &InputFields<'_>,
     faults: &mut Vec<Fault>,
 ) -> Result<(), AllocError>
-    ensures { OnOk result (Tells faults.old faults.new (required_among_entries name.now location entries.now fields.now)) }
+    requires { AreRequiredIfKnown fields.now }
+    ensures { OnOk result (Tells faults.old faults.new (required_among_entries name.now location entries.now fields.now.all.now)) }
 {
-    if fields.len() == 0 {
+    if fields.all.len() == 0 {
         return Ok(());
     }
     let nulls = nulls_by_key(*faults.allocator(), entries)?;
@@ -188,7 +200,36 @@ fn tell_required(
         location,
         nulls: &nulls,
     };
-    tell_each_required(&given, fields, faults)
+    tell_required_of(&given, fields, faults)
+}
+
+/// Adds the faults of the required ones of the fields that `given` does not have.
+fn tell_required_of(
+    given: &GivenObject<'_>,
+    fields: &InputFields<'_>,
+    faults: &mut Vec<Fault>,
+) -> Result<(), AllocError>
+    requires { AreRequiredIfKnown fields.now }
+    ensures { OnOk result (Tells faults.old faults.new (required_by_given given.now fields.now.all.now.entries)) }
+{
+    match fields.required {
+        None => tell_each_required(given, fields.all, faults),
+        Some(required) => tell_each_listed(given, required, faults),
+    }
+}
+
+/// Adds the faults of the required ones of these fields that `given` does not have.
+fn tell_each_listed(
+    given: &GivenObject<'_>,
+    fields: &[(Name, Component<InputValueDefinition>)],
+    faults: &mut Vec<Fault>,
+) -> Result<(), AllocError>
+    ensures { OnOk result (Tells faults.old faults.new (required_by_given given.now fields.now)) }
+{
+    for field in fields {
+        required_field(given, &field.0, &field.1, faults)?;
+    }
+    Ok(())
 }
 
 /// Adds the faults of the required ones of these fields that `given` does not have.

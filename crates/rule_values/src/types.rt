@@ -4,24 +4,24 @@ ghost use Rattle.rule_values.specs.Telling.{Tells, form_faults_of, faults_for, f
 
 use crate::defined::DefinedVariables;
 use crate::find::find_input;
-use crate::firsts::note_first;
 use crate::forms::{
     int_coercion_error, is_custom_scalar, undefined_enum_value, unsupported_value_type,
 };
+use crate::indexed::IndexedSchema;
 use crate::judging::Judging;
 use crate::objects::{tell_required_fields, undefined_input_value};
 use crate::wanted::Wanted;
 use fault_data::Fault;
 use graphql_names::{Name, Node};
-use graphql_schema::Schema;
 use indexmap::IndexMap;
+use schema_inputs::{FoundType, note_first};
 use schema_types::ExtendedType;
 use std::alloc::AllocError;
 use tree_literals::{Type, Value};
 
 /// Adds the faults of a value against a type.
 pub(crate) fn tell_type_faults(
-    schema: &Schema,
+    schema: &IndexedSchema<'_>,
     ty: &Node<Type>,
     value: &Node<Value>,
     variables: &DefinedVariables<'_>,
@@ -43,20 +43,21 @@ pub(crate) fn tell_type_faults(
 #[inline(never)]
 fn tell_form(
     wanted: &Wanted<'_>,
-    found: &ExtendedType,
+    found: &FoundType<'_>,
     value: &Node<Value>,
     variables: &DefinedVariables<'_>,
     faults: &mut Vec<Fault>,
 ) -> Result<(), AllocError>
     ensures { OnOk result (Tells faults.old faults.new (form_faults_of variables.now wanted.now found.now value.now)) }
 {
-    unsupported_value_type(wanted, found, value, variables, faults)?;
+    let ty = found.ty();
+    unsupported_value_type(wanted, ty, value, variables, faults)?;
     let name = wanted.ty.inner_named_type();
     let location = value.location();
     let content = value.content();
-    int_coercion_error(name, found, content, location, faults)?;
-    undefined_enum_value(name, found, content, location, faults)?;
-    undefined_input_value(name, found, content, faults)?;
+    int_coercion_error(name, ty, content, location, faults)?;
+    undefined_enum_value(name, ty, content, location, faults)?;
+    undefined_input_value(name, ty, content, faults)?;
     tell_required_fields(name, found, content, location, faults)
 }
 
@@ -73,8 +74,8 @@ fn tell_type(
     match judging.schema.type_named(wanted.ty.inner_named_type()) {
         None => Ok(()),
         Some(found) => {
-            tell_form(wanted, found, value, judging.variables, faults)?;
-            tell_inside(judging, value.content(), wanted, found, faults)
+            tell_form(wanted, &found, value, judging.variables, faults)?;
+            tell_inside(judging, value.content(), wanted, found.ty(), faults)
         }
     }
 }

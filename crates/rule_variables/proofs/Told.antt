@@ -22,7 +22,7 @@ use Rattle.rule_definitions.specs.GivenValues.{Variables, wanted_name}
 use Rattle.rule_definitions.specs.Told.{PlacedFault}
 use Rattle.rule_document_definitions.specs.UsedVariables.{wanted_by}
 use Rattle.rule_uses.specs.in_rule_values.Firsts.{first_told}
-use Rattle.rule_uses.proofs.in_rule_values.Noted.{told_found}
+use Rattle.rule_uses.proofs.in_rule_values.in_inputs.Noted.{told_found}
 use Rattle.rule_uses.proofs.in_rule_values.Looking.{inner_unplaced, type_absent, type_present}
 use Rattle.rule_definitions.proofs.Firsts.{earlier_is_found}
 use Rattle.rule_definitions.proofs.Listing.{Lists, lists_same, lists_nothing, lists_one, lists_where, lists_present, lists_unless, lists_places}

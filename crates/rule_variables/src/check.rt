@@ -2,7 +2,7 @@
 ghost use Rattle.std.specs.Prelude.{◌≡◌, OnOk};
 ghost use Rattle.graphql_names.specs.Placed.{Place, node_tree};
 ghost use Rattle.document_typed_operations.specs.TypedDocument.{typed_operation_tree};
-ghost use Rattle.rule_document_ground.specs.in_typing.DocumentView.{meant_by_operation};
+ghost use Rattle.rule_document_ground.specs.in_typed_operations.DocumentView.{meant_by_operation};
 ghost use Rattle.rule_document_ground.specs.in_schema.SchemaOf.{schema_tree};
 ghost use Rattle.rule_uses.specs.in_fault_data.Adds.{Adds};
 ghost use Rattle.rule_uses.specs.in_rule_values.Wanting.{variables_of};
@@ -21,7 +21,7 @@ use document_typed_operations::Operation;
 use graphql_names::{Name, Node};
 use indexmap::IndexSet;
 use rule_document_ground::Reach;
-use rule_uses::{Fault, Schema};
+use rule_uses::{Fault, IndexedSchema};
 use std::alloc::AllocError;
 use tree_operations::VariableDefinition;
 
@@ -29,7 +29,7 @@ use tree_operations::VariableDefinition;
 /// types, the rules on values of their defaults, and the rules on uses of their directives (sections 5.6, 5.7 and 5.8.2).
 /// Where memory is refused some of them may be missing.
 pub fn check_variables(
-    schema: &Schema,
+    schema: &IndexedSchema<'_>,
     operation: &Node<Operation>,
     faults: &mut Vec<Fault>,
 ) -> Result<(), AllocError>

@@ -11,7 +11,9 @@ ghost use Rattle.rule_uses.specs.in_rule_values.Wanting.{variables_of};
 ghost use Rattle.rule_variables.specs.VariableFaults.{undefined_definition, variable_input_type, told_input_type, is_of_input_type, DefaultBreaks, JudgedDefaultBreaks, VariableBreaks};
 
 use graphql_names::Node;
-use rule_uses::{DefinedVariables, DiagnosticData, Fault, Schema, check_uses, check_value, tell};
+use rule_uses::{
+    DefinedVariables, DiagnosticData, Fault, IndexedSchema, Schema, check_uses, check_value, tell,
+};
 use schema_types::TypeKind;
 use std::alloc::AllocError;
 use tree_directives::DirectiveLocation;
@@ -73,7 +75,7 @@ fn told_input_type(variable: &Node<VariableDefinition>, kind: TypeKind) -> Resul
 
 /// Adds the faults of a variable's default against its type (section 5.6); a default has no variables.
 fn check_default(
-    schema: &Schema,
+    schema: &IndexedSchema<'_>,
     variable: &Node<VariableDefinition>,
     faults: &mut Vec<Fault>,
 ) -> Result<(), AllocError>
@@ -103,13 +105,13 @@ fn is_of_input_type(schema: &Schema, variable: &Node<VariableDefinition>) -> boo
 /// Adds the same of a variable of an input type. Of another no default is judged: that its type is none, or is not there, is
 /// told already.
 fn check_judged_default(
-    schema: &Schema,
+    schema: &IndexedSchema<'_>,
     variable: &Node<VariableDefinition>,
     faults: &mut Vec<Fault>,
 ) -> Result<(), AllocError>
     ensures { OnOk result (Adds faults.old faults.new (JudgedDefaultBreaks (schema_tree schema.now) (node_tree variable_definition_tree variable.now))) }
 {
-    if is_of_input_type(schema, variable) {
+    if is_of_input_type(schema.schema(), variable) {
         return check_default(schema, variable, faults);
     }
     Ok(())
@@ -117,14 +119,15 @@ fn check_judged_default(
 
 /// Adds the faults of one variable: of its type, its default and its directives.
 fn check_variable(
-    schema: &Schema,
+    schema: &IndexedSchema<'_>,
     variable: &Node<VariableDefinition>,
     faults: &mut Vec<Fault>,
 ) -> Result<(), AllocError>
     ensures { OnOk result (Adds faults.old faults.new (VariableBreaks (schema_tree schema.now) (node_tree variable_definition_tree variable.now))) }
 {
-    undefined_definition(schema, variable, faults)?;
-    variable_input_type(schema, variable, faults)?;
+    let whole = schema.schema();
+    undefined_definition(whole, variable, faults)?;
+    variable_input_type(whole, variable, faults)?;
     check_judged_default(schema, variable, faults)?;
     let directives = &variable.content().directives.0;
     let variables = DefinedVariables::listed(&[]);
@@ -139,7 +142,7 @@ fn check_variable(
 
 /// Adds the same of each variable.
 pub(crate) fn check_each_variable(
-    schema: &Schema,
+    schema: &IndexedSchema<'_>,
     variables: &[Node<VariableDefinition>],
     faults: &mut Vec<Fault>,
 ) -> Result<(), AllocError>

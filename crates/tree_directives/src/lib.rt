@@ -12,6 +12,7 @@ mod directive;
 mod directive_list;
 mod directive_location;
 mod input_value;
+mod level;
 mod named;
 mod operation_type;
 mod print_directive;
@@ -25,10 +26,18 @@ pub use directive::{Argument, Directive, DirectiveDefinition, DirectiveList};
 pub use directive_list::NamedDirectives;
 pub use directive_location::DirectiveLocation;
 pub use input_value::InputValueDefinition;
+pub use level::Level;
 pub use named::{Named, get_named_mut};
 pub use operation_type::{OperationType, put_keyword};
 pub use print_directive::{put_arguments, put_directives};
 pub use print_input::{put_argument_definitions, put_directive_definition, put_input_members};
 pub use writable_directive::{
     arguments_are_writable, directives_are_writable, input_values_are_writable,
+};
+
+// Of the crate beneath, for those above.
+pub use tree_literals::{
+    Cause, Name, NamedType, Node, NodeStr, Serialize, Sink, SourceSpan, Tree, Type, Value,
+    WriteFault, can_be_enum, copies_of_five, copies_of_four, copies_of_three, default_is_writable,
+    put_break, put_default, put_description, put_start, put_type,
 };

@@ -1,10 +1,10 @@
 -- The layout of small selections, operations and fragments, computed. The texts are written by hand.
 use Rattle.std.proofs.Common.{◌≡◌, ℕ, List, [], ◌∷◌, codes, true, false, None, Some, refl}
-use Rattle.tree_literals.specs.Joined.{joined}
-use Rattle.tree_literals.specs.LineLayout.{Prefix}
-use Rattle.tree_literals.specs.in_names.Placed.{Placed, Text}
-use Rattle.tree_literals.specs.TypeTree.{NamedTree}
-use Rattle.tree_literals.specs.ValueTree.{IntTree}
+use Rattle.tree_directives.specs.in_literals.Joined.{joined}
+use Rattle.tree_directives.specs.in_literals.LineLayout.{Prefix}
+use Rattle.tree_directives.specs.in_literals.in_names.Placed.{Placed, Text}
+use Rattle.tree_directives.specs.in_literals.TypeTree.{NamedTree}
+use Rattle.tree_directives.specs.in_literals.ValueTree.{IntTree}
 use Rattle.tree_directives.specs.DirectiveTree.{DirectiveTree}
 use Rattle.tree_operations.specs.SelectionTree.{SelectionTree, SelectionTrees, FieldTree, SpreadTree, InlineTree, no_selections, selection_then}
 use Rattle.tree_operations.specs.OperationTree.{VariableDefinitionTree, OperationTree}

@@ -2,9 +2,9 @@
 use Rattle.std.proofs.Common.{◌≡◌, ◌≤◌, ◌<◌, ◌+◌, arith, codes, ℕ, List, [], ◌∷◌, length, take, map, true, refl, ap}
 use Rattle.tree_operations.specs.OperationWritable.{has_selection}
 use Rattle.std.proofs.lemmas.List.{take_all}
-use Rattle.tree_literals.specs.Joined.{joined, further_text, separated}
+use Rattle.tree_directives.specs.in_literals.Joined.{joined, further_text, separated}
 use Rattle.tree_operations.specs.SelectionTree.{selection_trees, selection_tree}
-use Rattle.tree_literals.specs.LineLayout.{Prefix, members_text, break_text, braced_text, set_text}
+use Rattle.tree_directives.specs.in_literals.LineLayout.{Prefix, members_text, break_text, braced_text, set_text}
 use Rattle.tree_operations.specs.OperationLayout.{selection_text, selection_texts}
 use Rattle.tree_operations.specs.declared.selection.Selection.{Selection}
 

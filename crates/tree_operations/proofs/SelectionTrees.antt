@@ -2,9 +2,9 @@
 use Rattle.std.proofs.Common.{◌≡◌, List, [], ◌∷◌, map, refl, ap, ◌∙◌}
 use Rattle.std.specs.List.{AllZip}
 use Rattle.std.specs.Option.{option_map}
-use Rattle.tree_literals.specs.in_names.Node.{content, place}
-use Rattle.tree_literals.specs.in_names.declared.node.Node.{Node}
-use Rattle.tree_literals.specs.in_names.Placed.{Place, name_tree}
+use Rattle.tree_directives.specs.in_literals.in_names.Node.{content, place}
+use Rattle.tree_directives.specs.in_literals.in_names.declared.node.Node.{Node}
+use Rattle.tree_directives.specs.in_literals.in_names.Placed.{Place, name_tree}
 use Rattle.tree_directives.specs.DirectiveTree.{directives_tree}
 use Rattle.tree_operations.specs.SelectionParts.{field_head}
 use Rattle.tree_operations.specs.SelectionTree.{SelectionTree, FieldTree, InlineTree, selection_then, selection_trees, AtPlace, field_step, inline_step, selection_step, selection_tree}

@@ -4,20 +4,20 @@ pub mod OperationTree
 pub mod OperationLayout
 pub mod Printed
 pub mod OperationWritable
-pub use Rattle.tree_literals.specs.in_names.Placed
-pub use Rattle.tree_literals.specs.Joined
-pub use Rattle.tree_literals.specs.Levels
-pub use Rattle.tree_literals.specs.LineLayout
-pub use Rattle.tree_literals.specs.StringLayout
-pub use Rattle.tree_literals.specs.TypeTree
-pub use Rattle.tree_literals.specs.ValueTree
-pub use Rattle.tree_literals.specs.TypeQueries
-pub use Rattle.tree_literals.specs.ValueLayout
-pub use Rattle.tree_literals.specs.ValueWritable
+pub use Rattle.tree_directives.specs.in_literals.in_names.Placed
+pub use Rattle.tree_directives.specs.in_literals.Joined
+pub use Rattle.tree_directives.specs.in_literals.Levels
+pub use Rattle.tree_directives.specs.in_literals.LineLayout
+pub use Rattle.tree_directives.specs.in_literals.StringLayout
+pub use Rattle.tree_directives.specs.in_literals.TypeTree
+pub use Rattle.tree_directives.specs.in_literals.ValueTree
+pub use Rattle.tree_directives.specs.in_literals.TypeQueries
+pub use Rattle.tree_directives.specs.in_literals.ValueLayout
+pub use Rattle.tree_directives.specs.in_literals.ValueWritable
 pub use Rattle.tree_directives.specs.DirectiveTree
 pub use Rattle.tree_directives.specs.DirectivePlaces
 pub use Rattle.tree_directives.specs.OperationQueries
 pub use Rattle.tree_directives.specs.DirectiveLayout
 pub use Rattle.tree_directives.specs.DirectiveWritable
 pub use Rattle.tree_directives.specs as in_directives
-pub use Rattle.tree_literals.specs as in_literals
+pub use Rattle.tree_directives.specs.in_literals as in_literals

@@ -1,14 +1,14 @@
 -- Selections, operations and fragments (GraphQL, October 2021, sections 2.3 to 2.5, 2.8, 2.10).
 use Rattle.std.specs.Prelude.{ℕ, ◌==◌, Bool, true, false, ◌&&◌, ◌||◌, if◌then◌else◌, List, [], ◌∷◌, codes, Option, None, Some}
-use Rattle.tree_literals.specs.Joined.{joined}
-use Rattle.tree_literals.specs.in_names.Placed.{Placed, Text}
+use Rattle.tree_directives.specs.in_literals.Joined.{joined}
+use Rattle.tree_directives.specs.in_literals.in_names.Placed.{Placed, Text}
 use Rattle.tree_directives.specs.DirectiveTree.{Directives}
 use Rattle.tree_operations.specs.SelectionTree.{FieldHead, SelectionTree, FieldTree, SpreadTree, InlineTree, SelectionTrees, no_selections, selection_then}
 use Rattle.tree_operations.specs.OperationTree.{VariableDefinitionTree, OperationTree, FragmentTree}
-use Rattle.tree_literals.specs.LineLayout.{Prefix, Leveled, braced_text, set_text}
-use Rattle.tree_literals.specs.ValueLayout.{type_text, default_text}
+use Rattle.tree_directives.specs.in_literals.LineLayout.{Prefix, Leveled, braced_text, set_text}
+use Rattle.tree_directives.specs.in_literals.ValueLayout.{type_text, default_text}
 use Rattle.tree_directives.specs.DirectiveLayout.{arguments_text, directives_text}
-use Rattle.tree_literals.specs.LineLayout.{parenthesized_text, texts_of}
+use Rattle.tree_directives.specs.in_literals.LineLayout.{parenthesized_text, texts_of}
 use Rattle.tree_operations.specs.OperationQueries.{operation_keyword}
 use Rattle.tree_directives.specs.declared.operation_type.OperationType.{OperationType}
 use Rattle.tree_directives.specs.declared.operation_type.OperationType.TheVariants.{Query, Mutation, Subscription}

@@ -1,9 +1,9 @@
 -- Operations and fragments (GraphQL, October 2021, sections 2.3, 2.8, 2.10).
 use Rattle.std.specs.Prelude.{List, map, Option}
 use Rattle.std.specs.Option.{option_map}
-use Rattle.tree_literals.specs.in_names.Placed.{Placed, Place, Text, name_tree, node_tree, unplaced_text, unplaced_node}
-use Rattle.tree_literals.specs.TypeTree.{TypeTree, type_tree, unplaced_type}
-use Rattle.tree_literals.specs.ValueTree.{ValueTree, value_tree, unplaced_value}
+use Rattle.tree_directives.specs.in_literals.in_names.Placed.{Placed, Place, Text, name_tree, node_tree, unplaced_text, unplaced_node}
+use Rattle.tree_directives.specs.in_literals.TypeTree.{TypeTree, type_tree, unplaced_type}
+use Rattle.tree_directives.specs.in_literals.ValueTree.{ValueTree, value_tree, unplaced_value}
 use Rattle.tree_directives.specs.DirectiveTree.{Directives, directives_tree, unplaced_directives}
 use Rattle.tree_operations.specs.SelectionTree.{SelectionTrees, selection_trees, selection_tree, unplaced_selections}
 use Rattle.tree_directives.specs.declared.operation_type.OperationType.{OperationType}

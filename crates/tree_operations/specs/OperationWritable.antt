@@ -1,8 +1,8 @@
 -- Selections, operations and fragments that the grammar can write (GraphQL, October 2021, appendix B).
 use Rattle.std.specs.Prelude.{ℕ, Bool, true, false, not, ◌&&◌, List, codes}
 use Rattle.std.specs.List.{list_all}
-use Rattle.tree_literals.specs.in_names.Placed.{Placed}
-use Rattle.tree_literals.specs.ValueWritable.{is_text, default_writable}
+use Rattle.tree_directives.specs.in_literals.in_names.Placed.{Placed}
+use Rattle.tree_directives.specs.in_literals.ValueWritable.{is_text, default_writable}
 use Rattle.tree_directives.specs.DirectiveWritable.{arguments_writable, directives_writable}
 use Rattle.tree_operations.specs.SelectionTree.{FieldHead, SelectionTree, FieldTree, SpreadTree, InlineTree, SelectionTrees, no_selections, selection_then}
 use Rattle.tree_operations.specs.OperationTree.{VariableDefinitionTree, OperationTree, FragmentTree}

@@ -1,6 +1,6 @@
 -- Private: leads to `operation_text` and `fragment_text`. What printers of selections write on the way.
 use Rattle.std.specs.Prelude.{ℕ, List}
-use Rattle.tree_literals.specs.LineLayout.{Prefix, member_text, members_text, set_text}
+use Rattle.tree_directives.specs.in_literals.LineLayout.{Prefix, member_text, members_text, set_text}
 use Rattle.tree_operations.specs.SelectionTree.{selection_tree, selection_trees}
 use Rattle.tree_operations.specs.OperationLayout.{selection_text, selection_texts}
 use Rattle.tree_operations.specs.declared.selection.Selection.{Selection}

@@ -1,9 +1,9 @@
 -- Fields, fragment spreads and inline fragments by themselves, and questions about selections (GraphQL, October 2021, sections 2.4, 2.5, 2.7 and 2.8).
 use Rattle.std.specs.Prelude.{map, Option, None, Some, unwrap_or}
 use Rattle.std.specs.Option.{option_map}
-use Rattle.tree_literals.specs.in_names.Node.{content, place}
-use Rattle.tree_literals.specs.in_names.declared.node.Node.{Node}
-use Rattle.tree_literals.specs.in_names.Placed.{Place, Text, name_tree, node_tree}
+use Rattle.tree_directives.specs.in_literals.in_names.Node.{content, place}
+use Rattle.tree_directives.specs.in_literals.in_names.declared.node.Node.{Node}
+use Rattle.tree_directives.specs.in_literals.in_names.Placed.{Place, Text, name_tree, node_tree}
 use Rattle.tree_directives.specs.DirectiveTree.{argument_tree, directives_tree}
 use Rattle.tree_operations.specs.SelectionTree.{SelectionTree, FieldTree, SpreadTree, InlineTree, FieldHead, selection_tree, selection_trees}
 use Rattle.tree_operations.specs.declared.selection.Field.{Field}

@@ -1,8 +1,8 @@
 -- Selections (GraphQL, October 2021, sections 2.4, 2.5, 2.8).
 use Rattle.std.specs.Prelude.{List, [], ◌∷◌, map, Option}
 use Rattle.std.specs.Option.{option_map}
-use Rattle.tree_literals.specs.in_names.Node.{content, place}
-use Rattle.tree_literals.specs.in_names.Placed.{Place, Text, name_tree, node_tree, unplaced_text}
+use Rattle.tree_directives.specs.in_literals.in_names.Node.{content, place}
+use Rattle.tree_directives.specs.in_literals.in_names.Placed.{Place, Text, name_tree, node_tree, unplaced_text}
 use Rattle.tree_directives.specs.DirectiveTree.{Arguments, Directives, argument_tree, directives_tree, unplaced_arguments, unplaced_directives}
 use Rattle.tree_operations.specs.declared.selection.Selection.{Selection}
 use Rattle.tree_operations.specs.declared.selection.Selection.TheOpen.{Selection-F, Field-F, InlineFragment-F, Field, FragmentSpread, InlineFragment}

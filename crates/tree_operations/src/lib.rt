@@ -16,7 +16,7 @@ pub use operation::{FragmentDefinition, OperationDefinition, VariableDefinition}
 pub use print_operation::{begins_output, put_fragment, put_operation};
 pub use selection::{Field, FragmentSpread, InlineFragment, Selection};
 pub use tree_directives::{
-    Argument, ArgumentByNameError, Directive, DirectiveDefinition, DirectiveList,
-    DirectiveLocation, InputValueDefinition, Named, NamedDirectives, OperationType, get_named_mut,
+    Argument, ArgumentByNameError, Cause, Directive, DirectiveDefinition, DirectiveList,
+    DirectiveLocation, InputValueDefinition, Named, NamedDirectives, OperationType, Serialize,
+    Tree, WriteFault, get_named_mut,
 };
-pub use tree_literals::{Cause, Serialize, Tree, WriteFault};

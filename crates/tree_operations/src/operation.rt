@@ -5,8 +5,9 @@ ghost use Rattle.tree_operations.specs.OperationTree.{variable_definition_tree, 
 use crate::selection::Selection;
 use std::alloc::AllocError;
 use std::fmt;
-use tree_directives::{DirectiveList, OperationType};
-use tree_literals::{Name, NamedType, Node, Type, Value, copies_of_four};
+use tree_directives::{
+    DirectiveList, Name, NamedType, Node, OperationType, Type, Value, copies_of_four,
+};
 
 /// `$name: ty = default_value @directives` (section 2.10).
 #[derive(PartialEq, Eq, Hash)]

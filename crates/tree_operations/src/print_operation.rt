@@ -1,22 +1,24 @@
 //! Selections, operations and fragments.
 ghost use Rattle.std.specs.Prelude.{◌≡◌, ◌==◌, ◌∷◌, ◌+◌, ◌&&◌, ℕ, List, [], map, codes, Bool, Some, None, true, false};
 ghost use Rattle.std.specs.Option.{option_copied, option_map};
-ghost use Rattle.tree_literals.specs.in_names.Placed.{node_tree, name_tree, Place};
+ghost use Rattle.tree_directives.specs.in_literals.in_names.Placed.{node_tree, name_tree, Place};
 ghost use Rattle.tree_operations.specs.SelectionTree.{selection_tree, selection_trees};
 ghost use Rattle.tree_operations.specs.SelectionParts.{field_tree, spread_tree, inline_tree};
 ghost use Rattle.tree_operations.specs.OperationTree.{variable_definition_tree, operation_tree, fragment_tree};
-ghost use Rattle.tree_literals.specs.Joined.{joined, after, further_text};
-ghost use Rattle.tree_literals.specs.Levels.{level_depth};
-ghost use Rattle.tree_literals.specs.LineLayout.{braced_text};
-ghost use Rattle.tree_literals.specs.LineLayout.{texts_of};
+ghost use Rattle.tree_directives.specs.in_literals.Joined.{joined, after, further_text};
+ghost use Rattle.tree_directives.specs.in_literals.Levels.{level_depth};
+ghost use Rattle.tree_directives.specs.in_literals.LineLayout.{braced_text};
+ghost use Rattle.tree_directives.specs.in_literals.LineLayout.{texts_of};
 ghost use Rattle.tree_operations.specs.OperationLayout.{alias_text, condition_text, selection_text, selection_texts, variable_text, variables_text, operation_name_text, is_bare_query, full_operation_text, operation_text, begins_output, fragment_text};
 ghost use Rattle.tree_directives.specs.OperationQueries.{operation_keyword};
 ghost use Rattle.tree_operations.specs.Printed.{selection_member_text, selection_members_text, selection_set_text};
 
 use crate::operation::{FragmentDefinition, OperationDefinition, VariableDefinition};
 use crate::selection::{Field, FragmentSpread, InlineFragment, Selection};
-use tree_directives::{OperationType, put_arguments, put_directives, put_keyword};
-use tree_literals::{Level, Name, Node, Sink, put_break, put_default, put_type};
+use tree_directives::{
+    Level, Name, Node, OperationType, Sink, put_arguments, put_break, put_default, put_directives,
+    put_keyword, put_type,
+};
 
 fn put_alias<S: Sink>(sink: &mut S, alias: &Option<Name>)
     ensures { S.puts sink.old (alias_text (option_map name_tree alias.now)) sink.new }

@@ -1,13 +1,14 @@
 //! Selections: fields, spreads of fragments, inline fragments.
 ghost use Rattle.std.specs.Prelude.{◌≡◌, None};
 ghost use Rattle.std.specs.Option.{option_map, option_copied};
-ghost use Rattle.tree_literals.specs.in_names.Placed.{name_tree};
+ghost use Rattle.tree_directives.specs.in_literals.in_names.Placed.{name_tree};
 ghost use Rattle.tree_operations.specs.SelectionTree.{selection_tree};
 ghost use Rattle.tree_operations.specs.SelectionParts.{field_head, field_tree, spread_tree, inline_tree, field_node_tree, spread_node_tree, inline_node_tree, selection_place, as_field_tree, as_spread_tree, as_inline_tree, response_name_of};
 
 use std::alloc::AllocError;
-use tree_directives::{Argument, DirectiveList};
-use tree_literals::{Name, NamedType, Node, SourceSpan, copies_of_five, copies_of_three};
+use tree_directives::{
+    Argument, DirectiveList, Name, NamedType, Node, SourceSpan, copies_of_five, copies_of_three,
+};
 
 /// What a selection set holds (section 2.4).
 #[cycle(selection)]

@@ -1,8 +1,8 @@
 //! The texts of selections, operations and fragments by themselves.
 ghost use Rattle.std.specs.Prelude.{Some, None};
 ghost use Rattle.std.specs.Option.{option_copied};
-ghost use Rattle.tree_literals.specs.Levels.{level_depth};
-ghost use Rattle.tree_literals.specs.LineLayout.{default_prefix, standing};
+ghost use Rattle.tree_directives.specs.in_literals.Levels.{level_depth};
+ghost use Rattle.tree_directives.specs.in_literals.LineLayout.{default_prefix, standing};
 ghost use Rattle.tree_operations.specs.SelectionTree.{selection_tree};
 ghost use Rattle.tree_operations.specs.SelectionParts.{field_tree, spread_tree, inline_tree};
 ghost use Rattle.tree_operations.specs.OperationTree.{variable_definition_tree, operation_tree, fragment_tree};
@@ -15,7 +15,7 @@ use crate::print_operation::{
 };
 use crate::selection::{Field, FragmentSpread, InlineFragment, Selection};
 use std::fmt;
-use tree_literals::{Level, Sink, Tree, put_start};
+use tree_directives::{Level, Sink, Tree, put_start};
 
 impl Tree for Selection {
     ghost text = { λ t prefix level. standing prefix level (selection_text prefix (selection_tree t) level) };

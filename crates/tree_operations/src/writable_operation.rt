@@ -1,7 +1,7 @@
 //! Whether the grammar can write a selection, an operation or a fragment.
 ghost use Rattle.std.specs.Prelude.{◌≡◌, ◌&&◌, Bool, true, false, not, map, None};
 ghost use Rattle.std.specs.List.{list_all};
-ghost use Rattle.tree_literals.specs.in_names.Placed.{node_tree, name_tree, Place};
+ghost use Rattle.tree_directives.specs.in_literals.in_names.Placed.{node_tree, name_tree, Place};
 ghost use Rattle.tree_operations.specs.SelectionTree.{selection_tree, selection_trees};
 ghost use Rattle.tree_operations.specs.SelectionParts.{field_tree, spread_tree, inline_tree};
 ghost use Rattle.tree_operations.specs.OperationTree.{variable_definition_tree, operation_tree, fragment_tree};
@@ -9,8 +9,9 @@ ghost use Rattle.tree_operations.specs.OperationWritable.{can_be_fragment, has_s
 
 use crate::operation::{FragmentDefinition, OperationDefinition, VariableDefinition};
 use crate::selection::{Field, FragmentSpread, InlineFragment, Selection};
-use tree_directives::{arguments_are_writable, directives_are_writable};
-use tree_literals::{Name, Node, default_is_writable};
+use tree_directives::{
+    Name, Node, arguments_are_writable, default_is_writable, directives_are_writable,
+};
 
 /// No fragment is named `on` (section 2.8).
 fn can_be_fragment(name: &Name) -> bool

@@ -9,5 +9,5 @@
 #![tactic(auto)]
 
 // Of the crates beneath, for those above.
-pub use document_typing::{Schema, SchemaBuilder};
+pub use document_typing::{BuilderRefusal, ExecutableDocumentBuilder, Schema, SchemaBuilder};
 pub use graphql_faults::{Details, DiagnosticList, ReadFault, SyntaxFault, parse_document};

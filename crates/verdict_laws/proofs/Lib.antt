@@ -67,3 +67,7 @@ pub mod OutDocuments
 pub mod DocumentBack
 pub mod PairBack
 pub mod EqualTexts
+pub mod CallsSeen
+pub mod CallsAlike
+pub mod CallsAgain
+pub mod CallsEqual

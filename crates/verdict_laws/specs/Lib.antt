@@ -17,3 +17,8 @@ pub mod AnyNumber
 pub mod Rearranged
 pub mod RoadBack
 pub mod EqualTexts
+pub mod Answers
+pub mod Seen
+pub mod Alike
+pub mod Again
+pub mod Equal

@@ -17,8 +17,13 @@
 //!   (`specs/Rearranged.antt`): the laws of `rearranging.rt`, carried to verdicts.
 //! - `road_back.rt`: what is written of an accepted pair of texts is read back equal, accepted on the same terms, and written as
 //!   it was (`specs/RoadBack.antt`). So equal written texts are of equal definitions (`specs/EqualTexts.antt`).
+//! - `checked.rt`: the three laws of the checker, over all that its calls may answer by their contracts (`calls.rt`,
+//!   `specs/Answers.antt`): texts that are rearranged or cut (`specs/Alike.antt`), what is written and checked again
+//!   (`specs/Again.antt`), and equal texts (`specs/Equal.antt`).
 #![tactic(auto)]
 
+pub mod calls;
+pub mod checked;
 pub mod rearranging;
 pub mod road_back;
 pub mod verdicts;

@@ -1,6 +1,6 @@
 use Rattle.schema_fold.specs.FaultView.{faults_of}
-use Rattle.checker_texts.specs.in_schema.BuilderOf.{builder_value}
-use Rattle.checker_texts.specs.in_schema.SchemaOf.{schema_tree}
+use Rattle.checker_calls.specs.in_schema.BuilderOf.{builder_value}
+use Rattle.checker_calls.specs.in_schema.SchemaOf.{schema_tree}
 use Rattle.checker_schemas.proofs.Building.{builds}
 use Rattle.checker_schemas.proofs.finish.build.Goals as goal
 

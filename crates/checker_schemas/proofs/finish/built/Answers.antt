@@ -1,6 +1,6 @@
 use Rattle.graphql_rules.specs.in_faults.DetailsView.{diagnostics_of}
-use Rattle.checker_texts.specs.in_schema.BuilderOf.{builder_value}
-use Rattle.checker_texts.specs.in_schema.SchemaOf.{schema_tree}
+use Rattle.checker_calls.specs.in_schema.BuilderOf.{builder_value}
+use Rattle.checker_calls.specs.in_schema.SchemaOf.{schema_tree}
 use Rattle.checker_schemas.proofs.Building.{folding_refused}
 use Rattle.checker_schemas.proofs.finish.built.Goals as goal
 

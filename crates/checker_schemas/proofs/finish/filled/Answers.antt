@@ -1,8 +1,8 @@
 use Rattle.std.proofs.Common.{map, subst}
 use Rattle.std.proofs.lemmas.List.{take_all}
 use Rattle.tree_definitions.specs.DefinitionTree.{document_tree}
-use Rattle.checker_texts.specs.in_schema.BuilderOf.{builder_value}
-use Rattle.checker_texts.specs.TextsView.{all_sources}
+use Rattle.checker_calls.specs.in_schema.BuilderOf.{builder_value}
+use Rattle.checker_calls.specs.TextsView.{all_sources}
 use Rattle.checker_schemas.specs.Finishing.{IsFilled}
 use Rattle.checker_schemas.proofs.Filling.{filled_first, filled_more, unfilled_refusal, has_not_failed}
 use Rattle.checker_schemas.proofs.finish.filled.Goals as goal

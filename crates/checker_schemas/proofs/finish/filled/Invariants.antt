@@ -1,7 +1,7 @@
 use Rattle.std.proofs.Common.{map, take}
 use Rattle.tree_definitions.specs.DefinitionTree.{document_tree}
-use Rattle.checker_texts.specs.in_schema.BuilderOf.{builder_value}
-use Rattle.checker_texts.specs.TextsView.{all_sources}
+use Rattle.checker_calls.specs.in_schema.BuilderOf.{builder_value}
+use Rattle.checker_calls.specs.TextsView.{all_sources}
 use Rattle.checker_schemas.specs.Finishing.{IsFilled}
 use Rattle.checker_schemas.proofs.finish.filled.Given as goal
 

@@ -1,8 +1,8 @@
 use Rattle.std.proofs.Common.{ap, ◌∙◌}
 use Rattle.std.proofs.lemmas.Result.{err_from_is_err_and}
 use Rattle.tree_definitions.specs.DefinitionTree.{document_tree}
-use Rattle.checker_texts.specs.in_schema.BuilderOf.{builder_value}
-use Rattle.checker_texts.specs.in_schema.SchemaOf.{schema_tree}
+use Rattle.checker_calls.specs.in_schema.BuilderOf.{builder_value}
+use Rattle.checker_calls.specs.in_schema.SchemaOf.{schema_tree}
 use Rattle.schema_building.specs.SourcesView.{sources_view}
 use Rattle.checker_schemas.proofs.Building.{rules_refusal, judged_schema}
 use Rattle.checker_schemas.proofs.finish.judge.Goals as goal

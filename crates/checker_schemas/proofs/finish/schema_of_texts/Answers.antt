@@ -1,12 +1,12 @@
 use Rattle.std.proofs.Common.{◌≡◌, [], map, refl, subst, ◌∙◌}
 use Rattle.std.proofs.lemmas.Result.{err_from_is_err_and}
 use Rattle.tree_definitions.specs.DefinitionTree.{document_tree}
-use Rattle.checker_texts.specs.in_schema.BuilderOf.{builder_value}
-use Rattle.checker_texts.specs.in_schema.SchemaOf.{schema_tree}
+use Rattle.checker_calls.specs.in_schema.BuilderOf.{builder_value}
+use Rattle.checker_calls.specs.in_schema.SchemaOf.{schema_tree}
 use Rattle.schema_building.specs.SourcesView.{sources_view}
 use Rattle.graphql_rules.specs.in_faults.DetailsView.{diagnostics_of}
 use Rattle.checker_schemas.specs.Finishing.{IsFilled, RefusalOfNumbers}
-use Rattle.checker_texts.specs.TextsView.{terms_of, texts_of, trees_of, all_sources}
+use Rattle.checker_calls.specs.TextsView.{terms_of, texts_of, trees_of, all_sources}
 use Rattle.checker_schemas.proofs.Finishing.{unread_refusal, are_all_read, number_behind, numbers_refusal, builder_refusal, accepted}
 use Rattle.checker_schemas.proofs.finish.schema_of_texts.Goals as goal
 

@@ -1,6 +1,6 @@
 use Rattle.std.proofs.Common.{refl, sym, ap, ◌∙◌}
-use Rattle.checker_texts.specs.in_schema.SchemaOf.{schema_tree}
-use Rattle.checker_texts.specs.in_schema.declared.schema.Schema.{Schema}
+use Rattle.checker_calls.specs.in_schema.SchemaOf.{schema_tree}
+use Rattle.checker_calls.specs.in_schema.declared.schema.Schema.{Schema}
 use Rattle.graphql_rules.specs.in_faults.DetailsView.{diagnostics_of}
 use Rattle.checker_schemas.proofs.Validating.{rules_told}
 use Rattle.checker_schemas.proofs.finish.validate.Goals as goal

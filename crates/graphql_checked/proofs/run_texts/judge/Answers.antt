@@ -1,5 +1,5 @@
 use Rattle.std.proofs.Common.{map, string_bytes}
-use Rattle.checker_settings.specs.Layouts.{prefix_of}
+use Rattle.checker_calls.specs.Layouts.{prefix_of}
 use Rattle.graphql_checked.specs.Verdicts.{first_terms}
 use Rattle.graphql_checked.proofs.Verdicts.{certain_schemas, schemas_not_failed}
 use Rattle.graphql_checked.proofs.Answering.{schemas_answer, memory_answer}

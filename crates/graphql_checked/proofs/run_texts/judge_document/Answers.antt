@@ -1,5 +1,5 @@
 use Rattle.std.proofs.Common.{subst}
-use Rattle.checker_settings.specs.Layouts.{prefix_of}
+use Rattle.checker_calls.specs.Layouts.{prefix_of}
 use Rattle.graphql_checked.specs.CheckedView.{CheckedSchemaParts, schema_value, document_value}
 use Rattle.graphql_checked.specs.Run.{IsWrittenAnswer}
 use Rattle.graphql_checked.proofs.Verdicts.{certain_document, document_not_failed}

@@ -3,8 +3,8 @@ use Rattle.std.specs.Prelude.{IsUtf8}
 use Rattle.std.specs.List.{All}
 use Rattle.std.proofs.lemmas.Result.{err_from_is_err_and}
 use Rattle.std.proofs.lemmas.Str.{IsUtf8-string_bytes}
-use Rattle.checker_settings.specs.Layouts.{prefix_of}
-use Rattle.checker_answers.specs.Devices.{AreTextsOf, IsTextOf}
+use Rattle.checker_calls.specs.Layouts.{prefix_of}
+use Rattle.checker_calls.specs.Devices.{AreTextsOf, IsTextOf}
 use Rattle.graphql_checked.specs.Run.{BytesOf}
 use Rattle.graphql_checked.specs.Verdicts.{first_terms}
 use Rattle.graphql_checked.proofs.Completing.{reader_fault, certain_fault, certain_outcome, certain_here, all_utf8, put_due, none_failed}

@@ -1,4 +1,4 @@
-use Rattle.checker_settings.specs.Layouts.{prefix_of}
+use Rattle.checker_calls.specs.Layouts.{prefix_of}
 use Rattle.graphql_checked_c.specs.Told.{IsDocumentText}
 use Rattle.graphql_checked_c.proofs.Answers.{over_written, over_refused}
 use Rattle.graphql_checked_c.proofs.over.text_of_document.Goals as goal

@@ -1,10 +1,19 @@
-use Rattle.std.proofs.Common.{ap, map}
+use Rattle.std.proofs.Common.{sym, ap, map, subst}
 use Rattle.rule_cycles.specs.in_schema.SchemaOf.{schema_tree}
+use Rattle.rule_cycles.specs.in_schema.declared.schema.Schema.{Schema}
+use Rattle.rule_definitions.specs.Distinct.{AreAllDistinct}
+use Rattle.rule_definitions.specs.Rules.{SchemaUsesBreak}
+use Rattle.rule_definitions.specs.Told.{Told}
+use Rattle.fault_data.specs.Adds.{Adds}
 use Rattle.fault_data.specs.FaultView.{fault_of, faults_of}
 use Rattle.graphql_rules.proofs.Whole.{tells_schema}
 use Rattle.graphql_rules.proofs.schema.schema_faults.Goals as goal
 
+pub check_schema_directives-requires : goal.check_schema_directives-requires
+check_schema_directives-requires c = subst (λ (x : Schema). AreAllDistinct (schema_tree x)) (sym c.new-indexed.ensures) c.requires
+
 pub returns : goal.returns
 returns c =
+    let uses = subst (λ (x : Schema). Adds c.check_cycles.new.faults c.check_schema_directives.new.faults (Told (schema_tree x) SchemaUsesBreak)) c.new-indexed.ensures c.in_ok-check_schema_directives.ensures in
     tells_schema (schema_tree c.args.schema.now) (faults_of c.new-faults.result) (faults_of c.check_types.new.faults) (faults_of c.check_interfaces.new.faults) (faults_of c.check_cycles.new.faults) (faults_of c.check_schema_directives.new.faults)
-    (ap (λ l. map fault_of l) c.new-faults.ensures.items) c.in_ok-check_types.ensures c.in_ok-check_interfaces.ensures c.in_ok-check_cycles.ensures c.in_ok-check_schema_directives.ensures
+    (ap (λ l. map fault_of l) c.new-faults.ensures.items) c.in_ok-check_types.ensures c.in_ok-check_interfaces.ensures c.in_ok-check_cycles.ensures uses

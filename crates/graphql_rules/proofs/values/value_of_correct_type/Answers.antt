@@ -6,6 +6,7 @@ use Rattle.graphql_names.specs.declared.node.Node.{Node}
 use Rattle.tree_literals.specs.ValueTree.{value_tree}
 use Rattle.tree_operations.specs.declared.operation.VariableDefinition.{VariableDefinition}
 use Rattle.rule_cycles.specs.in_schema.SchemaOf.{schema_tree}
+use Rattle.rule_cycles.specs.in_schema.declared.schema.Schema.{Schema}
 use Rattle.rule_definitions.specs.in_schema_types.Addresses.{place_at}
 use Rattle.rule_definitions.specs.Judged.{judged}
 use Rattle.rule_definitions.specs.Values.{ValueBreaks}
@@ -22,7 +23,8 @@ pub returns-clause-told : goal.returns-clause-told
 returns-clause-told c =
     let s = schema_tree c.args.schema.now in
     let v = c.args.value.now in
-    let checked = subst (λ (ds : List (Node VariableDefinition)). Adds c.new-faults.result c.check_value.new.faults (ValueBreaks (place_at s) (judged s) (variables_of ds) (wanted_type c.args.ty.now) (place v) (value_tree (content v)))) c.in_ok-variables.ensures c.in_ok-check_value.ensures in
+    let under = subst (λ (x : Schema). Adds c.new-faults.result c.check_value.new.faults (ValueBreaks (place_at (schema_tree x)) (judged (schema_tree x)) (variables_of c.in_ok-variables.variables) (wanted_type c.args.ty.now) (place v) (value_tree (content v)))) c.plain-schema.ensures c.in_ok-check_value.ensures in
+    let checked = subst (λ (ds : List (Node VariableDefinition)). Adds c.new-faults.result c.check_value.new.faults (ValueBreaks (place_at s) (judged s) (variables_of ds) (wanted_type c.args.ty.now) (place v) (value_tree (content v)))) c.in_ok-variables.ensures under in
     on_ok_weaker c.append_faults.result
     (λ added. (faults_of c.check_value.new.faults, (added, only_added (faults_of c.new-faults.result) (faults_of c.check_value.new.faults) _ (ap (λ l. map fault_of l) c.new-faults.ensures.items) checked)))
     c.append_faults.ensures.added
@@ -32,7 +34,8 @@ returns-clause-silent c =
     let s = schema_tree c.args.schema.now in
     let ty = wanted_type c.args.ty.now in
     let v = c.args.value.now in
-    let checked = subst (λ (ds : List (Node VariableDefinition)). Adds c.new-faults.result c.check_value.new.faults (ValueBreaks (place_at s) (judged s) (variables_of ds) ty (place v) (value_tree (content v)))) c.in_ok-variables.ensures c.in_ok-check_value.ensures in
+    let under = subst (λ (x : Schema). Adds c.new-faults.result c.check_value.new.faults (ValueBreaks (place_at (schema_tree x)) (judged (schema_tree x)) (variables_of c.in_ok-variables.variables) ty (place v) (value_tree (content v)))) c.plain-schema.ensures c.in_ok-check_value.ensures in
+    let checked = subst (λ (ds : List (Node VariableDefinition)). Adds c.new-faults.result c.check_value.new.faults (ValueBreaks (place_at s) (judged s) (variables_of ds) ty (place v) (value_tree (content v)))) c.in_ok-variables.ensures under in
     let a = accepts_where_quiet (List Place) (place_at s) (judged s) (variables_of c.args.variables.now) ty.it ty.place (place v) (value_tree (content v)) in
     on_ok_weaker c.append_faults.result
     (λ added. let k = silent_where_kept (diagnostics_of c.args.list.now) (diagnostics_of c.append_faults.new.self) _

@@ -4,7 +4,7 @@ use Rattle.fault_data.specs.Adds.{Adds}
 use Rattle.graphql_names.specs.Placed.{Place}
 use Rattle.document_typed_operations.specs.OperationsByName.{left_operations}
 use Rattle.document_meaning.specs.MeantTree.{MeantOperation}
-use Rattle.rule_fragments.specs.in_typing.DocumentView.{document_meant, operation_meant}
+use Rattle.rule_fragments.specs.in_typed_operations.DocumentView.{document_meant, operation_meant}
 use Rattle.rule_definitions.specs.Words.{AtSomeIndex}
 use Rattle.rule_document_definitions.specs.Selected.{operations}
 use Rattle.rule_fragments.specs.in_ground.NotedNames.{noted_names}
@@ -12,7 +12,7 @@ use Rattle.rule_definitions.proofs.Listing.{gains_none, gains_more, gains_same}
 use Rattle.rule_fragments.proofs.in_ground.AtReaches.{some_index}
 use Rattle.graphql_validation.specs.Operations.{OperationFailsAlone, ReachesNamed, NotesNames}
 use Rattle.graphql_validation.proofs.Noting.{notes_none, notes_more, notes_same}
-use Rattle.rule_subscriptions.proofs.Operations.{lent_operation, lent_operations, all_operations, one_behind, lent_more, lent_all}
+use Rattle.rule_fragments.proofs.Operations.{lent_operation, lent_operations, all_operations, one_behind, lent_more, lent_all}
 use Rattle.graphql_validation.proofs.alone.check_operations.Goals as goal
 
 pub loop-operation-init : goal.loop-operation-init

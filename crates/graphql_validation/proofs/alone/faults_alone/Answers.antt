@@ -1,6 +1,6 @@
 use Rattle.std.proofs.Common.{◌↔◌, ◌∙◌, ◌++◌, map, sym, ap, subst, Contains}
 use Rattle.std.proofs.lemmas.Result.{IfOk-weaker}
-use Rattle.rule_fragments.specs.in_typing.DocumentView.{document_meant}
+use Rattle.rule_fragments.specs.in_typed_operations.DocumentView.{document_meant}
 use Rattle.fault_data.specs.FaultView.{fault_of, faults_of}
 use Rattle.rule_document_definitions.specs.Reached.{AtOperation}
 use Rattle.rule_fragments.specs.in_ground.NotedNames.{noted_names}

@@ -8,11 +8,11 @@ use Rattle.graphql_names.specs.Placed.{Place}
 use Rattle.rule_definitions.specs.Judged.{Judged, judged}
 use Rattle.rule_fragments.specs.in_schema.SchemaOf.{schema_tree}
 use Rattle.document_typed_operations.specs.OperationsByName.{left_operations}
-use Rattle.rule_fragments.specs.in_typing.DocumentView.{document_meant, operation_meant}
+use Rattle.rule_fragments.specs.in_typed_operations.DocumentView.{document_meant, operation_meant}
 use Rattle.rule_merging.specs.Merged.{MergingTold}
 use Rattle.rule_merging.specs.Merger.{merger_of}
 use Rattle.graphql_validation.proofs.MergedOperations.{merging_none, merging_more, merging_begins, so_far_none, so_far_more}
-use Rattle.rule_subscriptions.proofs.Operations.{lent_operation, lent_operations, all_operations, one_behind, lent_more, lent_all, lent_among}
+use Rattle.rule_fragments.proofs.Operations.{lent_operation, lent_operations, all_operations, one_behind, lent_more, lent_all, lent_among}
 use Rattle.rule_merging.proofs.Behind.{refused_so}
 use Rattle.graphql_validation.proofs.document.merge_operations.Goals as goal
 
@@ -28,12 +28,18 @@ loop-operation-init c =
           c.new-merger.ensures.schema,
           (
             c.new-merger.ensures.document,
-            (λ i. map operation_meant (left_operations (c.into_iter-operation-iterator.ensures.into_iter_gives i)))
-                ∙ all_operations c.args.document.now (left_operations c.iter-operation-items.result) c.iter-operation-items.ensures,
+            (
+              c.new-merger.ensures.ready,
+              (λ i. map operation_meant (left_operations (c.into_iter-operation-iterator.ensures.into_iter_gives i)))
+                  ∙ all_operations c.args.document.now (left_operations c.iter-operation-items.result) c.iter-operation-items.ensures,
+            ),
           ),
         ),
       ),
     )
+
+pub validate_operation-requires : goal.validate_operation-requires
+validate_operation-requires c = record { ready = c.loop-operation.invariant.1.1.1.1.0 }
 
 pub loop-operation-preserved : goal.loop-operation-preserved
 loop-operation-preserved c =
@@ -47,7 +53,7 @@ loop-operation-preserved c =
     let new = diagnostics_of c.validate_operation.new.list in
     let was = (merger_of at.merger).is_clean in
     let h = c.in_ok-validate_operation.ensures in
-    let among = lent_among at.yielded x (operations d) (left_operations at.operation-iterator) (left_operations c.next.new.self) c.in-Some.ensures.steps at.invariant.1.1.1.1 in
+    let among = lent_among at.yielded x (operations d) (left_operations at.operation-iterator) (left_operations c.next.new.self) c.in-Some.ensures.steps at.invariant.1.1.1.1.1 in
     let m = merger_of at.merger in
     let same : (m.schema, m.document) ≡ (s, d) = λ i. (at.invariant.1.1.0 i, at.invariant.1.1.1.0 i) in
     let told = subst (λ (p : Judged × MeantDocument Place). MergingTold p.0 p.1 o mid new) same h.told in
@@ -60,7 +66,10 @@ loop-operation-preserved c =
           h.schema ∙ at.invariant.1.1.0,
           (
             h.document ∙ at.invariant.1.1.1.0,
-            lent_more at.yielded x (operations d) (left_operations at.operation-iterator) (left_operations c.next.new.self) c.in-Some.ensures.steps at.invariant.1.1.1.1,
+            (
+              c.validate_operation.ensures.ready,
+              lent_more at.yielded x (operations d) (left_operations at.operation-iterator) (left_operations c.next.new.self) c.in-Some.ensures.steps at.invariant.1.1.1.1.1,
+            ),
           ),
         ),
       ),
@@ -80,5 +89,5 @@ returns-clause-merged c same o among =
     let s = judged (schema_tree c.args.schema.now) in
     let d = document_meant c.args.document.now in
     let at = c.loop-operation in
-    let all = lent_all at.yielded (operations d) (left_operations at.operation-iterator) c.in-None.ensures.steps.0 at.invariant.1.1.1.1 in
+    let all = lent_all at.yielded (operations d) (left_operations at.operation-iterator) c.in-None.ensures.steps.0 at.invariant.1.1.1.1.1 in
     (at.invariant.1.0 same).1 o (subst (λ l. Contains l o) (sym all) among)

@@ -1,11 +1,13 @@
-use Rattle.std.proofs.Common.{[], ◌∙◌, sym, subst, true≢false}
+use Rattle.std.proofs.Common.{◌≡◌, OnOk, [], ◌∙◌, sym, subst, true≢false}
 use Rattle.std.proofs.lemmas.Result.{on_ok_weaker}
-use Rattle.rule_fragments.specs.in_typing.DocumentView.{document_meant}
+use Rattle.rule_fragments.specs.in_typed_operations.DocumentView.{document_meant}
 use Rattle.rule_document_definitions.proofs.UnplacedFragments.{named_if_own}
 use Rattle.fault_data.specs.FaultView.{faults_of}
 use Rattle.rule_merging.specs.in_faults.DetailsView.{diagnostics_of}
 use Rattle.rule_fragments.specs.in_ground.Broken.{brokens_of}
 use Rattle.rule_fragments.specs.in_schema.SchemaOf.{schema_tree}
+use Rattle.rule_fragments.specs.in_schema.declared.schema.Schema.{Schema}
+use Rattle.graphql_validation.specs.Steps.{TellsMerging, AllMerge}
 use Rattle.graphql_validation.specs.Operations.{all_told}
 use Rattle.graphql_validation.specs.TellsDocument.{IsTypedUnder, TellsDocument}
 use Rattle.rule_merging.proofs.Behind.{nothing_told, told_nothing, begins_same, refused_so}
@@ -30,7 +32,7 @@ returns-then-is_nothing-clause-told c =
     let bound = c.passes_path_bound-is_passed.ensures in
     let none : IsTypedUnder s d → TellsDocument s d [] = λ typed. subst (TellsDocument s d) (all_none fs bs p (c.is_nothing.ensures.0 c.if-is_nothing.true))
     (tells_document s d fs bs p (c.in_ok-faults.ensures (reaches_typed s d typed) (own_names s d typed)) (c.in_ok-breaches.ensures (own_names s d typed)) bound.right bound.found) in
-    on_ok_weaker c.merge_operations.result (λ h typed. (h.0, (h.1.0, tells_merging s d (none typed) h.0 h.1.1))) c.merge_operations.ensures.told
+    on_ok_weaker c.merge_operations.result (λ h typed. (h.0, (h.1.0, tells_merging s d (none typed) h.0 h.1.1))) (subst (λ (y : Schema). OnOk c.merge_operations.result (TellsMerging (schema_tree y) (document_meant c.args.document.now) c.args.list.now c.merge_operations.new.list)) c.schema.ensures c.merge_operations.ensures.told)
 
 pub returns-then-is_nothing-clause-silent : goal.returns-then-is_nothing-clause-silent
 returns-then-is_nothing-clause-silent c =
@@ -43,7 +45,7 @@ returns-then-is_nothing-clause-silent c =
     let none : IsTypedUnder s d → TellsDocument s d [] = λ typed. subst (TellsDocument s d) (all_none fs bs p (c.is_nothing.ensures.0 c.if-is_nothing.true))
     (tells_document s d fs bs p (c.in_ok-faults.ensures (reaches_typed s d typed) (own_names s d typed)) (c.in_ok-breaches.ensures (own_names s d typed)) bound.right bound.found) in
     on_ok_weaker c.merge_operations.result
-    (λ merged typed same. silent_is_valid s d (named_if_own d c.fragments_differ.ensures (own_names s d typed)) (none typed) (merged same)) c.merge_operations.ensures.merged
+    (λ merged typed same. silent_is_valid s d (named_if_own d c.fragments_differ.ensures (own_names s d typed)) (none typed) (merged same)) (subst (λ (y : Schema). OnOk c.merge_operations.result (diagnostics_of c.merge_operations.new.list ≡ diagnostics_of c.args.list.now → AllMerge (schema_tree y) (document_meant c.args.document.now))) c.schema.ensures c.merge_operations.ensures.merged)
 
 pub returns-then-is_nothing-clause-accepts : goal.returns-then-is_nothing-clause-accepts
 returns-then-is_nothing-clause-accepts c =
@@ -58,7 +60,7 @@ returns-then-is_nothing-clause-accepts c =
     on_ok_weaker c.merge_operations.result
     (λ h typed valid within. told_nothing (diagnostics_of c.args.list.now) (diagnostics_of c.merge_operations.new.list) h.0 h.1.0
     (valid_is_silent s d (named_if_own d c.fragments_differ.ensures (own_names s d typed)) h.0 (tells_merging s d (none typed) h.0 h.1.1) valid within))
-    c.merge_operations.ensures.told
+    (subst (λ (y : Schema). OnOk c.merge_operations.result (TellsMerging (schema_tree y) (document_meant c.args.document.now) c.args.list.now c.merge_operations.new.list)) c.schema.ensures c.merge_operations.ensures.told)
 
 -- ---- where something is told
 

@@ -1,10 +1,12 @@
 use Rattle.std.proofs.Common.{map, ap, subst}
 use Rattle.std.proofs.lemmas.Result.{on_ok_weaker}
-use Rattle.rule_fragments.specs.in_typing.DocumentView.{document_meant}
+use Rattle.rule_fragments.specs.in_typed_operations.DocumentView.{document_meant}
 use Rattle.fault_data.specs.FaultView.{faults_of}
 use Rattle.rule_merging.specs.in_faults.DetailsView.{diagnostics_of}
 use Rattle.rule_fragments.specs.in_ground.Broken.{broken_of, brokens_of}
 use Rattle.rule_fragments.specs.in_schema.SchemaOf.{schema_tree}
+use Rattle.rule_fragments.specs.in_schema.declared.schema.Schema.{Schema}
+use Rattle.graphql_validation.specs.Steps.{TellsUnder}
 use Rattle.graphql_validation.specs.Operations.{all_told}
 use Rattle.graphql_validation.specs.Told.{set_meant, TellsFieldSet}
 use Rattle.graphql_validation.proofs.FieldSets.{told_of_set, silent_set, valid_set}
@@ -13,6 +15,9 @@ use Rattle.graphql_validation.proofs.field_set.validate_field_set.Goals as goal
 
 pub returns-in_err-document-clause-begins : goal.returns-in_err-document-clause-begins
 returns-in_err-document-clause-begins c = refused_so _ (begins_same (diagnostics_of c.args.list.now))
+
+pub returns-in_err-inputs-clause-begins : goal.returns-in_err-inputs-clause-begins
+returns-in_err-inputs-clause-begins c = refused_so _ (begins_same (diagnostics_of c.args.list.now))
 
 pub returns-in_err-faults-clause-begins : goal.returns-in_err-faults-clause-begins
 returns-in_err-faults-clause-begins c = refused_so _ (begins_same (diagnostics_of c.args.list.now))
@@ -23,10 +28,10 @@ returns-clause-told c =
     let set = set_meant c.args.field_set.now in
     let d = document_meant c.in_ok-document.document in
     let fs = faults_of c.in_ok-faults.faults in
-    let bs = brokens_of c.new.result in
+    let bs = brokens_of c.new-2.result in
     let p = c.passes_path_bound-is_passed.result in
     on_ok_weaker c.append_all.result
-    (λ h typed. (all_told fs bs p, (h, told_of_set s set d fs bs p c.in_ok-document.ensures (ap (map broken_of) c.new.ensures.items) c.in_ok-faults.ensures c.passes_path_bound-is_passed.ensures.right c.passes_path_bound-is_passed.ensures.found typed)))
+    (λ h typed. (all_told fs bs p, (h, told_of_set s set d fs bs p c.in_ok-document.ensures (ap (map broken_of) c.new-2.ensures.items) (subst (λ (y : Schema). TellsUnder (schema_tree y) d fs) c.new-schema.ensures c.in_ok-faults.ensures) c.passes_path_bound-is_passed.ensures.right c.passes_path_bound-is_passed.ensures.found typed)))
     c.append_all.ensures.added
 
 pub returns-clause-silent : goal.returns-clause-silent
@@ -35,12 +40,12 @@ returns-clause-silent c =
     let set = set_meant c.args.field_set.now in
     let d = document_meant c.in_ok-document.document in
     let fs = faults_of c.in_ok-faults.faults in
-    let bs = brokens_of c.new.result in
+    let bs = brokens_of c.new-2.result in
     let p = c.passes_path_bound-is_passed.result in
     on_ok_weaker c.append_all.result
     (λ h typed same. silent_set s set
     (subst (λ told. TellsFieldSet s set told) (nothing_told (diagnostics_of c.args.list.now) (diagnostics_of c.append_all.new.list) (all_told fs bs p) h same)
-    (told_of_set s set d fs bs p c.in_ok-document.ensures (ap (map broken_of) c.new.ensures.items) c.in_ok-faults.ensures c.passes_path_bound-is_passed.ensures.right c.passes_path_bound-is_passed.ensures.found typed)))
+    (told_of_set s set d fs bs p c.in_ok-document.ensures (ap (map broken_of) c.new-2.ensures.items) (subst (λ (y : Schema). TellsUnder (schema_tree y) d fs) c.new-schema.ensures c.in_ok-faults.ensures) c.passes_path_bound-is_passed.ensures.right c.passes_path_bound-is_passed.ensures.found typed)))
     c.append_all.ensures.added
 
 pub returns-clause-accepts : goal.returns-clause-accepts
@@ -49,11 +54,11 @@ returns-clause-accepts c =
     let set = set_meant c.args.field_set.now in
     let d = document_meant c.in_ok-document.document in
     let fs = faults_of c.in_ok-faults.faults in
-    let bs = brokens_of c.new.result in
+    let bs = brokens_of c.new-2.result in
     let p = c.passes_path_bound-is_passed.result in
     on_ok_weaker c.append_all.result
     (λ h typed valid within. told_nothing (diagnostics_of c.args.list.now) (diagnostics_of c.append_all.new.list) (all_told fs bs p) h
     (valid_set s set (all_told fs bs p)
-    (told_of_set s set d fs bs p c.in_ok-document.ensures (ap (map broken_of) c.new.ensures.items) c.in_ok-faults.ensures c.passes_path_bound-is_passed.ensures.right c.passes_path_bound-is_passed.ensures.found typed)
+    (told_of_set s set d fs bs p c.in_ok-document.ensures (ap (map broken_of) c.new-2.ensures.items) (subst (λ (y : Schema). TellsUnder (schema_tree y) d fs) c.new-schema.ensures c.in_ok-faults.ensures) c.passes_path_bound-is_passed.ensures.right c.passes_path_bound-is_passed.ensures.found typed)
     valid within))
     c.append_all.ensures.added

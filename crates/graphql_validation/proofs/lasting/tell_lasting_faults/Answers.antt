@@ -1,13 +1,13 @@
 use Rattle.std.proofs.Common.{false, map, ap, sym, subst, ◌∙◌}
 use Rattle.std.specs.List.{filter}
 use Rattle.std.proofs.lemmas.Result.{on_ok_weaker}
-use Rattle.rule_fragments.specs.in_typing.DocumentView.{document_meant}
+use Rattle.rule_fragments.specs.in_typed_operations.DocumentView.{document_meant}
 use Rattle.fault_data.specs.FaultView.{faults_of}
 use Rattle.rule_merging.specs.in_faults.DetailsView.{diagnostics_of}
 use Rattle.rule_fragments.specs.in_ground.Broken.{broken_of, brokens_of}
 use Rattle.rule_fragments.specs.in_schema.SchemaOf.{schema_tree}
-use Rattle.rule_lasting.specs.Lasts.{fault_lasts, broken_lasts}
-use Rattle.rule_lasting.proofs.Filtered.{filter_view}
+use Rattle.graphql_validation.specs.Lasts.{fault_lasts, broken_lasts}
+use Rattle.graphql_validation.proofs.Filtered.{filter_view}
 use Rattle.graphql_validation.specs.Operations.{all_told}
 use Rattle.graphql_validation.specs.TellsLasting.{TellsLasting}
 use Rattle.rule_merging.proofs.Behind.{begins_same, refused_so}

@@ -1,6 +1,6 @@
 use Rattle.std.proofs.Common.{subst}
 use Rattle.std.proofs.lemmas.Result.{on_ok_weaker}
-use Rattle.rule_fragments.specs.in_typing.DocumentView.{document_meant}
+use Rattle.rule_fragments.specs.in_typed_operations.DocumentView.{document_meant}
 use Rattle.fault_data.specs.FaultView.{faults_of}
 use Rattle.rule_merging.specs.in_faults.DetailsView.{diagnostics_of}
 use Rattle.rule_document_definitions.proofs.UnplacedFragments.{named_if_own}

@@ -1,12 +1,19 @@
-use Rattle.std.proofs.Common.{refl}
+use Rattle.std.proofs.Common.{◌≡◌, ◌⊎◌, refl, subst}
 use Rattle.std.proofs.lemmas.Result.{on_ok_weaker}
 use Rattle.fault_data.specs.FaultView.{faults_of}
 use Rattle.rule_fragments.specs.in_schema.SchemaOf.{schema_tree}
-use Rattle.rule_fragments.specs.in_typing.DocumentView.{operation_meant}
-use Rattle.rule_document_definitions.specs.Told.{place_or_built_in}
+use Rattle.rule_fragments.specs.in_typed_operations.DocumentView.{operation_meant}
+use Rattle.rule_document_definitions.specs.Told.{place_or_built_in, places_in}
+use Rattle.rule_document_definitions.specs.Fragments.{InvalidFragmentTargetAt, InvalidFragmentSpreadAt}
+use Rattle.graphql_names.specs.Placed.{Place}
+use Rattle.document_meaning.specs.MeantTree.{MeantDocument, MeantOperation}
+use Rattle.fault_data.specs.Adds.{Adds}
+use Rattle.rule_definitions.specs.Judged.{judged}
+use Rattle.rule_fragments.specs.Possible.{ArePossibleIfFound}
+use Rattle.rule_fragments.specs.in_schema.declared.schema.Schema.{Schema}
 use Rattle.rule_fragments.specs.in_ground.NotedNames.{noted_names}
 use Rattle.rule_definitions.proofs.Listing.{gains_both, gains_same}
-use Rattle.rule_fragments.specs.in_ground.Reach.{meant_fragments, reached_members, reached_fragments_of}
+use Rattle.rule_fragments.specs.in_ground.Reach.{IsReachOf, meant_fragments, reached_members, reached_fragments_of}
 use Rattle.graphql_validation.proofs.Noting.{fragments_noted, notes_same}
 use Rattle.graphql_validation.proofs.Settled.{instead_of, reached_instead, told_instead, named_instead, typed_instead}
 use Rattle.graphql_validation.specs.Operations.{ReachesNamed}
@@ -24,6 +31,9 @@ returns-clause-told c =
     let spreads = faults_of c.check_spreads.new.faults in
     let old = faults_of c.args.found.now.faults in
     let new = faults_of c.check_applications.new.faults in
+    let applications = subst (λ (y : Schema). (d : MeantDocument Place) (o : MeantOperation Place) → IsReachOf d o r → d.fragments ≡ fs → ArePossibleIfFound (judged (schema_tree y)) c.args.possible.now
+    → Adds c.check_spreads.new.faults c.check_applications.new.faults (λ f. InvalidFragmentTargetAt (judged (schema_tree y)) d o f ⊎ InvalidFragmentSpreadAt (judged (schema_tree y)) d o f (places_in (schema_tree y))))
+    c.schema.ensures c.in_ok-check_applications.ensures.told in
     on_ok_weaker c.note_fragments.result
     (λ h d in' typed possible.
     let other = instead_of d fs in
@@ -32,7 +42,7 @@ returns-clause-told c =
     (gains_both old alone new (c.in_ok-check_variables_alone.ensures (place_or_built_in s) other reaches)
     (gains_both alone variables new c.in_ok-check_variables.ensures
     (gains_both variables selections new (c.in_ok-check_selections.ensures other reaches (typed_instead s d fs in' o typed))
-    (gains_both selections spreads new (c.in_ok-check_spreads.ensures other o reaches refl) (c.in_ok-check_applications.ensures.told other o reaches refl possible))))))
+    (gains_both selections spreads new (c.in_ok-check_spreads.ensures other o reaches refl) (applications other o reaches refl possible))))))
     c.note_fragments.ensures
 
 pub returns-clause-noted : goal.returns-clause-noted
@@ -51,4 +61,6 @@ returns-clause-noted c =
     c.note_fragments.ensures
 
 pub returns-clause-right : goal.returns-clause-right
-returns-clause-right c = on_ok_weaker c.note_fragments.result (λ h. c.in_ok-check_applications.ensures.right) c.note_fragments.ensures
+returns-clause-right c =
+    let right = subst (λ (y : Schema). ArePossibleIfFound (judged (schema_tree y)) c.args.possible.now → ArePossibleIfFound (judged (schema_tree y)) c.check_applications.new.possible) c.schema.ensures c.in_ok-check_applications.ensures.right in
+    on_ok_weaker c.note_fragments.result (λ h. right) c.note_fragments.ensures

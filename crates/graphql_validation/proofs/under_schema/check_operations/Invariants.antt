@@ -2,7 +2,7 @@ use Rattle.std.proofs.Common.{◌≡◌, ◌++◌, map}
 use Rattle.fault_data.specs.Adds.{Adds}
 use Rattle.rule_fragments.specs.in_schema.SchemaOf.{schema_tree}
 use Rattle.document_typed_operations.specs.OperationsByName.{left_operations}
-use Rattle.rule_fragments.specs.in_typing.DocumentView.{document_meant, operation_meant}
+use Rattle.rule_fragments.specs.in_typed_operations.DocumentView.{document_meant, operation_meant}
 use Rattle.rule_definitions.specs.Words.{AtSomeIndex}
 use Rattle.rule_definitions.specs.Judged.{judged}
 use Rattle.rule_document_definitions.specs.Selected.{operations}
@@ -11,7 +11,7 @@ use Rattle.rule_fragments.specs.in_ground.NotedNames.{noted_names}
 use Rattle.rule_fragments.specs.in_ground.Reach.{meant_fragments}
 use Rattle.rule_selections.specs.Settled.{StandIn}
 use Rattle.graphql_validation.specs.Operations.{OperationFails, AreReachesTyped, ReachesNamed, NotesNames}
-use Rattle.rule_subscriptions.proofs.Operations.{lent_operations}
+use Rattle.rule_fragments.proofs.Operations.{lent_operations}
 use Rattle.graphql_validation.proofs.under_schema.check_operations.Given as goal
 
 abbrev pub invariant-loop-operation : goal.invariant-loop-operation

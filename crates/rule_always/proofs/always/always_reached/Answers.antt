@@ -13,7 +13,7 @@ use Rattle.document_typed_operations.specs.declared.operation.Operation.{Operati
 use Rattle.document_walks.specs.Reached.{document_fragments}
 use Rattle.document_walks.specs.WalkView.{fragments_tree}
 use Rattle.document_walks.proofs.WalkLaws.{fragments_tree-document}
-use Rattle.rule_document_ground.specs.in_typing.DocumentView.{document_meant, operation_meant}
+use Rattle.rule_document_ground.specs.in_typed_operations.DocumentView.{document_meant, operation_meant}
 use Rattle.rule_document_ground.specs.NotedNames.{noted_names}
 use Rattle.rule_always.specs.Always.{Found, always_in, to_enter, to_come}
 use Rattle.rule_always.specs.Lent.{lent, lent_all}

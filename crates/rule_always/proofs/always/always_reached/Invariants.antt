@@ -1,7 +1,7 @@
 use Rattle.std.proofs.Common.{◌+◌, ◌-◌, length}
 use Rattle.document_typed_operations.specs.TypedDocument.{typed_document_tree}
 use Rattle.document_walks.specs.Reached.{document_fragments}
-use Rattle.rule_document_ground.specs.in_typing.DocumentView.{document_meant, operation_meant}
+use Rattle.rule_document_ground.specs.in_typed_operations.DocumentView.{document_meant, operation_meant}
 use Rattle.rule_document_ground.specs.NotedNames.{noted_names}
 use Rattle.rule_always.specs.Always.{Found, to_come}
 use Rattle.rule_always.specs.Lent.{lent_all}

@@ -1,17 +1,19 @@
-use Rattle.std.proofs.Common.{ap, sym, subst, ◌∙◌}
-use Rattle.document_typed_selections.specs.TypedTree.{typed_set_tree}
-use Rattle.document_typed_selections.specs.declared.selection.Field.{Field}
-use Rattle.document_meaning.specs.MeantTree.{meant_of_set}
-use Rattle.rule_document_ground.specs.Fields.{field_of}
-use Rattle.rule_field_groups.specs.Below.{meant_sets, IsBare}
-use Rattle.rule_field_groups.proofs.Sets.{bare_so, bare_noted, set_noted}
+use Rattle.std.proofs.lemmas.Result.{on_ok_weaker}
+use Rattle.rule_field_groups.specs.Members.{field_of, meant_sets}
+use Rattle.rule_field_groups.proofs.Sets.{member_bare, member_below, bare_noted, set_noted, numbered_more}
 use Rattle.rule_field_groups.proofs.below.note_set.Goals as goal
 
-pub returns-then-is_empty : goal.returns-then-is_empty
-returns-then-is_empty c =
-    bare_noted (field_of c.args.field) (meant_sets c.args.sets.now.keys)
-    (subst IsBare (ap (λ (f : Field). meant_of_set (typed_set_tree f.selection_set)) c.content.ensures) (bare_so (typed_set_tree c.content.result.now.selection_set) (sym c.is_empty.ensures ∙ c.if-is_empty.true)))
+pub returns-in-None-clause-notes : goal.returns-in-None-clause-notes
+returns-in-None-clause-notes c =
+    bare_noted (field_of c.args.field) (meant_sets c.args.sets.now c.args.found.now.nodes.items) (member_bare c.args.sets.now c.requires.sets c.args.field c.requires.member c.in-None.is)
 
-pub returns : goal.returns
-returns c =
-    set_noted (field_of c.args.field) c.args.sets.now.keys c.insert.new.self.keys _ (ap (λ (f : Field). meant_of_set (typed_set_tree f.selection_set)) c.content.ensures) c.in_ok-insert.ensures.keys
+pub returns-in_ok-number_of-in-Some-clause-notes : goal.returns-in_ok-number_of-in-Some-clause-notes
+returns-in_ok-number_of-in-Some-clause-notes c =
+    let w = c.args.sets.now in
+    on_ok_weaker c.add.result
+    (λ adds. set_noted w c.args.found.now c.add.new.self _ c.in-Some.node adds c.requires.numbered c.in_ok-number_of-in-Some.ensures (field_of c.args.field) (member_below w c.requires.sets c.args.field c.requires.member c.in-Some.node c.in-Some.is))
+    c.add.ensures
+
+pub returns-in_ok-number_of-in-Some-clause-numbered : goal.returns-in_ok-number_of-in-Some-clause-numbered
+returns-in_ok-number_of-in-Some-clause-numbered c =
+    on_ok_weaker c.add.result (λ adds. numbered_more c.args.sets.now c.args.found.now c.add.new.self _ c.in-Some.node adds c.requires.numbered c.in_ok-number_of-in-Some.ensures) c.add.ensures

@@ -1,7 +1,7 @@
 use Rattle.std.proofs.Common.{◌≡◌, ◌++◌, [], take}
-use Rattle.rule_field_groups.specs.Below.{meant_sets}
-use Rattle.rule_field_groups.specs.Under.{sets_in, joined, twos_of}
+use Rattle.rule_field_groups.specs.Grouped.{lists_of}
+use Rattle.rule_field_groups.specs.Under.{joined, twos_of}
 use Rattle.rule_field_groups.proofs.below.push_apart.Given as goal
 
-abbrev pub invariant-loop-set : goal.invariant-loop-set
-invariant-loop-set l = sets_in l.lists ≡ (sets_in l.fn.lists ++ joined [] (meant_sets l.further)) ++ twos_of (meant_sets l.first) (meant_sets (take l.set-index l.further))
+abbrev pub invariant-loop-node : goal.invariant-loop-node
+invariant-loop-node l = lists_of l.lists ≡ (lists_of l.fn.lists ++ joined [] l.further) ++ twos_of l.first (take l.node-index l.further)

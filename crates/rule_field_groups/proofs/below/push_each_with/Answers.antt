@@ -1,21 +1,22 @@
-use Rattle.std.proofs.Common.{◌≡◌, ◌<◌, ◌++◌, List, length, sym, subst, append-nil, arith}
-use Rattle.std.proofs.lemmas.List.{take_all}
-use Rattle.rule_field_groups.specs.declared.below.SelectedSet.{SelectedSet}
-use Rattle.rule_field_groups.specs.Below.{meant_at, meant_sets}
-use Rattle.rule_field_groups.specs.Under.{sets_in, each_with}
+use Rattle.std.proofs.Common.{◌≡◌, ◌<◌, ◌++◌, ℕ, List, length, get_or, sym, subst, append-nil, arith}
+use Rattle.std.proofs.lemmas.List.{take_all, get_or_default}
+use Rattle.rule_field_groups.specs.Grouped.{lists_of}
+use Rattle.rule_field_groups.specs.Under.{each_with}
 use Rattle.rule_field_groups.proofs.Under.{with_more}
 use Rattle.rule_field_groups.proofs.below.push_each_with.Goals as goal
 
-pub loop-set-init : goal.loop-set-init
-loop-set-init c = sym (append-nil (sets_in c.args.lists.now))
+pub loop-node-init : goal.loop-node-init
+loop-node-init c = sym (append-nil (lists_of c.args.lists.now))
 
-pub loop-set-preserved : goal.loop-set-preserved
-loop-set-preserved c =
-    let i = c.loop-set.set-index in
-    let h : i < length c.args.sets.now = omega arith in
-    with_more c.args.last c.args.sets.now i c.set-item.result h c.set-item.is (sets_in c.args.lists.now) (sets_in c.loop-set.lists) (sets_in c.push_two.new.lists) c.loop-set.invariant c.in_ok-push_two.ensures
+pub loop-node-preserved : goal.loop-node-preserved
+loop-node-preserved c =
+    let i = c.loop-node.node-index in
+    let h : i < length c.args.nodes.now = omega arith in
+    let x = get_or c.args.nodes.now i 0 in
+    let is : x ≡ get_or c.args.nodes.now i x = get_or_default c.args.nodes.now i 0 x h in
+    with_more c.args.last c.args.nodes.now i x h is (lists_of c.args.lists.now) (lists_of c.loop-node.lists) (lists_of c.push_two.new.lists) c.loop-node.invariant c.in_ok-push_two.ensures
 
 pub returns : goal.returns
 returns c =
-    subst (λ (l : List SelectedSet). sets_in c.loop-set.lists ≡ sets_in c.args.lists.now ++ each_with (meant_sets l) (meant_at c.args.last))
-    (take_all c.loop-set.set-index c.args.sets.now c.loop-set-test.false) c.loop-set.invariant
+    subst (λ (l : List ℕ). lists_of c.loop-node.lists ≡ lists_of c.args.lists.now ++ each_with l c.args.last)
+    (take_all c.loop-node.node-index c.args.nodes.now c.loop-node-test.false) c.loop-node.invariant

@@ -1,7 +1,7 @@
 use Rattle.std.proofs.Common.{◌≡◌, ◌++◌, take}
-use Rattle.rule_field_groups.specs.Below.{meant_at, meant_sets}
-use Rattle.rule_field_groups.specs.Under.{sets_in, each_with}
+use Rattle.rule_field_groups.specs.Grouped.{lists_of}
+use Rattle.rule_field_groups.specs.Under.{each_with}
 use Rattle.rule_field_groups.proofs.below.push_each_with.Given as goal
 
-abbrev pub invariant-loop-set : goal.invariant-loop-set
-invariant-loop-set l = sets_in l.lists ≡ sets_in l.fn.lists ++ each_with (meant_sets (take l.set-index l.sets)) (meant_at l.last)
+abbrev pub invariant-loop-node : goal.invariant-loop-node
+invariant-loop-node l = lists_of l.lists ≡ lists_of l.fn.lists ++ each_with (take l.node-index l.nodes) l.last

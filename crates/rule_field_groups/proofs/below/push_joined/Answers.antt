@@ -1,10 +1,10 @@
 use Rattle.std.proofs.Common.{◌++◌, ◌∙◌, ap, sym}
-use Rattle.rule_field_groups.specs.Under.{sets_in}
+use Rattle.rule_field_groups.specs.Grouped.{lists_of}
 use Rattle.rule_field_groups.proofs.Under.{joins_none, joins_some}
 use Rattle.rule_field_groups.proofs.below.push_joined.Goals as goal
 
 pub returns-then-is_empty : goal.returns-then-is_empty
-returns-then-is_empty c = joins_none c.args.first.now c.args.further.now (sets_in c.args.lists.now) (sym c.is_empty.ensures ∙ c.if-is_empty.true)
+returns-then-is_empty c = joins_none c.args.first.now c.args.further.now (lists_of c.args.lists.now) (sym c.is_empty.ensures ∙ c.if-is_empty.true)
 
 pub returns : goal.returns
 returns c =

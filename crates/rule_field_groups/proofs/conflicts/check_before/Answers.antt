@@ -1,7 +1,7 @@
 use Rattle.std.proofs.Common.{◌∷◌, List, sym, subst}
 use Rattle.std.proofs.lemmas.Result.{on_ok_weaker}
-use Rattle.rule_document_ground.specs.Fields.{field_of, fields_of}
-use Rattle.rule_document_ground.specs.declared.field_selection.FieldSelection.{FieldSelection}
+use Rattle.rule_field_groups.specs.Members.{field_of, fields_of}
+use Rattle.rule_field_sets.specs.declared.member.Member.{Member}
 use Rattle.rule_field_groups.specs.Passes.{AddsGroup}
 use Rattle.rule_field_groups.specs.Conflicts.{judged_by}
 use Rattle.rule_field_groups.proofs.Telling.{adds_none, adds_before}
@@ -16,6 +16,6 @@ returns-in_ok-check_others-in-Some-clause-told c =
     let old = c.args.breaches.now in
     let new = c.check_others-in-Some.new.breaches in
     on_ok_weaker c.check_others-in-Some.result
-    (λ h. subst (λ (l : List FieldSelection). AddsGroup c.args.comparing.now.pass s (fields_of (c.args.other ∷ l)) old new) (sym c.in-Some.ensures.cases.0)
+    (λ h. subst (λ (l : List Member). AddsGroup c.args.comparing.now.pass s (fields_of (c.args.other ∷ l)) old new) (sym c.in-Some.ensures.cases.0)
     (adds_before c.args.comparing.now.pass s (field_of c.in-Some.first.now) (field_of c.args.other) (fields_of c.in-Some.others.now) old c.check_others.new.breaches new c.in_ok-check_others-in-Some.ensures.told h))
     c.check_others-in-Some.ensures.told

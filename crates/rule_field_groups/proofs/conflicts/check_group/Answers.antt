@@ -1,9 +1,9 @@
 use Rattle.std.proofs.Common.{sym, subst}
 use Rattle.std.proofs.lemmas.Result.{on_ok_weaker}
-use Rattle.rule_document_ground.specs.in_schema.SchemaOf.{schema_tree}
-use Rattle.rule_definitions.specs.Judged.{judged}
-use Rattle.rule_document_ground.specs.Fields.{fields_of}
-use Rattle.rule_document_ground.specs.declared.field_selection.FieldSelection.{FieldSelection}
+use Rattle.rule_field_sets.specs.in_ground.in_schema.SchemaOf.{schema_tree}
+use Rattle.rule_same_values.specs.in_definitions.Judged.{judged}
+use Rattle.rule_field_groups.specs.Members.{fields_of}
+use Rattle.rule_field_sets.specs.declared.member.Member.{Member}
 use Rattle.std.specs.Prelude.{List}
 use Rattle.rule_field_groups.specs.Passes.{AddsGroup}
 use Rattle.rule_field_groups.proofs.Telling.{no_group, count_none, count_group, exact_group}
@@ -20,7 +20,7 @@ pub returns-in-Some-clause-told : goal.returns-in-Some-clause-told
 returns-in-Some-clause-told c =
     let s = judged (schema_tree c.args.schema.now) in
     on_ok_weaker c.check_others.result
-    (λ h. subst (λ (l : List FieldSelection). AddsGroup c.args.pass s (fields_of l) c.args.breaches.now c.check_others.new.breaches) (sym c.in-Some.ensures.cases.0) h) c.check_others.ensures.told
+    (λ h. subst (λ (l : List Member). AddsGroup c.args.pass s (fields_of l) c.args.breaches.now c.check_others.new.breaches) (sym c.in-Some.ensures.cases.0) h) c.check_others.ensures.told
 
 pub returns-in-Some-clause-counted : goal.returns-in-Some-clause-counted
 returns-in-Some-clause-counted c =

@@ -2,10 +2,10 @@ use Rattle.std.proofs.Common.{◌<◌, ◌++◌, [], List, map, take, length, ap
 use Rattle.std.specs.List.{sum}
 use Rattle.std.proofs.lemmas.List.{take_all}
 use Rattle.std.proofs.lemmas.Simd.{map-map}
-use Rattle.rule_document_ground.specs.in_schema.SchemaOf.{schema_tree}
-use Rattle.rule_definitions.specs.Judged.{judged}
-use Rattle.rule_document_ground.specs.Fields.{fields_of}
-use Rattle.rule_document_ground.specs.declared.field_selection.FieldSelection.{FieldSelection}
+use Rattle.rule_field_sets.specs.in_ground.in_schema.SchemaOf.{schema_tree}
+use Rattle.rule_same_values.specs.in_definitions.Judged.{judged}
+use Rattle.rule_field_groups.specs.Members.{fields_of}
+use Rattle.rule_field_sets.specs.declared.member.Member.{Member}
 use Rattle.rule_field_groups.specs.declared.groups.OwnFields.{OwnFields}
 use Rattle.rule_field_groups.specs.Compared.{compared}
 use Rattle.rule_field_groups.specs.Passes.{AddsGroup, AddsEach}
@@ -18,7 +18,7 @@ loop-own-init c =
     let s = judged (schema_tree c.args.schema.now) in
     let group = c.args.group.now in
     record {
-      told = subst (λ (l : List FieldSelection). AddsEach c.args.pass s (with_first c.args.pass s (fields_of l) []) c.args.breaches.now c.check_group.new.breaches) c.deref.ensures.value
+      told = subst (λ (l : List Member). AddsEach c.args.pass s (with_first c.args.pass s (fields_of l) []) c.args.breaches.now c.check_group.new.breaches) c.deref.ensures.value
           (adds_shared c.args.pass s (fields_of c.deref.result.now) c.args.breaches.now c.check_group.new.breaches c.in_ok-check_group.ensures.told);
       more = c.check_group.ensures.more;
       counted = omega (
@@ -40,7 +40,7 @@ loop-own-preserved c =
     let inv = c.loop-own.invariant in
     let mid = c.loop-own.breaches in
     let new = c.check_own.new.breaches in
-    let here = subst (λ (l : List FieldSelection). AddsGroup c.args.pass s (fields_of (take 1 l ++ x.fields.items)) mid new) c.deref-in-loop-own.ensures.value c.in_ok-check_own.ensures.told in
+    let here = subst (λ (l : List Member). AddsGroup c.args.pass s (fields_of (take 1 l ++ x.fields.items)) mid new) c.deref-in-loop-own.ensures.value c.in_ok-check_own.ensures.told in
     record {
       told = own_step c.args.pass s c.args.group.now.shared.items xs i x h c.own-item.is c.args.breaches.now mid new inv.told here;
       more = omega (arith, inv.more, c.check_own.ensures.more);

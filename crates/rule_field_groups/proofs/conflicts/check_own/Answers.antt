@@ -1,7 +1,7 @@
 use Rattle.std.proofs.Common.{◌∙◌, List, ap, sym, subst, arith}
 use Rattle.std.proofs.lemmas.Result.{on_ok_weaker}
-use Rattle.rule_document_ground.specs.Fields.{fields_of}
-use Rattle.rule_document_ground.specs.declared.field_selection.FieldSelection.{FieldSelection}
+use Rattle.rule_field_groups.specs.Members.{fields_of}
+use Rattle.rule_field_sets.specs.declared.member.Member.{Member}
 use Rattle.rule_field_groups.specs.Passes.{AddsGroup}
 use Rattle.rule_field_groups.specs.Compared.{compared}
 use Rattle.rule_field_groups.specs.Conflicts.{judged_by}
@@ -15,7 +15,7 @@ returns-in-None-clause-told c =
     let new = c.check_group.new.breaches in
     on_ok_weaker c.check_group.result
     (λ h. adds_unshared comparing.pass (judged_by comparing) c.args.shared.now c.args.own.now.fields.items c.in-None.ensures.cases old new
-    (subst (λ (l : List FieldSelection). AddsGroup comparing.pass (judged_by comparing) (fields_of l) old new) c.as_slice-fields.ensures.value h)) c.check_group.ensures.told
+    (subst (λ (l : List Member). AddsGroup comparing.pass (judged_by comparing) (fields_of l) old new) c.as_slice-fields.ensures.value h)) c.check_group.ensures.told
 
 pub returns-in-None-clause-counted : goal.returns-in-None-clause-counted
 returns-in-None-clause-counted c = omega (arith, c.check_group.ensures.counted, ap (compared c.args.comparing.now.pass) c.as_slice-fields.ensures.value)

@@ -2,9 +2,9 @@ use Rattle.std.proofs.Common.{◌≡◌, None, Some, sym, ap, subst, append-nil,
 use Rattle.std.proofs.lemmas.Option.{MatchOption-at_none, MatchOption-at_some}
 use Rattle.std.proofs.lemmas.Result.{on_ok_weaker}
 use Rattle.document_typed_selections.specs.declared.selection.Field.{Field}
-use Rattle.rule_document_definitions.specs.SameValues.{SameArguments, SameGiven, plain_given}
-use Rattle.rule_document_ground.specs.Broken.{brokens_of}
-use Rattle.rule_document_ground.specs.Fields.{field_of}
+use Rattle.rule_same_values.specs.in_document_definitions.SameValues.{SameArguments, SameGiven, plain_given}
+use Rattle.rule_field_sets.specs.in_ground.Broken.{brokens_of}
+use Rattle.rule_field_groups.specs.Members.{field_of}
 use Rattle.rule_same_values.specs.Tests.{arguments_of}
 use Rattle.rule_field_groups.proofs.conflicts.conflicting_field_argument.Goals as goal
 

@@ -1,6 +1,6 @@
 use Rattle.std.proofs.Common.{None, Some, sym, append-nil, ◌∙◌, true≢false}
 use Rattle.std.proofs.lemmas.Result.{on_ok_weaker}
-use Rattle.rule_document_ground.specs.Broken.{brokens_of}
+use Rattle.rule_field_sets.specs.in_ground.Broken.{brokens_of}
 use Rattle.rule_field_groups.proofs.conflicts.conflicting_field_name.Goals as goal
 
 pub returns-then-have_one_name : goal.returns-then-have_one_name

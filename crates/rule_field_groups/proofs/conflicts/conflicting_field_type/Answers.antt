@@ -1,8 +1,8 @@
 use Rattle.std.proofs.Common.{None, Some, sym, append-nil, ◌∙◌, true≢false}
 use Rattle.std.proofs.lemmas.Result.{on_ok_weaker}
-use Rattle.rule_document_ground.specs.in_schema.SchemaOf.{schema_tree}
-use Rattle.rule_definitions.specs.Judged.{judged}
-use Rattle.rule_document_ground.specs.Broken.{brokens_of}
+use Rattle.rule_field_sets.specs.in_ground.in_schema.SchemaOf.{schema_tree}
+use Rattle.rule_same_values.specs.in_definitions.Judged.{judged}
+use Rattle.rule_field_sets.specs.in_ground.Broken.{brokens_of}
 use Rattle.rule_field_groups.proofs.ShapesTold.{shapes_told}
 use Rattle.rule_field_groups.proofs.conflicts.conflicting_field_type.Goals as goal
 

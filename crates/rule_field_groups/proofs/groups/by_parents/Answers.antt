@@ -1,8 +1,8 @@
 use Rattle.std.proofs.Common.{◌∙◌, not, filter, map, length, ap, sym, subst, List}
 use Rattle.std.specs.List.{sum}
-use Rattle.rule_document_ground.specs.in_schema.SchemaOf.{schema_tree}
-use Rattle.rule_definitions.specs.Judged.{judged}
-use Rattle.rule_document_ground.specs.declared.field_selection.FieldSelection.{FieldSelection}
+use Rattle.rule_field_sets.specs.in_ground.in_schema.SchemaOf.{schema_tree}
+use Rattle.rule_same_values.specs.in_definitions.Judged.{judged}
+use Rattle.rule_field_sets.specs.declared.member.Member.{Member}
 use Rattle.rule_field_groups.specs.declared.groups.OwnFields.{OwnFields}
 use Rattle.rule_field_groups.specs.Grouped.{lists_of, parent_of, AreFiled}
 use Rattle.rule_field_groups.specs.KeyGroups.{is_shared}
@@ -12,7 +12,7 @@ use Rattle.rule_field_groups.proofs.groups.by_parents.Goals as goal
 pub returns-clause-parents : goal.returns-clause-parents
 returns-clause-parents c =
     let s = judged (schema_tree c.args.schema.now) in
-    let objects : List FieldSelection = filter (λ x. not (is_shared s x)) c.args.list.now in
+    let objects : List Member = filter (λ x. not (is_shared s x)) c.args.list.now in
     record {
       shared = c.in_ok-shared.ensures;
       own = subst (AreFiled parent_of objects) (sym c.in_ok-own.ensures)

@@ -3,9 +3,9 @@ use Rattle.std.specs.List.{sum}
 use Rattle.std.proofs.lemmas.Iterator.Adapters.{YieldsList-from_vec}
 use Rattle.std.proofs.lemmas.Iterator.Consumers.{YieldsList-end}
 use Rattle.std.proofs.lemmas.List.{map-id}
-use Rattle.rule_document_ground.specs.in_schema.SchemaOf.{schema_tree}
-use Rattle.rule_definitions.specs.Judged.{judged}
-use Rattle.rule_document_ground.specs.declared.field_selection.FieldSelection.{FieldSelection}
+use Rattle.rule_field_sets.specs.in_ground.in_schema.SchemaOf.{schema_tree}
+use Rattle.rule_same_values.specs.in_definitions.Judged.{judged}
+use Rattle.rule_field_sets.specs.declared.member.Member.{Member}
 use Rattle.rule_field_groups.specs.declared.groups.KeyGroup.{KeyGroup}
 use Rattle.rule_field_groups.specs.Compared.{compared}
 use Rattle.rule_field_groups.specs.Grouped.{lists_of}
@@ -41,13 +41,13 @@ loop-fields-preserved c =
     }
 
 -- all keys were gone through
-all_yielded : (c : goal.After-drop-fields-iterator-2) → map (λ (v : Vec FieldSelection Global). v.items) c.loop-fields.yielded ≡ lists_of c.in_ok-keyed.keyed
+all_yielded : (c : goal.After-drop-fields-iterator-2) → map (λ (v : Vec Member Global). v.items) c.loop-fields.yielded ≡ lists_of c.in_ok-keyed.keyed
 all_yielded c =
     let keyed = c.in_ok-keyed.keyed in
     let at = c.loop-fields in
     let given = c.into_iter-fields-iterator.ensures.into_iter_gives in
     let all = YieldsList-end (YieldsList-from_vec keyed.items given.0 (given.1 ∙ keyed.ok.0)) at.yielded at.fields-iterator at.yielded_by c.next.result c.next.new.self c.in-None.is c.next.ensures.steps in
-    ap (map (λ (v : Vec FieldSelection Global). v.items)) (sym (map-id at.yielded) ∙ all.0)
+    ap (map (λ (v : Vec Member Global). v.items)) (sym (map-id at.yielded) ∙ all.0)
 
 pub returns-clause-groups : goal.returns-clause-groups
 returns-clause-groups c =

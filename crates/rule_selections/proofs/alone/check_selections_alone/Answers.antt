@@ -4,7 +4,7 @@ use Rattle.graphql_names.specs.Placed.{Place, node_tree}
 use Rattle.tree_directives.specs.DirectiveTree.{Directives, directives_tree}
 use Rattle.document_typed_operations.specs.TypedDocument.{typed_operation_tree}
 use Rattle.document_typed_operations.specs.declared.operation.Operation.{Operation}
-use Rattle.rule_document_ground.specs.in_typing.DocumentView.{meant_by_operation}
+use Rattle.rule_document_ground.specs.in_typed_operations.DocumentView.{meant_by_operation}
 use Rattle.fault_data.specs.FaultView.{faults_of}
 use Rattle.fault_data.specs.Adds.{Adds}
 use Rattle.rule_definitions.specs.Words.{AtSomeIndex}

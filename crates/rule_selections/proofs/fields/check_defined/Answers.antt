@@ -3,11 +3,12 @@ use Rattle.std.proofs.lemmas.Result.{on_ok_weaker}
 use Rattle.graphql_names.specs.Placed.{Place}
 use Rattle.tree_directives.specs.DirectiveTree.{input_value_trees}
 use Rattle.rule_document_ground.specs.in_schema.SchemaOf.{schema_tree}
-use Rattle.tree_type_members.specs.declared.field_definition.FieldDefinition.{FieldDefinition}
+use Rattle.rule_document_ground.specs.in_schema.LookUps.{IsFieldNamed, FieldIsMissing}
+use Rattle.schema_components.specs.Given.{component_tree}
 use Rattle.document_typed_selections.specs.declared.selection.Field.{Field}
 use Rattle.schema_types.specs.Plain.{plain}
-use Rattle.rule_document_ground.specs.in_typing.Meanings.{meanings}
-use Rattle.rule_document_ground.proofs.in_typing.FieldsFound.{field-absent}
+use Rattle.document_typing.specs.Meanings.{meanings}
+use Rattle.document_typing.proofs.FieldsFound.{field-absent}
 use Rattle.fault_data.specs.Adds.{Adds}
 use Rattle.rule_definitions.specs.Judged.{judged}
 use Rattle.rule_definitions.specs.Uses.{Taker, TakerBreaks}
@@ -36,8 +37,13 @@ returns-in_default c defined =
     let s = schema_tree c.args.schema.now in
     let n = c.args.parent.now.text in
     let f = c.content-selected.result.now in
-    let none = field-absent s n f.name.text c.in_default.field-0 c.in_default.ensures.missing in
+    let missing = subst (λ x. FieldIsMissing (schema_tree x) n f.name.text c.in_default.field-0) c.schema.ensures c.in_default.ensures.missing in
+    let none = field-absent s n f.name.text c.in_default.field-0 missing in
     absurd (true≢false (sym (ap is_some (none ∙ ap (λ (g : Field). (meanings (plain s)).field n g.name.text) c.content-selected.ensures ∙ defined))))
+
+pub arguments_of_field-defined-requires : goal.arguments_of_field-defined-requires
+arguments_of_field-defined-requires c =
+    subst (λ x. IsFieldNamed (schema_tree x) c.args.parent.now.text c.content-selected.result.now.name.text (component_tree field_definition_tree c.in-Ok.definition.now)) c.schema.ensures c.in-Ok.ensures.found
 
 pub returns : goal.returns
 returns c =
@@ -45,10 +51,10 @@ returns c =
     let vs = variables_of c.args.variables.now in
     let f = c.content-selected.result.now in
     let component = c.in-Ok.definition.now in
-    let found = c.in-Ok.ensures.found in
+    let found = subst (λ x. IsFieldNamed (schema_tree x) c.args.parent.now.text f.name.text (component_tree field_definition_tree component)) c.schema.ensures c.in-Ok.ensures.found in
     let given = c.as_slice.result.now in
-    let definitions = c.as_slice-2.result.now in
-    let same_inputs = ap input_value_trees c.as_slice-2.ensures.value ∙ ap (λ (d : FieldDefinition). input_value_trees d.arguments.items) c.content.ensures in
+    let definitions = c.arguments_of_field-defined.result in
+    let same_inputs = ap input_value_trees c.arguments_of_field-defined.ensures in
     on_ok_weaker c.check_taken.result
     (λ h defined. subst (λ (t : Taker Place). Adds c.args.faults.now c.check_taken.new.faults (TakerBreaks (place_or_built_in s) (judged s) vs t))
     (same_taker s c.args.parent.now c.args.field.now f c.content-selected.ensures component found c.location.result c.location-2.result given definitions c.location.ensures c.location-2.ensures (ap arguments_of c.as_slice.ensures.value) same_inputs defined)

@@ -1,4 +1,4 @@
-use Rattle.std.proofs.Common.{◌∙◌, ap, subst}
+use Rattle.std.proofs.Common.{◌∙◌, ◌++◌, ap, subst}
 use Rattle.std.proofs.lemmas.Result.{on_ok_weaker}
 use Rattle.graphql_names.specs.Placed.{Place}
 use Rattle.tree_directives.specs.DirectiveTree.{Arguments}
@@ -28,7 +28,7 @@ returns c =
     let given = ap arguments_of c.deref.ensures.value ∙ ap (λ (f : Field). arguments_of f.arguments.items) c.content.ensures in
     on_ok_weaker c.check_defined.result
     (λ h defined. gains_both a b e
-    (gains_list a b (missing_subselection (judged s) x) c.in_ok-missing_subselection.ensures (lists_missing s x))
+    (gains_list a b (missing_subselection (judged s) x) (c.in_ok-missing_subselection.ensures ∙ ap (λ y. a ++ missing_subselection (judged (schema_tree y)) x) c.schema.ensures) (lists_missing s x))
     (gains_both b d e
     (subst (λ (l : Arguments Place). Adds c.missing_subselection.new.faults c.check_given.new.faults (GivenBreaks (place_or_built_in s) (judged s) vs l)) given (c.in_ok-check_given.ensures (place_or_built_in s) (judged s)))
     (h defined)))

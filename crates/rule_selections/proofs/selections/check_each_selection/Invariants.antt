@@ -5,8 +5,8 @@ use Rattle.rule_document_ground.specs.in_schema.SchemaOf.{schema_tree}
 use Rattle.fault_data.specs.Adds.{Adds}
 use Rattle.rule_definitions.specs.Words.{AtSomeIndex}
 use Rattle.rule_uses.specs.in_rule_values.Wanting.{variables_of}
-use Rattle.rule_document_ground.specs.in_typing.Meanings.{meanings}
-use Rattle.rule_document_ground.specs.in_typing.TypedByPlace.{IsTyped}
+use Rattle.document_typing.specs.Meanings.{meanings}
+use Rattle.document_typing.specs.TypedByPlace.{IsTyped}
 use Rattle.rule_document_ground.specs.Reach.{Member, member_of, reached_members}
 use Rattle.rule_selections.specs.Steps.{SelectionBreaks}
 use Rattle.rule_selections.proofs.selections.check_each_selection.Given as goal

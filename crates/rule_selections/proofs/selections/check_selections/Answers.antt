@@ -9,8 +9,8 @@ use Rattle.schema_types.specs.Addresses.{place_at}
 use Rattle.rule_document_ground.specs.in_schema.SchemaOf.{schema_tree}
 use Rattle.document_typed_operations.specs.TypedDocument.{typed_operation_tree}
 use Rattle.document_typed_operations.specs.declared.operation.Operation.{Operation}
-use Rattle.rule_document_ground.specs.in_typing.DocumentView.{meant_by_operation}
-use Rattle.rule_document_ground.specs.in_typing.Meanings.{meanings}
+use Rattle.rule_document_ground.specs.in_typed_operations.DocumentView.{meant_by_operation}
+use Rattle.document_typing.specs.Meanings.{meanings}
 use Rattle.fault_data.specs.FaultView.{faults_of}
 use Rattle.fault_data.specs.Adds.{Adds}
 use Rattle.rule_definitions.specs.Words.{AtSomeIndex}

@@ -1,5 +1,5 @@
 use Rattle.rule_document_ground.specs.in_schema.SchemaOf.{schema_tree}
-use Rattle.rule_document_ground.specs.in_typing.DocumentView.{document_meant}
+use Rattle.rule_document_ground.specs.in_typed_operations.DocumentView.{document_meant}
 use Rattle.rule_document_ground.specs.Reach.{meant_fragments}
 use Rattle.rule_selections.specs.Settled.{StandIn}
 use Rattle.rule_selections.proofs.settled.settled_fragments.Given as goal

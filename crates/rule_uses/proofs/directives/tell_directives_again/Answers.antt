@@ -7,7 +7,7 @@ use Rattle.rule_values.specs.in_schema.SchemaOf.{schema_tree}
 use Rattle.rule_values.specs.in_fault_data.FaultView.{faults_of}
 use Rattle.rule_values.specs.in_rule_definitions.Names.{directive_name}
 use Rattle.rule_values.specs.Firsts.{first_told}
-use Rattle.rule_values.proofs.Noted.{noted_next}
+use Rattle.rule_values.proofs.in_inputs.Noted.{noted_next}
 use Rattle.rule_uses.specs.Trees.{directives_of}
 use Rattle.rule_uses.specs.UseFaults.{repeated_directive}
 use Rattle.rule_uses.proofs.Again.{directive_again_is}

@@ -3,7 +3,7 @@ use Rattle.graphql_names.specs.Placed.{node_tree}
 use Rattle.tree_directives.specs.DirectiveTree.{argument_tree}
 use Rattle.tree_directives.specs.declared.directive.Argument.{Argument}
 use Rattle.rule_values.specs.in_rule_definitions.Names.{argument_name}
-use Rattle.rule_values.proofs.Noted.{noted_next}
+use Rattle.rule_values.proofs.in_inputs.Noted.{noted_next}
 use Rattle.rule_uses.proofs.given.argument_numbers.Goals as goal
 
 pub loop-index-preserved : goal.loop-index-preserved

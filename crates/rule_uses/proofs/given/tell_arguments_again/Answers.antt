@@ -5,7 +5,7 @@ use Rattle.tree_directives.specs.declared.directive.Argument.{Argument}
 use Rattle.rule_values.specs.in_fault_data.FaultView.{faults_of}
 use Rattle.rule_values.specs.in_rule_definitions.Names.{argument_name}
 use Rattle.rule_values.specs.Firsts.{first_told}
-use Rattle.rule_values.proofs.Noted.{noted_next}
+use Rattle.rule_values.proofs.in_inputs.Noted.{noted_next}
 use Rattle.rule_uses.specs.Trees.{arguments_of}
 use Rattle.rule_uses.specs.UseFaults.{repeated_argument}
 use Rattle.rule_uses.proofs.Again.{argument_again_is}

@@ -7,4 +7,4 @@ use Rattle.rule_uses.specs.UseFaults.{required_argument}
 use Rattle.rule_uses.proofs.taken.tell_required_arguments.Given as goal
 
 abbrev pub invariant-loop-definition : goal.invariant-loop-definition
-invariant-loop-definition l = faults_of l.faults ≡ faults_of l.fn.faults ++ flat_map (required_argument (taker_of l.taker)) (input_value_trees (take l.definition-index l.taker.definitions.now))
+invariant-loop-definition l = faults_of l.faults ≡ faults_of l.fn.faults ++ flat_map (required_argument (taker_of l.taker)) (input_value_trees (take l.definition-index l.definitions))

@@ -2,7 +2,7 @@ use Rattle.std.proofs.Common.{◌∙◌}
 use Rattle.graphql_names.specs.Placed.{node_tree}
 use Rattle.tree_operations.specs.OperationTree.{variable_definition_tree}
 use Rattle.fault_data.specs.in_rule_definitions.Names.{defined_name}
-use Rattle.rule_values.proofs.Noted.{taken, number_absent, number_there}
+use Rattle.schema_inputs.proofs.Noted.{taken, number_absent, number_there}
 use Rattle.rule_values.proofs.defined.find_numbered.Goals as goal
 
 pub returns-in-None : goal.returns-in-None

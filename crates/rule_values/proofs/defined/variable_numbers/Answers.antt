@@ -3,7 +3,7 @@ use Rattle.graphql_names.specs.Placed.{node_tree}
 use Rattle.tree_operations.specs.OperationTree.{variable_definition_tree}
 use Rattle.tree_operations.specs.declared.operation.VariableDefinition.{VariableDefinition}
 use Rattle.fault_data.specs.in_rule_definitions.Names.{defined_name}
-use Rattle.rule_values.proofs.Noted.{noted_next}
+use Rattle.schema_inputs.proofs.Noted.{noted_next}
 use Rattle.rule_values.proofs.defined.variable_numbers.Goals as goal
 
 pub loop-index-preserved : goal.loop-index-preserved

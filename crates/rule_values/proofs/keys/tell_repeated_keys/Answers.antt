@@ -3,7 +3,7 @@ use Rattle.graphql_names.specs.Placed.{name_tree}
 use Rattle.tree_literals.specs.ValueTree.{value_tree, entry_trees}
 use Rattle.fault_data.specs.FaultView.{faults_of}
 use Rattle.rule_values.specs.KeyFaults.{repeated_keys}
-use Rattle.rule_values.proofs.Noted.{noted_next}
+use Rattle.schema_inputs.proofs.Noted.{noted_next}
 use Rattle.rule_values.proofs.NotedKeys.{keys_more}
 use Rattle.rule_values.proofs.keys.tell_repeated_keys.Goals as goal
 

@@ -3,7 +3,7 @@ use Rattle.tree_literals.specs.ValueTree.{value_tree, entry_trees}
 use Rattle.fault_data.specs.FaultView.{faults_of}
 use Rattle.rule_values.proofs.EntryKeys.{keys_of_entries}
 use Rattle.rule_values.specs.KeyFaults.{repeated_keys}
-use Rattle.rule_values.specs.Firsts.{AreFirsts}
+use Rattle.schema_inputs.specs.Firsts.{AreFirsts}
 use Rattle.rule_values.proofs.keys.tell_repeated_keys.Given as goal
 
 abbrev pub invariant-loop-entry : goal.invariant-loop-entry

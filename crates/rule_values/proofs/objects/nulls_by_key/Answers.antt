@@ -2,7 +2,7 @@ use Rattle.std.proofs.Common.{◌<◌, length, refl, ap, ◌∙◌, arith}
 use Rattle.graphql_names.specs.Node.{content}
 use Rattle.tree_literals.specs.ValueTree.{value_tree}
 use Rattle.tree_literals.specs.ValueQueries.{is_null_value}
-use Rattle.rule_values.proofs.Noted.{noted_next}
+use Rattle.schema_inputs.proofs.Noted.{noted_next}
 use Rattle.rule_values.proofs.objects.nulls_by_key.Goals as goal
 
 pub loop-entry-preserved : goal.loop-entry-preserved

@@ -1,6 +1,6 @@
 use Rattle.std.proofs.Common.{take}
 use Rattle.rule_values.specs.Wanting.{nulls_of}
-use Rattle.rule_values.specs.Firsts.{AreFirsts}
+use Rattle.schema_inputs.specs.Firsts.{AreFirsts}
 use Rattle.rule_values.proofs.objects.nulls_by_key.Given as goal
 
 abbrev pub invariant-loop-entry : goal.invariant-loop-entry

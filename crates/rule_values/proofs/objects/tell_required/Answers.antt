@@ -19,7 +19,7 @@ returns c =
     let p = c.args.location in
     let told = faults_of c.args.faults.now in
     let missing : (k : NameValue) → is_not_provided c.in_ok-nulls.nulls k ≡ is_missing_entry k.text es = λ k. ap (λ o. option_map_or (λ is_null. is_null) o true) (c.in_ok-nulls.ensures k) ∙ nulls_are c.args.entries.now k.text in
-    on_ok_weaker c.tell_each_required.result
-    (λ e. e ∙ (λ i. told ++ required_among (λ k. missing k i) n p c.args.fields.now.entries)
-    ∙ ap (λ l. told ++ l) (sym (each_first_all (required_field n p es) (component_tree input_value_tree) c.args.fields.now.entries c.len.ensures.unique)))
-    c.tell_each_required.ensures
+    on_ok_weaker c.tell_required_of.result
+    (λ e. e ∙ (λ i. told ++ required_among (λ k. missing k i) n p c.args.fields.now.all.now.entries)
+    ∙ ap (λ l. told ++ l) (sym (each_first_all (required_field n p es) (component_tree input_value_tree) c.args.fields.now.all.now.entries c.len.ensures.unique)))
+    c.tell_required_of.ensures

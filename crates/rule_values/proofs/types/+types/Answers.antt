@@ -8,7 +8,7 @@ use Rattle.graphql_schema.specs.in_schema_types.TypeView.{extended_type}
 use Rattle.rule_values.specs.Wanting.{variables_of}
 use Rattle.rule_values.specs.ValueFaults.{item_faults, entry_faults}
 use Rattle.rule_values.proofs.Looping.{items_more}
-use Rattle.rule_values.proofs.Noted.{noted_next}
+use Rattle.schema_inputs.proofs.Noted.{noted_next}
 use Rattle.rule_values.proofs.NotedKeys.{entry_again, entry_first}
 use Rattle.rule_values.proofs.types.+types.Goals as goal
 use Rattle.rule_values.proofs.types.+types.Goals.{tell_entries-then-is_none+in_ok-tell_entry, tell_entries-else-is_none}

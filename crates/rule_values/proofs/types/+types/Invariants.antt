@@ -6,7 +6,7 @@ use Rattle.graphql_schema.specs.in_schema_types.TypeView.{extended_type}
 use Rattle.fault_data.specs.FaultView.{faults_of}
 use Rattle.rule_values.specs.Wanting.{variables_of}
 use Rattle.rule_values.proofs.EntryKeys.{keys_of_entries}
-use Rattle.rule_values.specs.Firsts.{AreFirsts}
+use Rattle.schema_inputs.specs.Firsts.{AreFirsts}
 use Rattle.rule_values.specs.ValueFaults.{item_faults, entry_faults}
 use Rattle.rule_values.proofs.types.+types.Given as goal
 

@@ -3,7 +3,7 @@ use Rattle.std.proofs.lemmas.Result.{on_ok_weaker}
 use Rattle.graphql_names.specs.Placed.{Place, node_tree}
 use Rattle.document_typed_operations.specs.TypedDocument.{typed_operation_tree}
 use Rattle.document_typed_operations.specs.declared.operation.Operation.{Operation}
-use Rattle.rule_document_ground.specs.in_typing.DocumentView.{meant_by_operation}
+use Rattle.rule_document_ground.specs.in_typed_operations.DocumentView.{meant_by_operation}
 use Rattle.rule_definitions.specs.Words.{AtSomeIndex}
 use Rattle.rule_definitions.specs.GivenValues.{Variables}
 use Rattle.rule_document_ground.specs.in_schema.SchemaOf.{schema_tree}

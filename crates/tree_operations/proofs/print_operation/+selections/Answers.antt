@@ -1,7 +1,7 @@
 use Rattle.std.proofs.Common.{arith, rules, ◌<◌, length}
 use Rattle.std.proofs.lemmas.Grind.{common_steps}
 use Rattle.std.specs.Option.{option_copied}
-use Rattle.tree_literals.specs.Levels.{level_depth}
+use Rattle.tree_directives.specs.in_literals.Levels.{level_depth}
 use Rattle.tree_operations.proofs.PrintedSelections.{members_put, set-some}
 use Rattle.tree_operations.proofs.print_operation.+selections.Goals as goal
 

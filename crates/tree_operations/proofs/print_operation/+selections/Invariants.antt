@@ -1,8 +1,8 @@
 use Rattle.std.proofs.Common.{map, take}
 use Rattle.std.specs.Option.{option_copied}
 use Rattle.tree_operations.specs.SelectionTree.{selection_tree}
-use Rattle.tree_literals.specs.Levels.{level_depth}
-use Rattle.tree_literals.specs.LineLayout.{members_text}
+use Rattle.tree_directives.specs.in_literals.Levels.{level_depth}
+use Rattle.tree_directives.specs.in_literals.LineLayout.{members_text}
 use Rattle.tree_operations.specs.OperationLayout.{selection_text}
 use Rattle.tree_operations.proofs.print_operation.+selections.Given as goal
 

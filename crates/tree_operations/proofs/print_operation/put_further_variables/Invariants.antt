@@ -1,8 +1,8 @@
 use Rattle.std.proofs.Common.{map, take, codes}
-use Rattle.tree_literals.specs.in_names.Placed.{node_tree}
+use Rattle.tree_directives.specs.in_literals.in_names.Placed.{node_tree}
 use Rattle.tree_operations.specs.OperationTree.{variable_definition_tree}
-use Rattle.tree_literals.specs.Joined.{further_text}
-use Rattle.tree_literals.specs.LineLayout.{texts_of}
+use Rattle.tree_directives.specs.in_literals.Joined.{further_text}
+use Rattle.tree_directives.specs.in_literals.LineLayout.{texts_of}
 use Rattle.tree_operations.specs.OperationLayout.{variable_text}
 use Rattle.tree_operations.proofs.print_operation.put_further_variables.Given as goal
 

@@ -1,5 +1,5 @@
 use Rattle.std.proofs.Common.{◌≡◌, map, drop}
-use Rattle.tree_literals.specs.in_names.Placed.{node_tree}
+use Rattle.tree_directives.specs.in_literals.in_names.Placed.{node_tree}
 use Rattle.tree_operations.specs.OperationTree.{variable_definition_tree}
 use Rattle.tree_operations.specs.OperationWritable.{variables_writable}
 use Rattle.tree_operations.proofs.writable_operation.variables_are_writable.Given as goal

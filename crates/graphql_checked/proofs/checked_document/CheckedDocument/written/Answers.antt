@@ -1,7 +1,7 @@
 use Rattle.std.proofs.Common.{subst}
 use Rattle.std.proofs.lemmas.Result.{IfOk-weaker}
 use Rattle.std.specs.Prelude.{string_bytes}
-use Rattle.checker_settings.specs.Layouts.{prefix_of}
+use Rattle.checker_calls.specs.Layouts.{prefix_of}
 use Rattle.graphql_checked.specs.CheckedView.{document_value}
 use Rattle.book_validity.specs.in_verdict_definitions.Answer.{WritesDocument}
 use Rattle.graphql_checked.proofs.Checking.{writes_document}

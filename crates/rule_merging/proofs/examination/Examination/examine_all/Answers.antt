@@ -1,48 +1,46 @@
-use Rattle.std.proofs.Common.{◌≡◌, ◌≤◌, ◌∙◌, List, Vec, Contains, [], ◌∷◌, map, sym, ap, subst, refl, append-nil, arith}
+use Rattle.std.proofs.Common.{◌≤◌, ◌∙◌, ℕ, List, Vec, Contains, [], ◌∷◌, map, sym, ap, subst, append-nil, arith}
 use Rattle.std.proofs.lemmas.Result.{IfOk-weaker}
 use Rattle.std.specs.declared.alloc.Global.{Global}
-use Rattle.rule_field_groups.specs.declared.below.SelectedSet.{SelectedSet}
 use Rattle.rule_merging.specs.declared.examination.Examination.{Examination}
 use Rattle.graphql_names.specs.Placed.{Place}
-use Rattle.document_meaning.specs.MeantTree.{MeantOperation}
-use Rattle.rule_definitions.proofs.Lists.{not_in_nil}
-use Rattle.rule_document_definitions.specs.Limits.{chain_bound}
-use Rattle.rule_field_groups.specs.in_ground.Broken.{brokens_of}
-use Rattle.rule_field_groups.specs.Below.{meant_at}
-use Rattle.rule_merging.specs.Remembered.{account_of, kept_of}
+use Rattle.rule_field_groups.specs.in_meaning.MeantTree.{MeantOperation}
+use Rattle.rule_field_groups.proofs.in_definitions.Lists.{not_in_nil}
+use Rattle.rule_field_groups.specs.in_document_definitions.Limits.{chain_bound}
+use Rattle.rule_field_groups.specs.in_sets.in_ground.Broken.{brokens_of}
+use Rattle.rule_field_groups.specs.Remembered.{account_of, kept_of}
 use Rattle.rule_merging.specs.Counted.{AreListed}
-use Rattle.rule_merging.specs.Examined.{Sets, all_sets, sets_in, ExaminesSets, HaveFields, schema_of, document_of}
-use Rattle.rule_merging.proofs.Examining.{items_in, sets_at, emptied, SoFar, first_level, level_step, no_more_levels}
+use Rattle.rule_merging.specs.Examined.{ExaminesSets, HaveFields, schema_of, document_of, sets_of}
+use Rattle.rule_field_groups.specs.Under.{Sets, all_sets, sets_in}
+use Rattle.rule_field_groups.specs.Members.{meant_sets}
+use Rattle.rule_field_groups.specs.in_sets.Read.{set_at}
+use Rattle.rule_merging.proofs.Examining.{items_in, sets_at, as_sets, emptied, SoFar, first_level, level_step, no_more_levels}
 use Rattle.rule_merging.proofs.Counting.{grows_not, grows_with, listed_next}
 use Rattle.rule_merging.proofs.examination.Examination.examine_all.Goals as goal
 use Rattle.rule_merging.proofs.examination.Examination.examine_all.Goals.{then-loop-length-test+else-not-is_empty, else-loop-length-test}
 
--- lists of sets, what they hold first
-as_sets : (level : List (Vec SelectedSet Global)) → map sets_at level ≡ all_sets (map items_in level)
-as_sets [] = refl
-as_sets (v ∷ level) = ap (λ l. sets_at v ∷ l) (as_sets level)
-
-level_sets : (e : Examination) (os : List (MeantOperation Place)) (level : List (Vec SelectedSet Global)) → AreListed (document_of e) os (all_sets (map items_in level)) → AreListed (document_of e) os (map sets_at level)
-level_sets e os level listed = subst (AreListed (document_of e) os) (sym (as_sets level)) listed
+level_sets : (e : Examination) (os : List (MeantOperation Place)) (level : List (Vec ℕ Global)) → AreListed (document_of e) os (all_sets (sets_of e) (map items_in level)) → AreListed (document_of e) os (map (sets_at (sets_of e)) level)
+level_sets e os level listed = subst (AreListed (document_of e) os) (sym (as_sets (sets_of e) level)) listed
 
 pub returns-in_err-level-clause-counted : goal.returns-in_err-level-clause-counted
-returns-in_err-level-clause-counted c = grows_not (document_of c.args.self.now) (λ os. AreListed (document_of c.args.self.now) os ((meant_at c.args.start ∷ []) ∷ [])) c.args.self.now.pass (account_of c.args.examined.now)
+returns-in_err-level-clause-counted c =
+    let e = c.args.self.now in
+    grows_not (document_of e) (λ os. AreListed (document_of e) os ((set_at (sets_of e) c.args.start ∷ []) ∷ [])) e.pass (account_of (sets_of e) c.args.examined.now)
 
 pub loop-length-init : goal.loop-length-init
 loop-length-init c =
     let e = c.args.self.now in
-    let old = kept_of c.args.examined.now in
-    let first = c.in_ok-level.ensures in
+    let old = kept_of (sets_of e) c.args.examined.now in
+    let first = ap (map (meant_sets (sets_of e))) c.in_ok-level.ensures in
     record {
       examined = λ o is. (
         [],
         (
           sym (append-nil (brokens_of c.args.breaches.now)),
-          subst (SoFar e.pass (schema_of e) (document_of e) o old old 0 []) (sym first) (first_level e.pass (schema_of e) (document_of e) o (meant_at c.args.start) old is),
+          subst (SoFar e.pass (schema_of e) (document_of e) o old old 0 []) (sym first) (first_level e.pass (schema_of e) (document_of e) o (set_at (sets_of e) c.args.start) old is),
         ),
       );
       listed = λ os listed. subst (AreListed (document_of e) os) (sym first) listed;
-      counted = grows_not (document_of e) (λ os. AreListed (document_of e) os ((meant_at c.args.start ∷ []) ∷ [])) e.pass (account_of c.args.examined.now);
+      counted = grows_not (document_of e) (λ os. AreListed (document_of e) os ((set_at (sets_of e) c.args.start ∷ []) ∷ [])) e.pass (account_of (sets_of e) c.args.examined.now);
       short = omega arith;
     }
 
@@ -50,10 +48,10 @@ pub returns-in_err-level-2-clause-counted : goal.returns-in_err-level-2-clause-c
 returns-in_err-level-2-clause-counted c =
     let e = c.args.self.now in
     let d = document_of e in
-    grows_with d (λ os. AreListed d os ((meant_at c.args.start ∷ []) ∷ [])) (λ os. AreListed d os (map sets_at c.deref.result.now)) e.pass
-    (account_of c.args.examined.now) (account_of c.loop-length.examined) (account_of c.examine_level.new.examined)
+    grows_with d (λ os. AreListed d os ((set_at (sets_of e) c.args.start ∷ []) ∷ [])) (λ os. AreListed d os (map (sets_at (sets_of e)) c.deref.result.now)) e.pass
+    (account_of (sets_of e) c.args.examined.now) (account_of (sets_of e) c.loop-length.examined) (account_of (sets_of e) c.examine_level.new.examined)
     c.loop-length.invariant.counted
-    (λ os listed. subst (λ l. AreListed d os (map sets_at l)) (sym c.deref.ensures.value) (level_sets e os c.loop-length.level.items (c.loop-length.invariant.listed os listed)))
+    (λ os listed. subst (λ l. AreListed d os (map (sets_at (sets_of e)) l)) (sym c.deref.ensures.value) (level_sets e os c.loop-length.level.items (c.loop-length.invariant.listed os listed)))
     c.in_err-level-2.ensures.counted
 
 pub loop-length-preserved : goal.loop-length-preserved
@@ -61,23 +59,23 @@ loop-length-preserved c =
     let e = c.args.self.now in
     let s = schema_of e in
     let d = document_of e in
-    let start = kept_of c.args.examined.now in
-    let old = kept_of c.loop-length.examined in
-    let new = kept_of c.examine_level.new.examined in
-    let level = sets_in c.loop-length.level in
-    let next = sets_in c.in_ok-level-2.level in
+    let start = kept_of (sets_of e) c.args.examined.now in
+    let old = kept_of (sets_of e) c.loop-length.examined in
+    let new = kept_of (sets_of e) c.examine_level.new.examined in
+    let level = sets_in (sets_of e) c.loop-length.level in
+    let next = sets_in (sets_of e) c.in_ok-level-2.level in
     let inv = c.loop-length.invariant in
     let here : ExaminesSets e level old new c.loop-length.breaches c.examine_level.new.breaches [] next =
-    subst (λ ls. ExaminesSets e ls old new c.loop-length.breaches c.examine_level.new.breaches [] next) (ap (map sets_at) c.deref.ensures.value ∙ as_sets c.loop-length.level.items) c.in_ok-level-2.ensures.examined in
+    subst (λ ls. ExaminesSets e ls old new c.loop-length.breaches c.examine_level.new.breaches [] next) (ap (map (sets_at (sets_of e))) c.deref.ensures.value ∙ as_sets (sets_of e) c.loop-length.level.items) c.in_ok-level-2.ensures.examined in
     record {
       examined = λ o is.
           level_step e.pass s d o (brokens_of c.args.breaches.now) (brokens_of c.loop-length.breaches) (brokens_of c.examine_level.new.breaches) start old new c.loop-length.length level next
           (inv.examined o is) here;
       listed = λ os listed. subst (AreListed d os) (sym here.1.1.1.0) (listed_next d os e.pass s level old new here.0 here.1.0 (inv.listed os listed) here.1.1.1.1);
-      counted = grows_with d (λ os. AreListed d os ((meant_at c.args.start ∷ []) ∷ [])) (λ os. AreListed d os (map sets_at c.deref.result.now)) e.pass
-          (account_of c.args.examined.now) (account_of c.loop-length.examined) (account_of c.examine_level.new.examined)
+      counted = grows_with d (λ os. AreListed d os ((set_at (sets_of e) c.args.start ∷ []) ∷ [])) (λ os. AreListed d os (map (sets_at (sets_of e)) c.deref.result.now)) e.pass
+          (account_of (sets_of e) c.args.examined.now) (account_of (sets_of e) c.loop-length.examined) (account_of (sets_of e) c.examine_level.new.examined)
           inv.counted
-          (λ os listed. subst (λ l. AreListed d os (map sets_at l)) (sym c.deref.ensures.value) (level_sets e os c.loop-length.level.items (inv.listed os listed)))
+          (λ os listed. subst (λ l. AreListed d os (map (sets_at (sets_of e)) l)) (sym c.deref.ensures.value) (level_sets e os c.loop-length.level.items (inv.listed os listed)))
           c.in_ok-level-2.ensures.counted;
       short = omega arith;
     }
@@ -86,9 +84,9 @@ pub returns-clause-examined : goal.returns-clause-examined
 returns-clause-examined c =
     let e = c.args.self.now in
     let level = c.loop-length.level in
-    let long : (sets : Sets) → Contains (sets_in level) sets → chain_bound ≤ c.loop-length.length = λ sets there. elim c.loop-length-test.branch [
+    let long : (sets : Sets) → Contains (sets_in (sets_of e) level) sets → chain_bound ≤ c.loop-length.length = λ sets there. elim c.loop-length-test.branch [
       | then-loop-length-test+else-not-is_empty w ↦
-          not_in_nil sets (subst (λ l. Contains l sets) (ap (map sets_at) (emptied level.items level.len level.ok.0 (sym w.is_empty.ensures ∙ w.if-not-is_empty.false))) (subst (λ l. Contains l sets) (sym (as_sets level.items)) there))
+          not_in_nil sets (subst (λ l. Contains l sets) (ap (map (sets_at (sets_of e))) (emptied level.items level.len level.ok.0 (sym w.is_empty.ensures ∙ w.if-not-is_empty.false))) (subst (λ l. Contains l sets) (sym (as_sets (sets_of e) level.items)) there))
       | else-loop-length-test w ↦ omega (arith, w.loop-length-test.false)
     ] in
     IfOk-weaker c.have_fields.result _ _
@@ -97,8 +95,8 @@ returns-clause-examined c =
       t.0,
       (
         t.1.0,
-        no_more_levels e.pass (schema_of e) (document_of e) o (kept_of c.args.examined.now) (kept_of c.loop-length.examined) c.loop-length.length t.0 (sets_in level) left t.1.1
-            (subst (HaveFields (document_of e) left) (ap (map sets_at) c.deref-2.ensures.value ∙ as_sets level.items) h) long,
+        no_more_levels e.pass (schema_of e) (document_of e) o (kept_of (sets_of e) c.args.examined.now) (kept_of (sets_of e) c.loop-length.examined) c.loop-length.length t.0 (sets_in (sets_of e) level) left t.1.1
+            (subst (HaveFields (document_of e) left) (ap (map (sets_at (sets_of e))) c.deref-2.ensures.value ∙ as_sets (sets_of e) level.items) h) long,
       ),
     ))
     c.have_fields.ensures

@@ -1,21 +1,22 @@
 use Rattle.std.proofs.Common.{◌≡◌, ◌∷◌, [], ◌≤◌, ◌++◌, ◌-◌, List}
 use Rattle.graphql_names.specs.Placed.{Place}
-use Rattle.rule_document_definitions.specs.DocumentFaults.{Broken}
-use Rattle.document_meaning.specs.MeantTree.{MeantOperation}
-use Rattle.rule_field_groups.specs.in_ground.Broken.{brokens_of}
+use Rattle.rule_field_groups.specs.in_document_definitions.DocumentFaults.{Broken}
+use Rattle.rule_field_groups.specs.in_meaning.MeantTree.{MeantOperation}
+use Rattle.rule_field_groups.specs.in_sets.in_ground.Broken.{brokens_of}
 use Rattle.rule_merging.specs.Counted.{AreListed}
-use Rattle.rule_field_groups.specs.Below.{meant_at}
-use Rattle.rule_merging.specs.Remembered.{kept_of}
-use Rattle.rule_merging.specs.Examined.{sets_in, schema_of, document_of, GrowsOver}
+use Rattle.rule_field_groups.specs.Remembered.{kept_of}
+use Rattle.rule_field_groups.specs.in_sets.Read.{set_at}
+use Rattle.rule_field_groups.specs.Under.{sets_in}
+use Rattle.rule_merging.specs.Examined.{schema_of, document_of, sets_of, GrowsOver}
 use Rattle.rule_merging.proofs.Examining.{SoFar}
 use Rattle.rule_merging.proofs.examination.Examination.examine_all.Given as goal
 
 abbrev pub invariant-loop-length : goal.invariant-loop-length
 invariant-loop-length l = record {
-  examined : (o : MeantOperation Place) → o.set ≡ meant_at l.fn.start → (added : List (Broken Place)) × ((brokens_of l.breaches ≡ brokens_of l.fn.breaches ++ added)
-      × SoFar l.self.pass (schema_of l.self) (document_of l.self) o (kept_of l.fn.examined) (kept_of l.examined) l.length added (sets_in l.level));
-  listed : (os : List (MeantOperation Place)) → AreListed (document_of l.self) os ((meant_at l.fn.start ∷ []) ∷ []) → AreListed (document_of l.self) os (sets_in l.level);
-  counted : GrowsOver l.self ((meant_at l.fn.start ∷ []) ∷ []) l.fn.examined l.examined;
+  examined : (o : MeantOperation Place) → o.set ≡ set_at (sets_of l.self) l.fn.start → (added : List (Broken Place)) × ((brokens_of l.breaches ≡ brokens_of l.fn.breaches ++ added)
+      × SoFar l.self.pass (schema_of l.self) (document_of l.self) o (kept_of (sets_of l.self) l.fn.examined) (kept_of (sets_of l.self) l.examined) l.length added (sets_in (sets_of l.self) l.level));
+  listed : (os : List (MeantOperation Place)) → AreListed (document_of l.self) os ((set_at (sets_of l.self) l.fn.start ∷ []) ∷ []) → AreListed (document_of l.self) os (sets_in (sets_of l.self) l.level);
+  counted : GrowsOver l.self ((set_at (sets_of l.self) l.fn.start ∷ []) ∷ []) l.fn.examined l.examined;
   short : l.length ≤ 128;
 }
 

@@ -3,11 +3,11 @@ use Rattle.std.proofs.lemmas.List.{take-append-drop}
 use Rattle.std.proofs.lemmas.List.Elements.{Contains-append_left}
 use Rattle.std.proofs.Common.{List, drop, ◌<◌, ◌+◌, ◌∷◌, [], take, length, sym, ap, subst, arith, inl, inr}
 use Rattle.std.proofs.lemmas.List.{take_all}
-use Rattle.rule_definitions.proofs.Lists.{not_in_nil, only, Contains-first}
-use Rattle.rule_field_groups.specs.in_ground.Broken.{brokens_of}
+use Rattle.rule_field_groups.proofs.in_definitions.Lists.{not_in_nil, only, Contains-first}
+use Rattle.rule_field_groups.specs.in_sets.in_ground.Broken.{brokens_of}
 use Rattle.rule_field_groups.specs.Under.{sets_in}
-use Rattle.rule_merging.specs.Remembered.{account_of, kept_of}
-use Rattle.rule_merging.specs.Examined.{schema_of, document_of}
+use Rattle.rule_field_groups.specs.Remembered.{account_of, kept_of}
+use Rattle.rule_merging.specs.Examined.{schema_of, document_of, sets_of}
 use Rattle.rule_merging.specs.Twos.{are_of, PairsFields}
 use Rattle.rule_merging.proofs.Pairing.{told_none, told_both, told_early, brokens_long, front_of, of_front}
 use Rattle.rule_merging.proofs.Counting.{grows_not, grows_with}
@@ -20,25 +20,33 @@ whole xs i x c = subst (λ l. Contains l x) (take-append-drop i xs) (Contains-ap
 pub loop-one-init : goal.loop-one-init
 loop-one-init c =
     let e = c.args.self.now in
+    let w = sets_of e in
     record {
-      examined = told_none e.pass (schema_of e) (document_of e) (are_of (take 0 c.args.ones.now) c.args.others.now) (λ p q w. not_in_nil p w.0.0) (kept_of c.args.examined.now) (brokens_of c.args.breaches.now) (sets_in c.args.examined.now.next);
-      counted = grows_not (document_of e) _ e.pass (account_of c.args.examined.now);
+      examined = told_none e.pass (schema_of e) (document_of e) (are_of (take 0 c.args.ones.now) c.args.others.now) (λ p q w. not_in_nil p w.0.0) (kept_of w c.args.examined.now) (brokens_of c.args.breaches.now) (sets_in w c.args.examined.now.next);
+      counted = grows_not (document_of e) _ e.pass (account_of w c.args.examined.now);
     }
+
+pub examine_with_each-requires-clause-one : goal.examine_with_each-requires-clause-one
+examine_with_each-requires-clause-one c =
+    let h : c.loop-one.one-index < length c.args.ones.now = omega arith in
+    c.requires.ones c.one-item.result (c.loop-one.one-index, h, sym c.one-item.is)
 
 pub returns-in_err-examine_with_each-clause-counted : goal.returns-in_err-examine_with_each-clause-counted
 returns-in_err-examine_with_each-clause-counted c =
     let e = c.args.self.now in
+    let w = sets_of e in
     let d = document_of e in
     let xs = c.args.ones.now in
     let x = c.one-item.result in
     let i = c.loop-one.one-index in
     let h : i < length xs = omega arith in
-    grows_with d _ _ e.pass (account_of c.args.examined.now) (account_of c.loop-one.examined) (account_of c.examine_with_each.new.examined)
+    grows_with d _ _ e.pass (account_of w c.args.examined.now) (account_of w c.loop-one.examined) (account_of w c.examine_with_each.new.examined)
     c.loop-one.invariant.counted (λ os given p q w. given p q (subst (Contains xs) (sym (only x p w.0)) (i, h, sym c.one-item.is), w.1)) c.in_err-examine_with_each.ensures.counted
 
 pub loop-one-preserved : goal.loop-one-preserved
 loop-one-preserved c =
     let e = c.args.self.now in
+    let w = sets_of e in
     let d = document_of e in
     let xs = c.args.ones.now in
     let x = c.one-item.result in
@@ -46,15 +54,15 @@ loop-one-preserved c =
     let h : i < length xs = omega arith in
     record {
       examined = told_both e.pass (schema_of e) d (are_of (take i c.args.ones.now) c.args.others.now) (are_of (x ∷ []) c.args.others.now) (are_of (take (i + 1) c.args.ones.now) c.args.others.now) (λ p q w. elim w [ inl a ↦ (of_front xs i x h c.one-item.is p (inl a.0), a.1) | inr b ↦ (of_front xs i x h c.one-item.is p (inr (only x p b.0)), b.1) ]) (λ p q w. elim (front_of xs i x h c.one-item.is p w.0) [ inl a ↦ inl (a, w.1) | inr b ↦ inr (Contains-first x [] p (sym b), w.1) ])
-          (kept_of c.args.examined.now) (kept_of c.loop-one.examined) (kept_of c.examine_with_each.new.examined) (brokens_of c.args.breaches.now) (brokens_of c.loop-one.breaches) (brokens_of c.examine_with_each.new.breaches)
-          (sets_in c.args.examined.now.next) (sets_in c.loop-one.examined.next) (sets_in c.examine_with_each.new.examined.next) c.loop-one.invariant.examined c.in_ok-examine_with_each.ensures.examined;
-      counted = grows_with d _ _ e.pass (account_of c.args.examined.now) (account_of c.loop-one.examined) (account_of c.examine_with_each.new.examined)
+          (kept_of w c.args.examined.now) (kept_of w c.loop-one.examined) (kept_of w c.examine_with_each.new.examined) (brokens_of c.args.breaches.now) (brokens_of c.loop-one.breaches) (brokens_of c.examine_with_each.new.breaches)
+          (sets_in w c.args.examined.now.next) (sets_in w c.loop-one.examined.next) (sets_in w c.examine_with_each.new.examined.next) c.loop-one.invariant.examined c.in_ok-examine_with_each.ensures.examined;
+      counted = grows_with d _ _ e.pass (account_of w c.args.examined.now) (account_of w c.loop-one.examined) (account_of w c.examine_with_each.new.examined)
           c.loop-one.invariant.counted (λ os given p q w. given p q (subst (Contains xs) (sym (only x p w.0)) (i, h, sym c.one-item.is), w.1)) c.in_ok-examine_with_each.ensures.counted;
     }
 
 pub returns-clause-examined : goal.returns-clause-examined
 returns-clause-examined c =
-    subst (λ l. PairsFields c.args.self.now (are_of l c.args.others.now) (kept_of c.args.examined.now) (kept_of c.loop-one.examined) c.args.breaches.now c.loop-one.breaches (sets_in c.args.examined.now.next) (sets_in c.loop-one.examined.next))
+    subst (λ l. PairsFields c.args.self.now (are_of l c.args.others.now) (kept_of (sets_of c.args.self.now) c.args.examined.now) (kept_of (sets_of c.args.self.now) c.loop-one.examined) c.args.breaches.now c.loop-one.breaches (sets_in (sets_of c.args.self.now) c.args.examined.now.next) (sets_in (sets_of c.args.self.now) c.loop-one.examined.next))
     (take_all c.loop-one.one-index c.args.ones.now c.loop-one-test.false) c.loop-one.invariant.examined
 
 pub returns-clause-counted : goal.returns-clause-counted
@@ -63,9 +71,10 @@ returns-clause-counted c = c.loop-one.invariant.counted
 pub returns-then-is_told-clause-examined : goal.returns-then-is_told-clause-examined
 returns-then-is_told-clause-examined c =
     let e = c.args.self.now in
+    let w = sets_of e in
     let i = c.loop-one.one-index in
     told_early e.pass (schema_of e) (document_of e) (are_of (take i c.args.ones.now) c.args.others.now) (are_of c.args.ones.now c.args.others.now) (λ p q w. (whole c.args.ones.now i p w.0, w.1))
-    (kept_of c.args.examined.now) (kept_of c.loop-one.examined) (brokens_of c.args.breaches.now) (brokens_of c.loop-one.breaches) (sets_in c.args.examined.now.next) (sets_in c.loop-one.examined.next)
+    (kept_of w c.args.examined.now) (kept_of w c.loop-one.examined) (brokens_of c.args.breaches.now) (brokens_of c.loop-one.breaches) (sets_in w c.args.examined.now.next) (sets_in w c.loop-one.examined.next)
     (brokens_long c.args.breaches.now c.loop-one.breaches (omega (arith, c.len-told.ensures, c.is_told.ensures c.if-is_told.true, ap length c.deref.ensures.value))) c.loop-one.invariant.examined
 
 pub returns-then-is_told-clause-counted : goal.returns-then-is_told-clause-counted

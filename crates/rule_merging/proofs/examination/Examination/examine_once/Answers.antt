@@ -1,14 +1,14 @@
-use Rattle.std.proofs.Common.{◌∙◌, ◌∷◌, [], true, false, map, ap, sym, subst, append-nil}
-use Rattle.rule_number_lists.specs.Numbered.{at_places}
-use Rattle.rule_number_lists.specs.ListMemory.{items_of, numbers_kept}
-use Rattle.rule_field_groups.specs.in_ground.Broken.{brokens_of}
-use Rattle.rule_field_groups.specs.Below.{meant_sets, plain_sets}
+use Rattle.std.proofs.Common.{◌∙◌, ◌∷◌, [], true, false, map, ap, sym, subst}
+use Rattle.rule_field_groups.specs.in_sets.in_ground.Broken.{brokens_of}
+use Rattle.rule_number_lists.specs.NumberLists.{lists_kept}
+use Rattle.rule_field_groups.specs.in_sets.Read.{set_content_at}
+use Rattle.rule_field_groups.specs.Members.{meant_sets, read_sets}
+use Rattle.rule_field_groups.specs.Under.{sets_in}
 use Rattle.rule_merging.specs.Counted.{AreListed, Grows}
-use Rattle.rule_merging.specs.Remembered.{account_of, kept_of}
-use Rattle.rule_merging.specs.Examined.{sets_in, schema_of, document_of}
-use Rattle.rule_merging.specs.declared.remembered.Remembered.{Remembered}
-use Rattle.rule_merging.proofs.Examining.{SetsTold, known_sets, looked_then}
-use Rattle.rule_merging.proofs.Remembering.{Expands, expands}
+use Rattle.rule_field_groups.specs.Remembered.{account_of, kept_of, Expands}
+use Rattle.rule_merging.specs.Examined.{schema_of, document_of, sets_of}
+use Rattle.rule_field_groups.specs.declared.remembered.Remembered.{Remembered}
+use Rattle.rule_merging.proofs.Examining.{SetsTold, looked_then, looked_before}
 use Rattle.rule_merging.proofs.Counting.{Premise, grows_same}
 use Rattle.rule_merging.proofs.examination.Examination.examine_once.Goals.{then-branch+in_ok-examine_paid, else-branch}
 use Rattle.rule_merging.proofs.examination.Examination.examine_once.Goals as goal
@@ -18,45 +18,42 @@ returns-clause-examined c =
     let e = c.args.self.now in
     let s = schema_of e in
     let d = document_of e in
-    let sets = meant_sets c.args.sets.now in
-    let base = kept_of c.args.examined.now in
+    let w = sets_of e in
+    let sets = meant_sets w c.args.nodes.now in
+    let base = kept_of w c.args.examined.now in
     let told = brokens_of c.args.breaches.now in
-    let next = sets_in c.args.examined.now.next in
-    let taken = c.replace-expanded.result in
-    let now = c.remember.new.self in
-    let at_now = map (at_places (plain_sets (meant_sets (items_of now)))) (numbers_kept now) in
-    let is_new = c.in_ok-remember.field-0 in
-    let r = c.in_ok-remember.ensures.remembers in
-    let here : Expands base (plain_sets sets) is_new (record base { expanded = at_now }) =
-    subst (λ m. Expands (record base { expanded = map (at_places (plain_sets (meant_sets (items_of m)))) (numbers_kept m) }) (plain_sets sets) is_new (record base { expanded = at_now })) c.replace-expanded.ensures.value
-    (expands base (items_of taken) (items_of now) (numbers_kept taken) (numbers_kept now) c.args.sets.now r.0 is_new c.in_ok-remember.ensures.grown taken.within r.1.0 r.1.1) in
+    let next = sets_in w c.args.examined.now.next in
+    let now = map (map (set_content_at w)) (lists_kept c.expand.new.expanded) in
+    let is_new = c.in_ok-expand.field-0 in
+    let here : Expands base.expanded (read_sets sets) is_new now =
+    subst (λ m. Expands (map (map (set_content_at w)) (lists_kept m)) (read_sets sets) is_new now) c.replace-expanded.ensures.value c.in_ok-expand.ensures.expands in
     elim c.if-branch.branch [
-      | then-branch+in_ok-examine_paid w ↦
-          let mid = kept_of w.examine_paid.new.examined in
-          let later = brokens_of w.examine_paid.new.breaches in
-          let last = sets_in w.examine_paid.new.examined.next in
-          let fresh : Expands base (plain_sets sets) true (record base { expanded = at_now }) = subst (λ b. Expands base (plain_sets sets) b (record base { expanded = at_now })) w.if-branch.true here in
-          let none = ap (λ m. map (at_places (plain_sets (meant_sets (items_of m)))) (numbers_kept m)) c.replace-expanded.ensures.after
-          ∙ ap (map (at_places (plain_sets (meant_sets (items_of c.new-none.result))))) c.new-none.ensures.lists in
+      | then-branch+in_ok-examine_paid b ↦
+          let mid = kept_of w b.examine_paid.new.examined in
+          let later = brokens_of b.examine_paid.new.breaches in
+          let last = sets_in w b.examine_paid.new.examined.next in
+          let fresh : Expands base.expanded (read_sets sets) true now = subst (λ n. Expands base.expanded (read_sets sets) n now) b.if-branch.true here in
+          let none = ap (λ m. map (map (set_content_at w)) (lists_kept m)) c.replace-expanded.ensures.after ∙ ap (map (map (set_content_at w))) c.new.ensures in
           let apart : SetsTold e.pass s d told later (record base { expanded = [] }) mid next last (sets ∷ []) =
-          subst (λ ls. SetsTold e.pass s d told later (record base { expanded = ls }) mid next last (sets ∷ [])) none w.in_ok-examine_paid.ensures.examined in
-          subst (λ b. SetsTold e.pass s d told (brokens_of b) base (record (kept_of c.if-branch.examined) { expanded = at_now }) next (sets_in c.if-branch.examined.next) (sets ∷ [])) (sym w.breaches-is)
-          (subst (λ (x : Remembered). SetsTold e.pass s d told later base (record (kept_of x) { expanded = at_now }) next (sets_in x.next) (sets ∷ [])) (sym w.examined-is)
-          (looked_then e.pass s d sets base mid at_now told later next last fresh apart))
-      | else-branch w ↦
-          let known : Expands base (plain_sets sets) false (record base { expanded = at_now }) = subst (λ b. Expands base (plain_sets sets) b (record base { expanded = at_now })) w.if-branch.false here in
-          subst (λ b. SetsTold e.pass s d told (brokens_of b) base (record (kept_of c.if-branch.examined) { expanded = at_now }) next (sets_in c.if-branch.examined.next) (sets ∷ [])) (sym w.breaches-is)
-          (subst (λ (x : Remembered). SetsTold e.pass s d told told base (record (kept_of x) { expanded = at_now }) next (sets_in x.next) (sets ∷ [])) (sym w.examined-is)
-          ([], ([], (sym (append-nil told), (sym (append-nil next), known_sets e.pass s d sets base (record base { expanded = at_now }) known.0 known.1)))))
+          subst (λ ls. SetsTold e.pass s d told later (record base { expanded = ls }) mid next last (sets ∷ [])) none b.in_ok-examine_paid.ensures.examined in
+          subst (λ l. SetsTold e.pass s d told (brokens_of l) base (record (kept_of w c.if-branch.examined) { expanded = now }) next (sets_in w c.if-branch.examined.next) (sets ∷ [])) (sym b.breaches-is)
+          (subst (λ (x : Remembered). SetsTold e.pass s d told later base (record (kept_of w x) { expanded = now }) next (sets_in w x.next) (sets ∷ [])) (sym b.examined-is)
+          (looked_then e.pass s d sets base mid now told later next last fresh apart))
+      | else-branch b ↦
+          let known : Expands base.expanded (read_sets sets) false now = subst (λ n. Expands base.expanded (read_sets sets) n now) b.if-branch.false here in
+          subst (λ l. SetsTold e.pass s d told (brokens_of l) base (record (kept_of w c.if-branch.examined) { expanded = now }) next (sets_in w c.if-branch.examined.next) (sets ∷ [])) (sym b.breaches-is)
+          (subst (λ (x : Remembered). SetsTold e.pass s d told told base (record (kept_of w x) { expanded = now }) next (sets_in w x.next) (sets ∷ [])) (sym b.examined-is)
+          (looked_before e.pass s d sets base now told next known))
     ]
 
 pub returns-clause-counted : goal.returns-clause-counted
 returns-clause-counted c =
     let e = c.args.self.now in
     let d = document_of e in
-    let Given : Premise d = λ os. AreListed d os (meant_sets c.args.sets.now ∷ []) in
-    let old = account_of c.args.examined.now in
+    let w = sets_of e in
+    let Given : Premise d = λ os. AreListed d os (meant_sets w c.args.nodes.now ∷ []) in
+    let old = account_of w c.args.examined.now in
     elim c.if-branch.branch [
-      | then-branch+in_ok-examine_paid w ↦ subst (λ (x : Remembered). Grows d Given e.pass old (account_of x)) (sym w.examined-is) w.in_ok-examine_paid.ensures.counted
-      | else-branch w ↦ grows_same d Given e.pass old (account_of c.if-branch.examined) (ap account_of w.examined-is)
+      | then-branch+in_ok-examine_paid b ↦ subst (λ (x : Remembered). Grows d Given e.pass old (account_of w x)) (sym b.examined-is) b.in_ok-examine_paid.ensures.counted
+      | else-branch b ↦ grows_same d Given e.pass old (account_of w c.if-branch.examined) (ap (account_of w) b.examined-is)
     ]

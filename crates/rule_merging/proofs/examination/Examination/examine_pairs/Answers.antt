@@ -1,101 +1,152 @@
-use Rattle.std.proofs.Common.{◌≡◌, ◌∙◌, ◌<◌, ◌≤◌, ◌+◌, ℕ, List, ◌∷◌, ◌++◌, [], Contains, length, map, get_or, refl, sym, ap, subst, append-nil, arith}
-use Rattle.std.proofs.lemmas.List.{length-map, length-append, get_or-map}
+use Rattle.std.proofs.Common.{◌≡◌, ◌∙◌, ◌<◌, ◌+◌, ◌-◌, ◌^◌, List, ◌∷◌, ◌++◌, [], Option, Some, Contains, length, map, refl, sym, ap, subst, append-nil, arith}
+use Rattle.std.specs.Prelude.{option_to_list}
+use Rattle.std.proofs.lemmas.List.{length-map, length-append, map-append, nil_from_length}
+use Rattle.std.proofs.lemmas.List.Elements.{Contains-append_right}
 use Rattle.graphql_names.specs.Placed.{Place}
-use Rattle.document_meaning.specs.MeantTree.{MeantOperation, MeantDocument}
-use Rattle.rule_definitions.proofs.Lists.{only}
-use Rattle.rule_field_groups.specs.in_ground.Broken.{brokens_of}
+use Rattle.rule_field_groups.specs.in_meaning.MeantTree.{MeantOperation, MeantDocument}
+use Rattle.rule_field_groups.proofs.in_definitions.Lists.{only, Contains-first}
+use Rattle.rule_number_lists.specs.NumberPairs.{pairs_kept}
+use Rattle.rule_field_groups.specs.in_sets.in_ground.Broken.{brokens_of}
+use Rattle.rule_field_groups.specs.in_sets.Read.{set_content_at}
+use Rattle.rule_field_groups.specs.in_sets.declared.field_sets.FieldSets.{FieldSets}
+use Rattle.rule_field_groups.specs.in_document_definitions.PlainFields.{IsSelected}
+use Rattle.rule_field_groups.specs.in_document_definitions.ReadFields.{ReadSet}
 use Rattle.rule_field_groups.specs.Under.{sets_in}
-use Rattle.rule_document_definitions.specs.PlainFields.{IsSelected}
 use Rattle.rule_merging.specs.Counted.{AreListed}
-use Rattle.rule_merging.specs.Remembered.{account_of, kept_of, two_of}
-use Rattle.rule_merging.specs.Examined.{Sources, SelectsAsMuch, opened_here, all_opened, schema_of, document_of}
-use Rattle.rule_document_definitions.proofs.Unplaced.{contains_map}
+use Rattle.rule_field_groups.specs.Remembered.{account_of, kept_of, looked_in, both_in, two_of}
+use Rattle.rule_merging.specs.Examined.{Sets, SelectsAsMuch, ExaminesSome, schema_of, document_of, sets_of}
 use Rattle.rule_merging.proofs.Pairing.{brokens_long}
 use Rattle.rule_merging.proofs.PairStep.{no_pairs, pairs_step}
-use Rattle.rule_merging.proofs.Counting.{grows_not, grows_with, listed_wider}
-use Rattle.rule_merging.specs.declared.remembered.Pair.{Pair}
+use Rattle.rule_merging.proofs.Counting.{grows_not, grows_with, listed_wider, looked_bounded}
+use Rattle.rule_field_groups.specs.declared.remembered.Pair.{Pair}
+use Rattle.rule_field_groups.specs.declared.remembered.Remembered.{Remembered}
 use Rattle.rule_merging.proofs.examination.Examination.examine_pairs.Goals as goal
 
--- the pair at a place, as a list
-two_at : (here : List Pair) (n : ℕ) (pair : Pair) → n < length here → pair ≡ get_or here n pair → (n < length (map two_of here)) × (two_of pair ≡ get_or (map two_of here) n (two_of pair))
-two_at here n pair within is = (omega (arith, within, length-map here two_of), ap two_of is ∙ sym (get_or-map two_of here n pair (two_of pair) within))
+-- the pair that is taken is the last one
+taken : (here rest : List Pair) (found : Option Pair) (pair : Pair) → here ≡ rest ++ option_to_list found → found ≡ Some pair → here ≡ rest ++ pair ∷ []
+taken here rest found pair items is = items ∙ ap (λ o. rest ++ option_to_list o) is
 
-index_of : (xs : List Sources) (n : ℕ) (x : Sources) → n < length xs → x ≡ get_or xs n x → Contains xs x
-index_of xs n x within is = (n, within, sym is)
+last_two : (w : FieldSets) (here rest : List Pair) (pair : Pair) → here ≡ rest ++ pair ∷ [] → map (two_of w) here ≡ map (two_of w) rest ++ two_of w pair ∷ []
+last_two w here rest pair is = ap (map (two_of w)) is ∙ map-append (two_of w) rest (pair ∷ [])
 
 -- it is given of the pair, since it is of those that were left
-pair_given : (d : MeantDocument Place) (os : List (MeantOperation Place)) (was here : List Sources) (two : Sources)
-    → ((part : Sources) → Contains here part → (sets : Sources) × (Contains was sets × SelectsAsMuch d (opened_here d sets) (opened_here d part))) → Contains here two
-    → AreListed d os (all_opened d was) → AreListed d os (opened_here d two ∷ [])
-pair_given d os was here two within there given = listed_wider d os (all_opened d was) (opened_here d two ∷ []) given (λ part k.
-    let w = within two there in
-    (opened_here d w.0, (contains_map (opened_here d) was w.0 w.1.0, λ x h. w.1.1 x (subst (λ l. IsSelected d l x) (only (opened_here d two) part k) h))))
+pair_given : (d : MeantDocument Place) (os : List (MeantOperation Place)) (was here rest : List Sets) (two : Sets)
+    → ((part : Sets) → Contains here part → (sets : Sets) × (Contains was sets × SelectsAsMuch d sets part)) → here ≡ rest ++ two ∷ [] → AreListed d os was → AreListed d os (two ∷ [])
+pair_given d os was here rest two within is given = listed_wider d os was (two ∷ []) given (λ part k.
+    let s = within two (subst (λ (l : List Sets). Contains l two) (sym is) (Contains-append_right rest (two ∷ []) two (Contains-first two [] two refl))) in
+    (s.0, (s.1.0, λ x h. s.1.1 x (subst (λ l. IsSelected d l x) (only two part k) h))))
 
-longer : (old new more : List Sources) → new ≡ old ++ more → (here here' : List Pair) → old ≡ map two_of here → new ≡ map two_of here' → (n : ℕ) → n < length here → n + 1 ≤ length here'
-longer old new more is here here' e f n within = omega (arith, within, length-map here two_of, length-map here' two_of, ap length is, length-append old more, ap length e, ap length f)
-
-pub loop-done-init : goal.loop-done-init
-loop-done-init c =
+pub loop-pair-init : goal.loop-pair-init
+loop-pair-init c =
     let e = c.args.self.now in
+    let w = sets_of e in
     record {
-      examined = ([], ([], (sym (append-nil (brokens_of c.args.breaches.now)), (sym (append-nil (sets_in c.args.examined.now.next)), no_pairs e.pass (schema_of e) (document_of e) (kept_of c.args.examined.now)))));
-      counted = grows_not (document_of e) _ e.pass (account_of c.args.examined.now);
-      within = omega arith;
+      examined = ([], ([], (sym (append-nil (brokens_of c.args.breaches.now)), (sym (append-nil (sets_in w c.args.examined.now.next)), no_pairs e.pass (schema_of e) (document_of e) (kept_of w c.args.examined.now)))));
+      counted = grows_not (document_of e) _ e.pass (account_of w c.args.examined.now);
     }
 
 -- the pair that is looked at
 pub returns-in_err-examine_pair-clause-counted : goal.returns-in_err-examine_pair-clause-counted
 returns-in_err-examine_pair-clause-counted c =
     let e = c.args.self.now in
+    let w = sets_of e in
     let d = document_of e in
-    let inv = c.loop-done.invariant in
-    let old = kept_of c.args.examined.now in
-    let here = c.loop-done.examined.pairs.items in
-    let pair = c.index-pair.result.now in
-    let within : c.loop-done.done < length here = omega (arith, c.len.ensures, c.loop-done-test.true) in
-    let two = two_at here c.loop-done.done pair within c.index-pair.ensures in
-    grows_with d _ _ e.pass (account_of c.args.examined.now) (account_of c.loop-done.examined) (account_of c.examine_pair.new.examined)
-    inv.counted (λ os given. pair_given d os old.pairs (map two_of here) (two_of pair) inv.examined.1.1.1.1.within (index_of (map two_of here) c.loop-done.done (two_of pair) two.0 two.1) given) c.in_err-examine_pair.ensures.counted
+    let inv = c.loop-pair.invariant in
+    let here = c.loop-pair.examined.pairs.items in
+    let rest = c.pop.new.self.items in
+    let pair = c.in-Some.pair in
+    let is = last_two w here rest pair (taken here rest c.pop.result pair c.pop.ensures.items c.in-Some.is) in
+    grows_with d _ _ e.pass (account_of w c.args.examined.now) (account_of w c.loop-pair.examined) (account_of w c.examine_pair.new.examined)
+    inv.counted (λ os given. pair_given d os (kept_of w c.args.examined.now).pairs (map (two_of w) here) (map (two_of w) rest) (two_of w pair) inv.examined.1.1.1.1.within is given) c.in_err-examine_pair.ensures.counted
 
-pub loop-done-preserved : goal.loop-done-preserved
-loop-done-preserved c =
+pub loop-pair-preserved : goal.loop-pair-preserved
+loop-pair-preserved c =
     let e = c.args.self.now in
+    let w = sets_of e in
     let d = document_of e in
-    let inv = c.loop-done.invariant in
-    let old = kept_of c.args.examined.now in
-    let here = c.loop-done.examined.pairs.items in
-    let pair = c.index-pair.result.now in
-    let within : c.loop-done.done < length here = omega (arith, c.len.ensures, c.loop-done-test.true) in
-    let two = two_at here c.loop-done.done pair within c.index-pair.ensures in
-    let step = pairs_step e.pass (schema_of e) d c.loop-done.done old (kept_of c.loop-done.examined) (kept_of c.examine_pair.new.examined)
-    (brokens_of c.args.breaches.now) (brokens_of c.loop-done.breaches) (brokens_of c.examine_pair.new.breaches) (sets_in c.args.examined.now.next) (sets_in c.loop-done.examined.next) (sets_in c.examine_pair.new.examined.next) (two_of pair) two.0 two.1 inv.examined c.in_ok-examine_pair.ensures.examined in
+    let inv = c.loop-pair.invariant in
+    let old = kept_of w c.args.examined.now in
+    let here = c.loop-pair.examined.pairs.items in
+    let rest = c.pop.new.self.items in
+    let pair = c.in-Some.pair in
+    let is = last_two w here rest pair (taken here rest c.pop.result pair c.pop.ensures.items c.in-Some.is) in
     record {
-      examined = step;
-      counted = grows_with d _ _ e.pass (account_of c.args.examined.now) (account_of c.loop-done.examined) (account_of c.examine_pair.new.examined)
-          inv.counted (λ os given. pair_given d os old.pairs (map two_of here) (two_of pair) inv.examined.1.1.1.1.within (index_of (map two_of here) c.loop-done.done (two_of pair) two.0 two.1) given) c.in_ok-examine_pair.ensures.counted;
-      within = longer (map two_of here) (map two_of c.examine_pair.new.examined.pairs.items) c.in_ok-examine_pair.ensures.examined.1.1.1.1.pairs c.in_ok-examine_pair.ensures.examined.1.1.1.1.is_pairs here c.examine_pair.new.examined.pairs.items refl refl c.loop-done.done within;
+      examined = pairs_step e.pass (schema_of e) d old (kept_of w c.loop-pair.examined) (kept_of w c.examine_pair.new.examined)
+          (brokens_of c.args.breaches.now) (brokens_of c.loop-pair.breaches) (brokens_of c.examine_pair.new.breaches) (sets_in w c.args.examined.now.next) (sets_in w c.loop-pair.examined.next) (sets_in w c.examine_pair.new.examined.next)
+          (map (two_of w) rest) (two_of w pair) is inv.examined c.in_ok-examine_pair.ensures.examined;
+      counted = grows_with d _ _ e.pass (account_of w c.args.examined.now) (account_of w c.loop-pair.examined) (account_of w c.examine_pair.new.examined)
+          inv.counted (λ os given. pair_given d os old.pairs (map (two_of w) here) (map (two_of w) rest) (two_of w pair) inv.examined.1.1.1.1.within is given) c.in_ok-examine_pair.ensures.counted;
     }
 
-pub returns-clause-examined : goal.returns-clause-examined
-returns-clause-examined c =
-    let here = c.loop-done.examined.pairs.items in
-    (c.loop-done.done, ((λ e. omega (arith, c.len.ensures, c.loop-done-test.false, length-map here two_of)), c.loop-done.invariant.examined))
-
-pub returns-clause-counted : goal.returns-clause-counted
-returns-clause-counted c = c.loop-done.invariant.counted
-
-pub returns-then-is_told-clause-examined : goal.returns-then-is_told-clause-examined
-returns-then-is_told-clause-examined c = (
-  c.loop-done.done,
-  (
-    (λ e. absurd (omega (
-      arith,
-      ap length e,
-      brokens_long c.args.breaches.now c.loop-done.breaches (omega (arith, c.len-told.ensures, c.is_told.ensures c.if-is_told.true, ap length c.deref.ensures.value)),
-    ))),
-    c.loop-done.invariant.examined,
-  ),
+-- one pair less waits, or is looked at, for each that comes
+fewer : (w : FieldSets) (old new : Remembered) (here rest here' : List Pair) (pair : Pair) (pairs : List Sets) → here ≡ rest ++ pair ∷ [] → map (two_of w) here' ≡ map (two_of w) rest ++ pairs
+    → length (looked_in w new) ≡ length (looked_in w old) + length pairs
+    → (2 ^ 126 - length (pairs_kept new.looked)) + length here' < (2 ^ 126 - length (pairs_kept old.looked)) + length here
+fewer w old new here rest here' pair pairs is more count = omega (
+  arith,
+  looked_bounded new,
+  ap length is,
+  length-append rest (pair ∷ []),
+  ap length more,
+  length-append (map (two_of w) rest) pairs,
+  length-map rest (two_of w),
+  length-map here' (two_of w),
+  count,
+  length-map {B = List ReadSet} (pairs_kept new.looked) (λ p. map (set_content_at w) (both_in p)),
+  length-map {B = List ReadSet} (pairs_kept old.looked) (λ p. map (set_content_at w) (both_in p)),
 )
 
+pub loop-pair-smaller : goal.loop-pair-smaller
+loop-pair-smaller c =
+    let w = sets_of c.args.self.now in
+    let here = c.loop-pair.examined.pairs.items in
+    let rest = c.pop.new.self.items in
+    let one = c.in_ok-examine_pair.ensures.examined.1.1.1.1 in
+    fewer w c.loop-pair.examined c.examine_pair.new.examined here rest c.examine_pair.new.examined.pairs.items c.in-Some.pair one.pairs (taken here rest c.pop.result c.in-Some.pair c.pop.ensures.items c.in-Some.is) one.is_pairs one.count
+
+-- none is left
+pub returns-clause-examined : goal.returns-clause-examined
+returns-clause-examined c =
+    let e = c.args.self.now in
+    let w = sets_of e in
+    let was = nil_from_length c.loop-pair.examined.pairs.items (omega (arith, c.in_default.ensures.cases.0)) in
+    let is = nil_from_length c.pop.new.self.items (omega (arith, c.in_default.ensures.cases.1)) in (
+      (λ same. ap (map (two_of w)) is),
+      subst
+          (λ (l : List Sets). ExaminesSome e (kept_of w c.args.examined.now) (record (kept_of w c.loop-pair.examined) { pairs = l }) c.args.breaches.now c.loop-pair.breaches (sets_in w c.args.examined.now.next) (sets_in w c.loop-pair.examined.next))
+          (ap (map (two_of w)) (was ∙ sym is)) c.loop-pair.invariant.examined,
+    )
+
+pub returns-clause-counted : goal.returns-clause-counted
+returns-clause-counted c = c.loop-pair.invariant.counted
+
+pub returns-then-is_told-clause-examined : goal.returns-then-is_told-clause-examined
+returns-then-is_told-clause-examined c =
+    let e = c.args.self.now in
+    let w = sets_of e in
+    let here = c.loop-pair.examined.pairs.items in
+    let rest = c.pop.new.self.items in
+    let pair = c.in-Some.pair in
+    let is = last_two w here rest pair (taken here rest c.pop.result pair c.pop.ensures.items c.in-Some.is) in (
+      (λ e. absurd (omega (
+        arith,
+        ap length e,
+        brokens_long c.args.breaches.now c.examine_pair.new.breaches (omega (arith, c.len-told.ensures, c.is_told.ensures c.if-is_told.true, ap length c.deref.ensures.value)),
+      ))),
+      pairs_step e.pass (schema_of e) (document_of e) (kept_of w c.args.examined.now) (kept_of w c.loop-pair.examined) (kept_of w c.examine_pair.new.examined)
+          (brokens_of c.args.breaches.now) (brokens_of c.loop-pair.breaches) (brokens_of c.examine_pair.new.breaches) (sets_in w c.args.examined.now.next) (sets_in w c.loop-pair.examined.next) (sets_in w c.examine_pair.new.examined.next)
+          (map (two_of w) rest) (two_of w pair) is c.loop-pair.invariant.examined c.in_ok-examine_pair.ensures.examined,
+    )
+
 pub returns-then-is_told-clause-counted : goal.returns-then-is_told-clause-counted
-returns-then-is_told-clause-counted c = c.loop-done.invariant.counted
+returns-then-is_told-clause-counted c =
+    let e = c.args.self.now in
+    let w = sets_of e in
+    let d = document_of e in
+    let inv = c.loop-pair.invariant in
+    let here = c.loop-pair.examined.pairs.items in
+    let rest = c.pop.new.self.items in
+    let pair = c.in-Some.pair in
+    let is = last_two w here rest pair (taken here rest c.pop.result pair c.pop.ensures.items c.in-Some.is) in
+    grows_with d _ _ e.pass (account_of w c.args.examined.now) (account_of w c.loop-pair.examined) (account_of w c.examine_pair.new.examined)
+    inv.counted (λ os given. pair_given d os (kept_of w c.args.examined.now).pairs (map (two_of w) here) (map (two_of w) rest) (two_of w pair) inv.examined.1.1.1.1.within is given) c.in_ok-examine_pair.ensures.counted

@@ -1,70 +1,107 @@
-use Rattle.std.proofs.Common.{◌∙◌, ◌++◌, true, false, refl, ap, sym, subst, true≢false}
+use Rattle.std.proofs.Common.{◌≡◌, ◌∙◌, ◌++◌, Bool, true, false, List, refl, ap, sym, subst, arith, true≢false}
 use Rattle.std.proofs.lemmas.Result.{on_ok_weaker}
-use Rattle.rule_number_lists.proofs.Standing.{same_order}
-use Rattle.rule_field_groups.specs.in_ground.Broken.{brokens_of}
+use Rattle.rule_field_groups.specs.in_sets.in_ground.Broken.{brokens_of}
+use Rattle.rule_field_groups.specs.in_document_definitions.ReadFields.{ReadField}
+use Rattle.rule_field_groups.specs.in_sets.declared.member.Member.{Member}
+use Rattle.rule_field_groups.specs.in_sets.declared.field_sets.FieldSets.{FieldSets}
+use Rattle.rule_field_groups.specs.in_sets.Nodes.{AreSets, HasMember}
+use Rattle.rule_field_groups.proofs.in_sets.Among.{one_number, one_key}
+use Rattle.rule_field_groups.specs.Members.{contents_of, AreMembersOf, contents_of_two}
 use Rattle.rule_field_groups.specs.Under.{sets_in}
-use Rattle.rule_field_groups.specs.Below.{contents_of}
-use Rattle.rule_merging.specs.Counted.{OnlyMeets}
-use Rattle.rule_merging.specs.Remembered.{Kept, account_of, kept_of, Remembers}
-use Rattle.rule_merging.specs.Examined.{schema_of, document_of}
-use Rattle.rule_merging.specs.Twos.{are_two, IsListOf}
-use Rattle.rule_merging.proofs.Pairing.{PairedTold, paired_apart, paired_known, paired_now}
-use Rattle.rule_merging.proofs.Counting.{grows_not, two_meeting, grows_two}
+use Rattle.rule_field_groups.specs.Remembered.{Kept, account_of, kept_of, remembered, Remembers}
+use Rattle.rule_merging.specs.Examined.{schema_of, document_of, sets_of}
+use Rattle.rule_merging.specs.Twos.{are_two, IsListOf, IsListOfTwo}
+use Rattle.rule_field_groups.specs.declared.remembered.Remembered.{Remembered}
+use Rattle.rule_merging.proofs.Pairing.{PairedTold, paired_apart, paired_known, paired_now, by_contents, members_of_two, read_of_two, some_list}
+use Rattle.rule_merging.proofs.Counting.{grows_not, grows_same, grows_two}
 use Rattle.rule_merging.proofs.examination.Examination.examine_two_fields.Goals as goal
+
+-- a list by numbers is one by contents
+as_contents : (w : FieldSets) → AreSets w → (one other : Member) → HasMember w one → HasMember w other → (list : List Member) → IsListOfTwo one other list → IsListOf one other list
+as_contents w are one other a b list two = by_contents one other list (one_number w are one other a b).0 (one_number w are one other a b).1 two
+
+-- a list that is remembered, by what is read of it
+read_so : (one other : Member) (list : List Member) (old new : Kept) (is_new : Bool) → IsListOfTwo one other list → Remembers old (contents_of_two one other) is_new new → Remembers old (contents_of list) is_new new
+read_so one other list old new is_new two h = subst (λ (l : List ReadField). Remembers old l is_new new) (sym (read_of_two one other list two)) h
+
+-- where no list comes, nothing is counted
+same_account : (w : FieldSets) (old new : Remembered) → account_of w new ≡ record (account_of w old) { lists = remembered w new } → kept_of w new ≡ kept_of w old → account_of w new ≡ account_of w old
+same_account w old new is same = is ∙ ap (λ (k : Kept). record (account_of w old) { lists = k.lists }) same
 
 pub returns-then-not-have_one_key-clause-examined : goal.returns-then-not-have_one_key-clause-examined
 returns-then-not-have_one_key-clause-examined c =
     let e = c.args.self.now in
-    paired_apart e.pass (schema_of e) (document_of e) c.args.one c.args.other (kept_of c.args.examined.now) (brokens_of c.args.breaches.now) (sets_in c.args.examined.now.next)
-    (λ same. true≢false (sym same ∙ sym c.have_one_key.ensures ∙ c.if-not-have_one_key.true))
+    let w = sets_of e in
+    paired_apart e.pass (schema_of e) (document_of e) c.args.one.now c.args.other.now (kept_of w c.args.examined.now) (brokens_of c.args.breaches.now) (sets_in w c.args.examined.now.next)
+    (λ same. true≢false (sym (c.have_one_key.ensures.1 ((one_key w c.requires.sets.are c.args.one.now c.args.other.now c.requires.one c.requires.other).1 same)) ∙ c.if-not-have_one_key.true))
 
 pub returns-then-not-have_one_key-clause-counted : goal.returns-then-not-have_one_key-clause-counted
-returns-then-not-have_one_key-clause-counted c = grows_not (document_of c.args.self.now) _ c.args.self.now.pass (account_of c.args.examined.now)
+returns-then-not-have_one_key-clause-counted c = grows_not (document_of c.args.self.now) _ c.args.self.now.pass (account_of (sets_of c.args.self.now) c.args.examined.now)
 
-pub returns-in_err-list-clause-counted : goal.returns-in_err-list-clause-counted
-returns-in_err-list-clause-counted c = grows_not (document_of c.args.self.now) _ c.args.self.now.pass (account_of c.args.examined.now)
-
-pub returns-in_err-remember-clause-counted : goal.returns-in_err-remember-clause-counted
-returns-in_err-remember-clause-counted c =
+pub returns-in_err-remember_two-clause-counted : goal.returns-in_err-remember_two-clause-counted
+returns-in_err-remember_two-clause-counted c =
     let e = c.args.self.now in
-    let list = c.deref.result.now in
-    let two : IsListOf c.args.one c.args.other list = subst (IsListOf c.args.one c.args.other) (sym c.deref.ensures.value) c.in_ok-list.ensures in
-    two_meeting (document_of e) e.pass c.args.one c.args.other list (account_of c.args.examined.now) (account_of c.remember.new.self) two (ap (λ (k : Kept). k.lists) c.in_err-remember.ensures.refused) c.in_err-remember.ensures.meets
+    let w = sets_of e in
+    grows_same (document_of e) _ e.pass (account_of w c.args.examined.now) (account_of w c.remember_two.new.self)
+    (same_account w c.args.examined.now c.remember_two.new.self (c.in_err-remember_two.ensures.account w) (c.in_err-remember_two.ensures.refused w))
 
 pub returns-then-not-branch-clause-examined : goal.returns-then-not-branch-clause-examined
 returns-then-not-branch-clause-examined c =
     let e = c.args.self.now in
-    let list = c.deref.result.now in
-    let old = kept_of c.args.examined.now in
-    let new = kept_of c.remember.new.self in
-    let known : Remembers old (contents_of list) false new = subst (λ b. Remembers old (contents_of list) b new) c.if-not-branch.true c.in_ok-remember.ensures.remembers in
-    let two : IsListOf c.args.one c.args.other list = subst (IsListOf c.args.one c.args.other) (sym c.deref.ensures.value) c.in_ok-list.ensures in
+    let w = sets_of e in
+    let one = c.args.one.now in
+    let other = c.args.other.now in
+    let old = kept_of w c.args.examined.now in
+    let new = kept_of w c.remember_two.new.self in
+    let list = some_list one other in
+    let known : Remembers old (contents_of list.0) false new = read_so one other list.0 old new false list.1
+    (subst (λ b. Remembers old (contents_of_two one other) b new) c.if-not-branch.true (c.in_ok-remember_two.ensures.remembers w c.requires.sets.are c.requires.one c.requires.other)) in
     let told = brokens_of c.args.breaches.now in
-    let next = sets_in c.args.examined.now.next in
-    subst (PairedTold e.pass (schema_of e) (document_of e) (are_two c.args.one c.args.other) old new told told next) (sym c.in_ok-remember.ensures.next)
-    (paired_known e.pass (schema_of e) (document_of e) c.args.one c.args.other list two known.0.0 known.0.1.1 old new told next known.0.1.0 known.1)
+    let next = sets_in w c.args.examined.now.next in
+    subst (PairedTold e.pass (schema_of e) (document_of e) (are_two one other) old new told told next) (sym (c.in_ok-remember_two.ensures.next w))
+    (paired_known e.pass (schema_of e) (document_of e) one other list.0 (as_contents w c.requires.sets.are one other c.requires.one c.requires.other list.0 list.1) old new told next known)
 
 pub returns-then-not-branch-clause-counted : goal.returns-then-not-branch-clause-counted
 returns-then-not-branch-clause-counted c =
     let e = c.args.self.now in
-    let list = c.deref.result.now in
-    let old = kept_of c.args.examined.now in
-    let new = kept_of c.remember.new.self in
-    let known : Remembers old (contents_of list) false new = subst (λ b. Remembers old (contents_of list) b new) c.if-not-branch.true c.in_ok-remember.ensures.remembers in
-    let two : IsListOf c.args.one c.args.other list = subst (IsListOf c.args.one c.args.other) (sym c.deref.ensures.value) c.in_ok-list.ensures in
-    two_meeting (document_of e) e.pass c.args.one c.args.other list (account_of c.args.examined.now) (account_of c.remember.new.self) two (ap (λ (k : Kept). k.lists) known.1) c.in_ok-remember.ensures.meets
+    let w = sets_of e in
+    let old = kept_of w c.args.examined.now in
+    let new = kept_of w c.remember_two.new.self in
+    let known : Remembers old (contents_of_two c.args.one.now c.args.other.now) false new = subst (λ b. Remembers old (contents_of_two c.args.one.now c.args.other.now) b new) c.if-not-branch.true
+    (c.in_ok-remember_two.ensures.remembers w c.requires.sets.are c.requires.one c.requires.other) in
+    grows_same (document_of e) _ e.pass (account_of w c.args.examined.now) (account_of w c.remember_two.new.self)
+    (same_account w c.args.examined.now c.remember_two.new.self (c.in_ok-remember_two.ensures.account w) known.1)
+
+pub returns-in_err-list-clause-counted : goal.returns-in_err-list-clause-counted
+returns-in_err-list-clause-counted c =
+    let e = c.args.self.now in
+    let w = sets_of e in
+    let one = c.args.one.now in
+    let other = c.args.other.now in
+    let old = kept_of w c.args.examined.now in
+    let new = kept_of w c.remember_two.new.self in
+    let list = some_list one other in
+    let fresh : Remembers old (contents_of list.0) true new = read_so one other list.0 old new true list.1
+    (subst (λ b. Remembers old (contents_of_two one other) b new) c.if-not-branch.false (c.in_ok-remember_two.ensures.remembers w c.requires.sets.are c.requires.one c.requires.other)) in
+    grows_two (document_of e) e.pass one other list.0 fresh.1.0 (account_of w c.args.examined.now) (account_of w c.remember_two.new.self) (account_of w c.remember_two.new.self)
+    (as_contents w c.requires.sets.are one other c.requires.one c.requires.other list.0 list.1) fresh.1.1.1.0 fresh.0 fresh.1.1.1.1.0 (c.in_ok-remember_two.ensures.account w) (omega arith) (omega arith) refl
+
+pub examine_list-requires-clause-members : goal.examine_list-requires-clause-members
+examine_list-requires-clause-members c =
+    subst (AreMembersOf (sets_of c.args.self.now)) (sym c.deref.ensures.value) (members_of_two (sets_of c.args.self.now) c.args.one.now c.args.other.now c.in_ok-list.list.items c.requires.one c.requires.other c.in_ok-list.ensures)
 
 pub returns-clause-examined : goal.returns-clause-examined
 returns-clause-examined c =
     let e = c.args.self.now in
-    let one = c.args.one in
-    let other = c.args.other in
-    let list = c.deref-2.result.now in
-    let old = kept_of c.args.examined.now in
-    let new = kept_of c.remember.new.self in
-    let same_list = c.deref.ensures.value ∙ sym c.deref-2.ensures.value in
-    let fresh : Remembers old (contents_of list) true new = subst (λ l. Remembers old (contents_of l) true new) same_list (subst (λ b. Remembers old (contents_of c.deref.result.now) b new) c.if-not-branch.false c.in_ok-remember.ensures.remembers) in
-    let two : IsListOf one other list = subst (IsListOf one other) (sym c.deref-2.ensures.value) c.in_ok-list.ensures in
+    let w = sets_of e in
+    let one = c.args.one.now in
+    let other = c.args.other.now in
+    let list = c.deref.result.now in
+    let old = kept_of w c.args.examined.now in
+    let new = kept_of w c.remember_two.new.self in
+    let two : IsListOfTwo one other list = subst (IsListOfTwo one other) (sym c.deref.ensures.value) c.in_ok-list.ensures in
+    let fresh : Remembers old (contents_of list) true new = read_so one other list old new true two
+    (subst (λ b. Remembers old (contents_of_two one other) b new) c.if-not-branch.false (c.in_ok-remember_two.ensures.remembers w c.requires.sets.are c.requires.one c.requires.other)) in
     on_ok_weaker c.examine_list.result
     (λ h. (
       h.0,
@@ -73,8 +110,8 @@ returns-clause-examined c =
         (
           h.1.1.0,
           (
-            h.1.1.1.0 ∙ ap (λ n. n ++ h.1.0) c.in_ok-remember.ensures.next,
-            paired_now e.pass (schema_of e) (document_of e) one other list two fresh.1.0 (same_order (contents_of list) fresh.1.0 fresh.1.1.0) old new h.0 h.1.0 fresh.1.1.1 h.1.1.1.1,
+            h.1.1.1.0 ∙ ap (λ n. n ++ h.1.0) (c.in_ok-remember_two.ensures.next w),
+            paired_now e.pass (schema_of e) (document_of e) one other list (as_contents w c.requires.sets.are one other c.requires.one c.requires.other list two) old new h.0 h.1.0 fresh h.1.1.1.1,
           ),
         ),
       ),
@@ -84,13 +121,14 @@ returns-clause-examined c =
 pub returns-clause-counted : goal.returns-clause-counted
 returns-clause-counted c =
     let e = c.args.self.now in
-    let list = c.deref-2.result.now in
-    let old = kept_of c.args.examined.now in
-    let new = kept_of c.remember.new.self in
-    let same_list = c.deref.ensures.value ∙ sym c.deref-2.ensures.value in
-    let fresh : Remembers old (contents_of list) true new = subst (λ l. Remembers old (contents_of l) true new) same_list (subst (λ b. Remembers old (contents_of c.deref.result.now) b new) c.if-not-branch.false c.in_ok-remember.ensures.remembers) in
-    let two : IsListOf c.args.one c.args.other list = subst (IsListOf c.args.one c.args.other) (sym c.deref-2.ensures.value) c.in_ok-list.ensures in
-    let met : OnlyMeets (contents_of list) (account_of c.args.examined.now) (account_of c.remember.new.self) =
-    subst (λ l. OnlyMeets (contents_of l) (account_of c.args.examined.now) (account_of c.remember.new.self)) same_list c.in_ok-remember.ensures.meets in
-    grows_two (document_of e) e.pass c.args.one c.args.other list fresh.1.0 (account_of c.args.examined.now) (account_of c.remember.new.self) _ two fresh.1.1.0 fresh.0
-    (ap (λ (k : Kept). k.lists) fresh.1.1.1) met c.examine_list.ensures.more c.examine_list.ensures.counted refl
+    let w = sets_of e in
+    let one = c.args.one.now in
+    let other = c.args.other.now in
+    let list = c.deref.result.now in
+    let old = kept_of w c.args.examined.now in
+    let new = kept_of w c.remember_two.new.self in
+    let two : IsListOfTwo one other list = subst (IsListOfTwo one other) (sym c.deref.ensures.value) c.in_ok-list.ensures in
+    let fresh : Remembers old (contents_of list) true new = read_so one other list old new true two
+    (subst (λ b. Remembers old (contents_of_two one other) b new) c.if-not-branch.false (c.in_ok-remember_two.ensures.remembers w c.requires.sets.are c.requires.one c.requires.other)) in
+    grows_two (document_of e) e.pass one other list fresh.1.0 (account_of w c.args.examined.now) (account_of w c.remember_two.new.self) _
+    (as_contents w c.requires.sets.are one other c.requires.one c.requires.other list two) fresh.1.1.1.0 fresh.0 fresh.1.1.1.1.0 (c.in_ok-remember_two.ensures.account w) c.examine_list.ensures.more c.examine_list.ensures.counted refl

@@ -1,46 +1,148 @@
-use Rattle.std.proofs.Common.{◌∷◌, [], List, Contains, sym, ap, subst}
-use Rattle.std.proofs.lemmas.Result.{on_ok_weaker}
+use Rattle.std.proofs.Common.{◌≡◌, ◌∙◌, ◌<◌, ◌+◌, ℕ, ◌∷◌, ◌++◌, [], List, Contains, drop, get_or, take, length, map, sym, ap, subst, arith}
+use Rattle.std.proofs.lemmas.List.{map-append, take-append-drop, take_all, get_or_default, take_more}
+use Rattle.std.proofs.lemmas.List.Elements.{Contains-append_left, Contains-append_right}
 use Rattle.graphql_names.specs.Placed.{Place}
-use Rattle.document_meaning.specs.MeantTree.{MeantOperation, MeantDocument}
-use Rattle.rule_field_groups.specs.in_ground.Broken.{brokens_of}
-use Rattle.rule_field_groups.specs.Under.{sets_in}
-use Rattle.rule_field_groups.specs.Below.{meant_sets}
+use Rattle.rule_field_groups.specs.in_meaning.MeantTree.{MeantSet, MeantOperation, MeantDocument}
+use Rattle.rule_field_groups.specs.in_sets.in_ground.Broken.{brokens_of}
+use Rattle.rule_field_groups.specs.in_sets.Read.{set_at}
+use Rattle.rule_field_groups.specs.Under.{Sets, sets_in}
+use Rattle.rule_field_groups.specs.Members.{meant_sets}
 use Rattle.rule_merging.specs.Counted.{AreListed}
-use Rattle.rule_merging.specs.Remembered.{Kept, Beside, account_of, kept_of}
-use Rattle.rule_merging.specs.Examined.{Sets, Sources, of_sets, opened_here, all_opened, schema_of, document_of, ExaminesPairs}
-use Rattle.rule_merging.specs.Pairs.{LooksAtTwos}
-use Rattle.rule_document_definitions.proofs.Unplaced.{contains_unmap}
-use Rattle.rule_merging.proofs.PairStep.{twos_told, of_sources}
-use Rattle.rule_merging.proofs.Counting.{grows_same, grows_with, part_listed}
+use Rattle.rule_field_groups.specs.Remembered.{account_of, kept_of}
+use Rattle.rule_merging.specs.Examined.{schema_of, document_of, sets_of, ExaminesTwos}
+use Rattle.rule_field_groups.specs.Pairs.{AreTwosOf}
+use Rattle.rule_field_groups.specs.Pairs.{each_with}
+use Rattle.rule_field_groups.proofs.Looking.{one_more_of, no_twos, twos_more}
+use Rattle.rule_merging.proofs.Pairing.{brokens_long}
+use Rattle.rule_merging.proofs.PairStep.{twos_none, twos_step, sets_told}
+use Rattle.rule_merging.proofs.Counting.{grows_not, grows_with, part_listed}
+use Rattle.rule_merging.specs.declared.examination.Examination.{Examination}
 use Rattle.rule_merging.proofs.examination.Examination.examine_twos.Goals as goal
 
--- pairs of the sets select what the sets do
-pairs_listed : (d : MeantDocument Place) (os : List (MeantOperation Place)) (sets : Sets) (old mid : Kept) → LooksAtTwos (of_sets sets) old mid → AreListed d os (sets ∷ []) → AreListed d os (all_opened d mid.pairs)
-pairs_listed d os sets old mid (twos, (are, looks)) listed = part_listed d os sets (all_opened d mid.pairs) listed (λ part c v k.
-    let two = contains_unmap (opened_here d) mid.pairs part c in
-    of_sources d sets twos are two.0 (looks.within two.0 (subst (λ (l : List Sources). Contains l two.0) looks.is_pairs two.1.0)) v (subst (λ (l : Sets). Contains l v) (sym two.1.1) k))
+-- the first of some things are among them
+among : {X Y : Type 0} (f : X → Y) (xs : List X) (i : ℕ) (y : Y) → Contains (map f (take i xs)) y → Contains (map f xs) y
+among f xs i y c = subst (λ l. Contains (map f l) y) (take-append-drop i xs) (subst (λ l. Contains l y) (sym (map-append f (take i xs) (drop i xs))) (Contains-append_left (map f (take i xs)) (map f (drop i xs)) y c))
 
-pub returns-in_err-look_at_twos-clause-counted : goal.returns-in_err-look_at_twos-clause-counted
-returns-in_err-look_at_twos-clause-counted c =
-    grows_same (document_of c.args.self.now) _ c.args.self.now.pass (account_of c.args.examined.now) (account_of c.look_at_twos.new.self) (ap (λ (b : Beside). b.account) c.in_err-look_at_twos.ensures.beside)
+-- pairs of the first sets select what the sets do
+pairs_listed : (d : MeantDocument Place) (os : List (MeantOperation Place)) (sets front : Sets) (v : MeantSet Place) (twos : List Sets) → AreTwosOf front twos
+    → ((u : MeantSet Place) → Contains (front ++ v ∷ []) u → Contains sets u) → AreListed d os (sets ∷ []) → AreListed d os (each_with (front ++ v ∷ []) v)
+pairs_listed d os sets front v twos are within listed = part_listed d os sets (each_with (front ++ v ∷ []) v) listed (λ part c u k.
+    within u ((twos_more front v twos are).within part (Contains-append_right twos (each_with (front ++ v ∷ []) v) part c) u k))
+
+-- the next node
+module _ (e : Examination) (xs : List ℕ) (i : ℕ) (h : i < length xs) (seen seen' : List ℕ) (was : seen ≡ take i xs) (pushed : seen' ≡ seen ++ get_or xs i 0 ∷ []) where
+  abbrev node : ℕ
+  node = get_or xs i 0
+
+  abbrev front : Sets
+  front = meant_sets (sets_of e) (take i xs)
+
+  is : node ≡ get_or xs i node
+  is = get_or_default xs i 0 node h
+
+  now_seen : seen' ≡ take (i + 1) xs
+  now_seen = pushed ∙ ap (λ l. l ++ node ∷ []) was ∙ sym (take_more xs i node h ∙ ap (λ y. take i xs ++ y ∷ []) (sym is))
+
+  all_seen : meant_sets (sets_of e) (take (i + 1) xs) ≡ front ++ set_at (sets_of e) node ∷ []
+  all_seen = one_more_of (set_at (sets_of e)) xs i node h is
+
+  front_seen : meant_sets (sets_of e) seen' ≡ front ++ set_at (sets_of e) node ∷ []
+  front_seen = ap (meant_sets (sets_of e)) now_seen ∙ all_seen
+
+  -- what is given of the sets is given of the pairs
+  listed_here : (d : MeantDocument Place) (os : List (MeantOperation Place)) (twos : List Sets) → AreTwosOf front twos → (here : List ℕ) → here ≡ seen' → AreListed d os (meant_sets (sets_of e) xs ∷ [])
+      → AreListed d os (each_with (meant_sets (sets_of e) here) (set_at (sets_of e) node))
+  listed_here d os twos are here same listed =
+      subst (λ (l : Sets). AreListed d os (each_with l (set_at (sets_of e) node))) (sym (ap (meant_sets (sets_of e)) same ∙ front_seen))
+      (pairs_listed d os (meant_sets (sets_of e) xs) front (set_at (sets_of e) node) twos are (λ u c. among (set_at (sets_of e)) xs (i + 1) u (subst (λ (l : Sets). Contains l u) (sym all_seen) c)) listed)
+
+pub loop-node-init : goal.loop-node-init
+loop-node-init c =
+    let e = c.args.self.now in
+    let w = sets_of e in
+    record {
+      seen = c.new-seen.ensures.items;
+      examined = ([], (no_twos, twos_none e.pass (schema_of e) (document_of e) (kept_of w c.args.examined.now) (brokens_of c.args.breaches.now) (sets_in w c.args.examined.now.next)));
+      counted = grows_not (document_of e) _ e.pass (account_of w c.args.examined.now);
+    }
+
+pub returns-in_err-push-clause-counted : goal.returns-in_err-push-clause-counted
+returns-in_err-push-clause-counted c = c.loop-node.invariant.counted
+
+pub returns-in_err-examine_with_those-clause-counted : goal.returns-in_err-examine_with_those-clause-counted
+returns-in_err-examine_with_those-clause-counted c =
+    let e = c.args.self.now in
+    let w = sets_of e in
+    let d = document_of e in
+    let xs = c.args.nodes.now in
+    let i = c.loop-node.node-index in
+    let h : i < length xs = omega arith in
+    let inv = c.loop-node.invariant in
+    grows_with d _ _ e.pass (account_of w c.args.examined.now) (account_of w c.loop-node.examined) (account_of w c.examine_with_those.new.examined)
+    inv.counted (λ os. listed_here e xs i h c.loop-node.seen.items c.push.new.self.items inv.seen c.in_ok-push.ensures.items d os inv.examined.0 inv.examined.1.0 c.deref-in-loop-node.result.now c.deref-in-loop-node.ensures.value) c.in_err-examine_with_those.ensures.counted
+
+pub loop-node-preserved : goal.loop-node-preserved
+loop-node-preserved c =
+    let e = c.args.self.now in
+    let w = sets_of e in
+    let d = document_of e in
+    let xs = c.args.nodes.now in
+    let i = c.loop-node.node-index in
+    let h : i < length xs = omega arith in
+    let inv = c.loop-node.invariant in
+    let was = c.loop-node.seen.items in
+    let now = c.push.new.self.items in
+    let puts = c.in_ok-push.ensures.items in
+    let v = set_at w (get_or xs i 0) in
+    let before = meant_sets w (take i xs) in
+    let old = kept_of w c.args.examined.now in
+    let mid = kept_of w c.loop-node.examined in
+    let new = kept_of w c.examine_with_those.new.examined in
+    let next = sets_in w c.args.examined.now.next in
+    let between = sets_in w c.loop-node.examined.next in
+    let later = sets_in w c.examine_with_those.new.examined.next in
+    let twos = inv.examined.0 in
+    let more = each_with (before ++ v ∷ []) v in
+    let here : ExaminesTwos e more mid new c.loop-node.breaches c.examine_with_those.new.breaches between later = subst (λ (l : Sets). ExaminesTwos e (each_with l v) mid new c.loop-node.breaches c.examine_with_those.new.breaches between later)
+    (ap (meant_sets w) c.deref-in-loop-node.ensures.value ∙ front_seen e xs i h was now inv.seen puts) c.in_ok-examine_with_those.ensures.examined in
+    record {
+      seen = now_seen e xs i h was now inv.seen puts;
+      examined = subst (λ (l : Sets). (twos : List Sets) × (AreTwosOf l twos × ExaminesTwos e twos old new c.args.breaches.now c.examine_with_those.new.breaches next later)) (sym (all_seen e xs i h was now inv.seen puts)) (
+        twos ++ more,
+        (
+          twos_more before v twos inv.examined.1.0,
+          twos_step e.pass (schema_of e) d twos more old mid new (brokens_of c.args.breaches.now) (brokens_of c.loop-node.breaches) (brokens_of c.examine_with_those.new.breaches) next between later inv.examined.1.1 here,
+        ),
+      );
+      counted = grows_with d _ _ e.pass (account_of w c.args.examined.now) (account_of w c.loop-node.examined) (account_of w c.examine_with_those.new.examined)
+          inv.counted (λ os. listed_here e xs i h was now inv.seen puts d os twos inv.examined.1.0 c.deref-in-loop-node.result.now c.deref-in-loop-node.ensures.value) c.in_ok-examine_with_those.ensures.counted;
+    }
 
 pub returns-clause-examined : goal.returns-clause-examined
 returns-clause-examined c =
     let e = c.args.self.now in
-    on_ok_weaker c.examine_pairs.result
-    (λ h. twos_told e.pass (schema_of e) (document_of e) (meant_sets c.args.sets.now) (kept_of c.args.examined.now) (kept_of c.look_at_twos.new.self) (kept_of c.examine_pairs.new.examined)
-    (brokens_of c.args.breaches.now) (brokens_of c.examine_pairs.new.breaches) (sets_in c.args.examined.now.next) (sets_in c.examine_pairs.new.examined.next) c.in_ok-look_at_twos.ensures.looks
-    (subst (λ n. ExaminesPairs e (kept_of c.look_at_twos.new.self) (kept_of c.examine_pairs.new.examined) c.args.breaches.now c.examine_pairs.new.breaches n (sets_in c.examine_pairs.new.examined.next))
-    (ap (λ (b : Beside). b.next) c.in_ok-look_at_twos.ensures.beside) h))
-    c.examine_pairs.ensures.examined
+    let w = sets_of e in
+    let xs = c.args.nodes.now in
+    let i = c.loop-node.node-index in
+    sets_told e.pass (schema_of e) (document_of e) (meant_sets w xs) (meant_sets w (take i xs)) (kept_of w c.args.examined.now) (kept_of w c.loop-node.examined) (brokens_of c.args.breaches.now) (brokens_of c.loop-node.breaches)
+    (sets_in w c.args.examined.now.next) (sets_in w c.loop-node.examined.next) (among (set_at w) xs i) (λ same. ap (meant_sets w) (take_all i xs c.loop-node-test.false)) c.loop-node.invariant.examined
 
 pub returns-clause-counted : goal.returns-clause-counted
-returns-clause-counted c =
+returns-clause-counted c = c.loop-node.invariant.counted
+
+pub returns-then-is_told-clause-examined : goal.returns-then-is_told-clause-examined
+returns-then-is_told-clause-examined c =
     let e = c.args.self.now in
-    let d = document_of e in
-    let sets = meant_sets c.args.sets.now in
-    let mid = kept_of c.look_at_twos.new.self in
-    grows_with d (λ os. AreListed d os (sets ∷ [])) (λ os. AreListed d os (all_opened d mid.pairs)) e.pass
-    (account_of c.args.examined.now) (account_of c.look_at_twos.new.self) (account_of c.examine_pairs.new.examined)
-    (grows_same d (λ os. AreListed d os (sets ∷ [])) e.pass (account_of c.args.examined.now) (account_of c.look_at_twos.new.self) (ap (λ (b : Beside). b.account) c.in_ok-look_at_twos.ensures.beside))
-    (λ os. pairs_listed d os sets (kept_of c.args.examined.now) mid c.in_ok-look_at_twos.ensures.looks) c.examine_pairs.ensures.counted
+    let w = sets_of e in
+    let xs = c.args.nodes.now in
+    let i = c.loop-node.node-index in
+    sets_told e.pass (schema_of e) (document_of e) (meant_sets w xs) (meant_sets w (take i xs)) (kept_of w c.args.examined.now) (kept_of w c.loop-node.examined) (brokens_of c.args.breaches.now) (brokens_of c.loop-node.breaches)
+    (sets_in w c.args.examined.now.next) (sets_in w c.loop-node.examined.next) (among (set_at w) xs i)
+    (λ same. absurd (omega (
+      arith,
+      ap length same,
+      brokens_long c.args.breaches.now c.loop-node.breaches (omega (arith, c.len-told.ensures, c.is_told.ensures c.if-is_told.true, ap length c.deref.ensures.value)),
+    ))) c.loop-node.invariant.examined
+
+pub returns-then-is_told-clause-counted : goal.returns-then-is_told-clause-counted
+returns-then-is_told-clause-counted c = c.loop-node.invariant.counted

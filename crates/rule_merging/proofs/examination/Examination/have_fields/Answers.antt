@@ -1,46 +1,43 @@
-use Rattle.std.proofs.Common.{◌<◌, Bool, true, false, not, length, map, take, sym, subst, refl, ◌∙◌, ◌≡◌, arith}
+use Rattle.std.proofs.Common.{◌<◌, [], ◌∷◌, true, false, length, map, take, sym, subst, arith}
 use Rattle.std.proofs.lemmas.List.{take_all}
-use Rattle.rule_definitions.proofs.Lists.{not_in_nil}
-use Rattle.rule_document_definitions.proofs.Unplaced.{contains_map}
-use Rattle.rule_field_groups.specs.Below.{meant_sets, IsMergedIn}
-use Rattle.rule_merging.specs.Examined.{schema_of, document_of, HaveFields}
-use Rattle.rule_merging.proofs.Examining.{sets_at, front_more, emptied, filled, none_more, some_here}
+use Rattle.rule_field_groups.proofs.in_definitions.Lists.{not_in_nil}
+use Rattle.rule_field_groups.proofs.in_document_definitions.Unplaced.{contains_map}
+use Rattle.rule_field_groups.specs.Members.{meant_sets}
+use Rattle.rule_merging.specs.Examined.{schema_of, document_of, sets_of, HaveFields}
+use Rattle.rule_merging.proofs.Examining.{sets_at, front_more, none_more, some_there}
 use Rattle.rule_merging.proofs.examination.Examination.have_fields.Goals as goal
 
-not_true : (b : Bool) → not b ≡ true → b ≡ false
-not_true true e = cc
-not_true false e = refl
+pub loop-nodes-init : goal.loop-nodes-init
+loop-nodes-init c = λ sets k. not_in_nil sets k
 
-not_false : (b : Bool) → not b ≡ false → b ≡ true
-not_false true e = refl
-not_false false e = cc
-
-pub loop-sets-init : goal.loop-sets-init
-loop-sets-init c = λ sets k. not_in_nil sets k
-
-pub returns-then-not-is_empty : goal.returns-then-not-is_empty
-returns-then-not-is_empty c =
+pub returns-then-branch : goal.returns-then-branch
+returns-then-branch c =
     let e = c.args.self.now in
+    let w = sets_of e in
     let level = c.args.level.now in
-    let i = c.loop-sets.sets-index in
-    let x = c.sets-item.result in
+    let i = c.loop-nodes.nodes-index in
+    let x = c.nodes-item.result in
     let h : i < length level = omega arith in
-    let list = c.in_ok-list.list in
-    let merged : IsMergedIn (document_of e) (sets_at x) list.items = subst (λ l. IsMergedIn (document_of e) (meant_sets l) list.items) c.deref.ensures.value (c.in_ok-list.ensures (document_of e) refl) in
-    some_here e.pass (schema_of e) (document_of e) (map sets_at level) (sets_at x) list.items (contains_map sets_at level x (i, h, sym c.sets-item.is)) merged
-    (filled list.items list.len list.ok.0 (sym c.is_empty.ensures ∙ c.if-not-is_empty.true))
+    let here : HaveFields (document_of e) true (meant_sets w c.deref.result.now ∷ []) =
+    subst (λ b. HaveFields (document_of e) b (meant_sets w c.deref.result.now ∷ [])) c.if-branch.true c.in_ok-selects_fields.ensures in
+    some_there e.pass (schema_of e) (document_of e) (map (sets_at w) level) (sets_at w x) (contains_map (sets_at w) level x (i, h, sym c.nodes-item.is))
+    (subst (λ l. HaveFields (document_of e) true (meant_sets w l ∷ [])) c.deref.ensures.value here)
 
-pub loop-sets-preserved : goal.loop-sets-preserved
-loop-sets-preserved c =
+pub loop-nodes-preserved : goal.loop-nodes-preserved
+loop-nodes-preserved c =
     let e = c.args.self.now in
+    let w = sets_of e in
     let level = c.args.level.now in
-    let i = c.loop-sets.sets-index in
-    let x = c.sets-item.result in
+    let i = c.loop-nodes.nodes-index in
+    let x = c.nodes-item.result in
     let h : i < length level = omega arith in
-    let list = c.in_ok-list.list in
-    let merged : IsMergedIn (document_of e) (sets_at x) list.items = subst (λ l. IsMergedIn (document_of e) (meant_sets l) list.items) c.deref.ensures.value (c.in_ok-list.ensures (document_of e) refl) in
-    subst (HaveFields (document_of e) false) (sym (front_more sets_at level i x h c.sets-item.is))
-    (none_more e.pass (schema_of e) (document_of e) (map sets_at (take i level)) (sets_at x) list.items c.loop-sets.invariant merged (emptied list.items list.len list.ok.0 (sym c.is_empty.ensures ∙ c.if-not-is_empty.false)))
+    let here : HaveFields (document_of e) false (meant_sets w c.deref.result.now ∷ []) =
+    subst (λ b. HaveFields (document_of e) b (meant_sets w c.deref.result.now ∷ [])) c.if-branch.false c.in_ok-selects_fields.ensures in
+    subst (HaveFields (document_of e) false) (sym (front_more (sets_at w) level i x h c.nodes-item.is))
+    (none_more e.pass (schema_of e) (document_of e) (map (sets_at w) (take i level)) (sets_at w x) c.loop-nodes.invariant
+    (subst (λ l. HaveFields (document_of e) false (meant_sets w l ∷ [])) c.deref.ensures.value here))
 
 pub returns : goal.returns
-returns c = subst (λ ls. HaveFields (document_of c.args.self.now) false (map sets_at ls)) (take_all c.loop-sets.sets-index c.args.level.now c.loop-sets-test.false) c.loop-sets.invariant
+returns c =
+    let e = c.args.self.now in
+    subst (λ ls. HaveFields (document_of e) false (map (sets_at (sets_of e)) ls)) (take_all c.loop-nodes.nodes-index c.args.level.now c.loop-nodes-test.false) c.loop-nodes.invariant

@@ -1,4 +1,4 @@
-use Rattle.rule_document_definitions.specs.Selected.{operations}
+use Rattle.rule_field_groups.specs.in_document_definitions.Selected.{operations}
 use Rattle.rule_merging.specs.Merger.{merger_of, fields_written}
 use Rattle.rule_merging.proofs.Counting.{members_few, comparisons_few}
 use Rattle.rule_merging.proofs.Written.{last_written}

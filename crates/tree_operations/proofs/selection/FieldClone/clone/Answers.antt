@@ -1,6 +1,6 @@
 use Rattle.std.proofs.Common.{rules}
 use Rattle.tree_directives.specs.DirectiveTree.{argument_tree}
-use Rattle.tree_literals.proofs.in_names.Copies.{nodes-copies}
+use Rattle.tree_directives.proofs.in_literals.in_names.Copies.{nodes-copies}
 use Rattle.tree_operations.proofs.SelectionTrees.{selection_trees-copies}
 use Rattle.tree_operations.proofs.selection.FieldClone.clone.Goals as goal
 

@@ -1,0 +1,27 @@
+-- What a refusal of texts is answered as.
+use Rattle.std.specs.Prelude.{◌≡◌, ℕ, ◌++◌, List, flat_map, codes, Result, Ok, Err, Vec}
+use Rattle.verdict_definitions.specs.in_faults.DetailsView.{diagnostics_of}
+use Rattle.verdict_definitions.specs.Answer.{fault_line}
+use Rattle.checker_calls.specs.declared.refusal.Refusal.{Refusal}
+use Rattle.checker_calls.specs.declared.refusal.Refusal.TheVariants as refusal
+use Rattle.checker_calls.specs.declared.run_fault.Outcome.{Outcome}
+use Rattle.checker_calls.specs.declared.run_fault.Outcome.TheVariants.{Refused}
+use Rattle.checker_calls.specs.declared.run_fault.RunFault.{RunFault}
+use Rattle.checker_calls.specs.declared.run_fault.RunFault.TheVariants as run
+use Rattle.checker_calls.specs.declared.verdict.Verdict.{Verdict}
+use Rattle.checker_calls.specs.declared.verdict.Verdict.TheVariants as verdict
+use Rattle.checker_calls.specs.declared.verdict.CheckError.{CheckError}
+use Rattle.checker_calls.specs.declared.verdict.CheckError.TheVariants as error
+
+-- the verdict of a refusal; of texts none says that a checker has failed
+abbrev pub refusal_verdict : Refusal → Result Verdict CheckError
+refusal_verdict (refusal.Faults list) = Ok (verdict.Refused list)
+refusal_verdict refusal.Memory = Err error.Memory
+refusal_verdict refusal.Failed = Err error.Memory
+
+-- the refusal of some texts, with the bytes that go with it; none says that a checker has failed
+abbrev pub IsAnswerOfRefusal : {Z : Type 0} → Refusal → Result (Outcome × Vec ℕ Z) RunFault → Type 0
+IsAnswerOfRefusal (refusal.Faults list) (Ok (outcome, bytes)) = (outcome ≡ Refused) × (bytes.items ≡ codes "refused\n" ++ flat_map fault_line (diagnostics_of list))
+IsAnswerOfRefusal (refusal.Faults list) (Err fault) = fault ≡ run.Memory
+IsAnswerOfRefusal refusal.Memory answer = answer ≡ Err run.Memory
+IsAnswerOfRefusal refusal.Failed answer = ⊥

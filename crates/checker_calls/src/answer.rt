@@ -1,0 +1,80 @@
+//! The bytes of an answer.
+
+ghost use Rattle.std.specs.Prelude.{◌≡◌, ◌++◌, codes, Some, OnOk, IfOk, string_bytes};
+ghost use Rattle.std.specs.List.{flat_map};
+ghost use Rattle.std.specs.Option.{option_copied};
+ghost use Rattle.verdict_definitions.specs.in_faults.DetailsView.{details_at, diagnostics_of};
+ghost use Rattle.verdict_definitions.specs.Answer.{fault_line, place_text};
+ghost use Rattle.verdict_definitions.specs.Out.{as_lines};
+
+use graphql_names::{FileId, SourceSpan};
+use std::alloc::{AllocError, Global};
+use verdict_definitions::{Details, DiagnosticList};
+
+/// `accepted`, and the two written texts, each ending with a line feed: a text under a prefix has one, a text on one line gets one.
+pub fn accepted(
+    alloc: Global,
+    written_schema: &str,
+    written_document: &str,
+    prefix: Option<&str>,
+) -> Result<Vec<u8>, AllocError>
+    ensures { IfOk result (λ bytes. bytes.items
+        ≡ codes "accepted\n" ++ as_lines (option_copied prefix.entry) written_schema.now ++ as_lines (option_copied prefix.entry) written_document.now) }
+{
+    let mut text = String::from_str(alloc, "accepted\n")?;
+    push_as_lines(&mut text, written_schema, prefix)?;
+    push_as_lines(&mut text, written_document, prefix)?;
+    Ok(text.into_bytes())
+}
+
+/// Adds a written text, and a line feed where it is all on one line.
+fn push_as_lines(text: &mut String, written: &str, prefix: Option<&str>) -> Result<(), AllocError>
+    ensures { OnOk result (string_bytes text.new ≡ string_bytes text.old ++ as_lines (option_copied prefix.entry) written.now) }
+{
+    text.push_str(written)?;
+    if prefix.is_none() {
+        text.push_str("\n")?;
+    }
+    Ok(())
+}
+
+/// `refused`, and a line for each fault.
+pub fn refused(alloc: Global, list: &DiagnosticList) -> Result<Vec<u8>, AllocError>
+    ensures { IfOk result (λ bytes. bytes.items ≡ codes "refused\n" ++ flat_map fault_line (diagnostics_of list.now)) }
+{
+    let mut text = String::from_str(alloc, "refused\n")?;
+    for (place, details) in list.iter().as_slice() {
+        text.push_str(&line(alloc, *place, details)?)?;
+    }
+    Ok(text.into_bytes())
+}
+
+/// The line of a fault: its place, and what it tells.
+fn line(alloc: Global, place: Option<SourceSpan>, details: &Details) -> Result<String, AllocError>
+    ensures { IfOk result (λ text. string_bytes text ≡ fault_line (details_at (place, details.now))) }
+{
+    let place = place_line(alloc, place)?;
+    format!(in alloc; "{place}: {details}\n")
+}
+
+/// The number of the text and the offset in it, or `-` where there is none.
+fn place_line(alloc: Global, place: Option<SourceSpan>) -> Result<String, AllocError>
+    ensures { IfOk result (λ text. string_bytes text ≡ place_text place) }
+{
+    match place {
+        None => String::from_str(alloc, "-"),
+        Some(span) => span_line(alloc, span),
+    }
+}
+
+/// The number of the text and the offset in it, or `-` in what is built in.
+fn span_line(alloc: Global, span: SourceSpan) -> Result<String, AllocError>
+    ensures { IfOk result (λ text. string_bytes text ≡ place_text (Some span)) }
+{
+    if span.file_id == FileId::BUILT_IN {
+        return String::from_str(alloc, "-");
+    }
+    let number = span.file_id.0;
+    let offset = span.offset;
+    format!(in alloc; "{number}:{offset}")
+}

@@ -1,5 +1,0 @@
-use Rattle.std.proofs.Common.{refl}
-use Rattle.checker_texts.proofs.read_text.nesting.Goals as goal
-
-pub returns : goal.returns
-returns c = (refl, record { span = _; is = refl; of_file = refl; at = refl; long = refl })

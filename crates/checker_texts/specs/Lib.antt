@@ -1,8 +1,0 @@
-pub mod TextSources
-pub mod Unread
-pub mod Added
-pub mod TextsView
-pub mod TellsOnly
-pub use Rattle.verdict_definitions.specs.in_faults as in_faults
-pub use Rattle.verdict_definitions.specs.in_schema as in_schema
-pub use Rattle.verdict_definitions.specs as in_verdict_definitions

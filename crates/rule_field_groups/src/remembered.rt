@@ -1,0 +1,246 @@
+//! What was examined.
+ghost use Rattle.std.specs.Prelude.{◌≡◌, ◌∷◌, [], map, is_some, IsTrue, IfOk, OnErr};
+ghost use Rattle.rule_same_values.specs.in_document_definitions.ReadFields.{list_read};
+ghost use Rattle.rule_field_sets.specs.Nodes.{AreSets, HasMember};
+ghost use Rattle.rule_number_lists.specs.NumberLists.{lists_kept};
+ghost use Rattle.rule_field_sets.specs.Read.{set_at, set_content_at};
+ghost use Rattle.rule_field_sets.specs.declared.field_sets.FieldSets.{FieldSets};
+ghost use Rattle.rule_field_groups.specs.Members.{contents_of, meant_sets, read_sets, AreMembersOf, contents_of_two};
+ghost use Rattle.rule_field_groups.specs.Under.{sets_in};
+ghost use Rattle.rule_field_groups.specs.Paid.{OnlyMeets, Pays, IsPaidIf, no_account};
+ghost use Rattle.rule_field_groups.specs.Remembered.{remembered, kept_of, account_of, beside_of, nothing_kept, Remembers, RemembersPaid, LooksAt, Expands, IsKnown};
+
+use crate::budget::{FOR_EACH_FIELD, left_of, spent_with};
+use crate::node_walk::{MergedList, Toll};
+use crate::nodes::number_of;
+use rule_field_sets::{FieldSets, Member};
+use rule_number_lists::{NumberLists, NumberPairs, NumberSet};
+use std::alloc::{AllocError, Global};
+
+/// Two sets that are looked at together, by their nodes: the fields of the one with those of the other. Many may wait, so one is small.
+#[derive(Clone, Copy)]
+pub struct Pair {
+    pub one: u32,
+    pub other: u32,
+}
+
+/// A node in 32 bits: a document has fewer nodes, and one that is not below is told as if memory did not suffice.
+fn short(node: usize) -> Result<u32, AllocError>
+    ensures { IfOk result (λ n. n ≡ node) }
+{
+    u32::try_from(node).map_err(|_| AllocError)
+}
+
+impl Pair {
+    /// Of these nodes.
+    pub fn new(one: usize, other: usize) -> Result<Pair, AllocError>
+        ensures { IfOk result (λ pair. (pair.one ≡ one) × (pair.other ≡ other)) }
+    {
+        Ok(Pair {
+            one: short(one)?,
+            other: short(other)?,
+        })
+    }
+}
+
+/// The lists of fields that were examined, each once, and the lists of sets that were looked at: fields that these select and that go
+/// together are in lists that were examined. All are known by numbers, and a list by which it has, in whatever order; so is a pair.
+pub struct Remembered {
+    lists: NumberLists,
+    /// The fields that were met in lists of sets.
+    met: NumberSet,
+    /// The lists of sets that were looked at.
+    pub expanded: NumberLists,
+    /// The pairs that were looked at, or are left: each once.
+    looked: NumberPairs,
+    /// Of these the ones that are left.
+    pub pairs: Vec<Pair>,
+    /// The lists of sets that are left for the next level, by their nodes.
+    pub next: Vec<Vec<usize>>,
+    /// How many steps the walks over sets took that were paid.
+    spent: usize,
+    /// Whether a list was not paid.
+    is_spent: bool,
+    /// How often shapes were compared.
+    pub comparisons: u128,
+}
+
+// Not derived: a derived drop is proved again in each crate that drops one.
+impl Drop for Remembered {
+    fn drop(self) {
+        let Remembered {
+            lists: _,
+            met: _,
+            expanded: _,
+            looked: _,
+            pairs: _,
+            next: _,
+            spent: _,
+            is_spent: _,
+            comparisons: _,
+        } = self;
+    }
+}
+
+/// The numbers of these fields.
+fn numbers_of(alloc: Global, list: &[Member<'_>]) -> Result<Vec<usize>, AllocError>
+    ensures { IfOk result (λ numbers. numbers.items ≡ map (λ m. m.number) list.now) }
+{
+    let mut numbers = Vec::with_capacity(alloc, list.len())?;
+    for field in list {
+        numbers.push(field.number)?;
+    }
+    Ok(numbers)
+}
+
+/// The numbers of the sets of these nodes.
+fn numbers_of_nodes(
+    alloc: Global,
+    sets: &FieldSets<'_>,
+    nodes: &[usize],
+) -> Result<Vec<usize>, AllocError>
+    requires { AreSets sets.now }
+    ensures { IfOk result (λ numbers. map (set_content_at sets.now) numbers.items ≡ read_sets (meant_sets sets.now nodes.now)) }
+{
+    let mut numbers = Vec::with_capacity(alloc, nodes.len())?;
+    for node in nodes {
+        numbers.push(number_of(sets, *node)?)?;
+    }
+    Ok(numbers)
+}
+
+impl Remembered {
+    /// None.
+    pub fn new(alloc: Global) -> Remembered
+        ensures kept { (w : FieldSets) → kept_of w result ≡ nothing_kept }
+        ensures account { (w : FieldSets) → account_of w result ≡ no_account }
+    {
+        Remembered {
+            lists: NumberLists::new(alloc),
+            met: NumberSet::new(alloc),
+            expanded: NumberLists::new(alloc),
+            looked: NumberPairs::new(alloc),
+            pairs: Vec::new(alloc),
+            next: Vec::new(alloc),
+            spent: 0,
+            is_spent: false,
+            comparisons: 0,
+        }
+    }
+
+    /// Whether all numbers that stand here are below these: those of fields, and those of sets.
+    pub fn is_known(&self, fields: usize, sets: usize) -> bool
+        ensures { IsTrue result → IsKnown fields sets self.now }
+    {
+        self.lists.bound() <= fields
+            && self.met.bound() <= fields
+            && self.expanded.bound() <= sets
+            && self.looked.bound() <= sets
+    }
+
+    /// Remembers two fields as a list: one, where both say the same. Whether it was not remembered before is given.
+    pub fn remember_two(&mut self, one: Member<'_>, other: Member<'_>) -> Result<bool, AllocError>
+        ensures remembers { IfOk result (λ is_new. (w : FieldSets) → AreSets w → HasMember w one.entry → HasMember w other.entry → Remembers (kept_of w self.old) (contents_of_two one.entry other.entry) is_new (kept_of w self.new)) }
+        ensures refused { OnErr result ((w : FieldSets) → kept_of w self.new ≡ kept_of w self.old) }
+        ensures account { (w : FieldSets) → account_of w self.new ≡ record (account_of w self.old) { lists = remembered w self.new } }
+        ensures next { (w : FieldSets) → sets_in w self.new.next ≡ sets_in w self.old.next }
+    {
+        self.lists.remember_two(one.number, other.number)
+    }
+
+    /// Notes that the sets of two nodes are looked at together. Whether they were not noted before is given: two with the same contents.
+    pub(crate) fn look(
+        &mut self,
+        sets: &FieldSets<'_>,
+        one: usize,
+        other: usize,
+    ) -> Result<bool, AllocError>
+        requires { AreSets sets.now }
+        ensures looks { IfOk result (λ is_new. LooksAt (kept_of sets.now self.old) (read_sets (set_at sets.now one ∷ set_at sets.now other ∷ [])) is_new (kept_of sets.now self.new)) }
+        ensures beside { beside_of sets.now self.new ≡ beside_of sets.now self.old }
+    {
+        self.looked
+            .remember(number_of(sets, one)?, number_of(sets, other)?)
+    }
+
+    /// No pair is left to look at.
+    pub fn begin_pairs(&mut self)
+        ensures kept { (w : FieldSets) → kept_of w self.new ≡ record (kept_of w self.old) { pairs = [] } }
+        ensures beside { (w : FieldSets) → beside_of w self.new ≡ beside_of w self.old }
+    {
+        self.pairs.clear();
+    }
+
+    /// Whether sets are looked at in pairs before they are expanded: they are two, and a list was not paid. There may be as many
+    /// lists of two sets as sets times sets.
+    pub fn skips(&self, nodes: &[usize]) -> bool {
+        self.is_spent && nodes.len() == 2
+    }
+
+    /// What the walk over the next list of sets may cost.
+    pub fn toll(&self) -> Toll<'_> {
+        Toll {
+            met: &self.met,
+            paid: left_of(self.spent, self.met.len()),
+            each: FOR_EACH_FIELD,
+        }
+    }
+
+    /// Meets these fields.
+    fn meet(&mut self, list: &[Member<'_>]) -> Result<(), AllocError>
+        ensures meets { (w : FieldSets) → AreSets w → AreMembersOf w list.now → OnlyMeets (contents_of list.now) (account_of w self.old) (account_of w self.new) }
+        ensures same { self.new ≡ record self.old { met = self.new.met } }
+    {
+        for field in list {
+            self.met.insert(field.number)?;
+        }
+        Ok(())
+    }
+
+    /// Remembers the merged list of some sets, if it is whole and may be examined: what it costs is paid by fields that are new. Whether it
+    /// was not remembered before is given: one with the same contents; or nothing, where it is not paid.
+    pub fn remember_paid(
+        &mut self,
+        alloc: Global,
+        list: &MergedList<'_>,
+    ) -> Result<Option<bool>, AllocError>
+        ensures remembers { IfOk result (λ is_new. (w : FieldSets) → AreSets w → AreMembersOf w list.now.members.items → RemembersPaid (kept_of w self.old) (contents_of list.now.members.items) is_new (kept_of w self.new)) }
+        ensures whole { IfOk result (λ is_new. IsTrue (is_some is_new) → IsTrue list.now.is_whole) }
+        ensures refused { OnErr result ((w : FieldSets) → kept_of w self.new ≡ kept_of w self.old) }
+        ensures pays { (w : FieldSets) → AreSets w → AreMembersOf w list.now.members.items → Pays (contents_of list.now.members.items) (account_of w self.old) (account_of w self.new) }
+        ensures paid { IfOk result (λ is_new. (w : FieldSets) → IsPaidIf (is_some is_new) (contents_of list.now.members.items) (account_of w self.old) (account_of w self.new)) }
+        ensures next { (w : FieldSets) → sets_in w self.new.next ≡ sets_in w self.old.next }
+    {
+        self.meet(&list.members)?;
+        let steps = list.steps.max(list.members.len());
+        match spent_with(self.spent, steps, self.met.len()) {
+            Some(spent) => self.spent = spent,
+            None => {
+                self.is_spent = true;
+                return Ok(None);
+            }
+        }
+        if !list.is_whole {
+            self.is_spent = true;
+            return Ok(None);
+        }
+        let numbers = numbers_of(alloc, &list.members)?;
+        let is_new = self.lists.remember(numbers)?;
+        Ok(Some(is_new))
+    }
+
+    /// Notes that a list of sets is looked at. Whether it was not noted before is given: one with the same contents.
+    pub fn expand(
+        expanded: &mut NumberLists,
+        alloc: Global,
+        sets: &FieldSets<'_>,
+        nodes: &[usize],
+    ) -> Result<bool, AllocError>
+        requires { AreSets sets.now }
+        ensures expands { IfOk result (λ is_new. Expands (map (map (set_content_at sets.now)) (lists_kept expanded.old)) (read_sets (meant_sets sets.now nodes.now)) is_new (map (map (set_content_at sets.now)) (lists_kept expanded.new))) }
+        ensures refused { OnErr result (lists_kept expanded.new ≡ lists_kept expanded.old) }
+    {
+        let numbers = numbers_of_nodes(alloc, sets, nodes)?;
+        expanded.remember(numbers)
+    }
+}

@@ -1,0 +1,10 @@
+pub mod Fields
+pub mod Kinds
+pub mod Tables
+pub mod Numbered
+pub mod Found
+pub mod Opened
+pub mod Nodes
+pub mod Read
+pub mod Added
+pub use Rattle.rule_document_ground.specs as in_ground

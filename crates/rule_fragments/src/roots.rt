@@ -1,0 +1,27 @@
+//! The selections at the root of an operation.
+ghost use Rattle.std.specs.Prelude.{IfOk};
+ghost use Rattle.rule_always.specs.in_ground.in_typed_operations.DocumentView.{document_meant, operation_meant};
+ghost use Rattle.rule_fragments.specs.Rooted.{AreRoots};
+ghost use Rattle.rule_always.specs.Lent.{lent_all};
+
+use document_typed_operations::{ExecutableDocument, Operation};
+use document_typed_selections::Selection;
+use document_walks::ReachedSelections;
+use graphql_names::Node;
+use std::alloc::{AllocError, Global};
+
+/// The selections at the root of the operation, through fragments, each once, as copies that share what they hold.
+pub(crate) fn root_selections(
+    alloc: Global,
+    document: &ExecutableDocument,
+    operation: &Node<Operation>,
+) -> Result<Vec<Selection>, AllocError>
+    ensures { IfOk result (λ roots. AreRoots (document_meant document.now) (operation_meant operation.now) (lent_all roots.items)) }
+{
+    let set = &operation.content().selection_set;
+    let mut roots = Vec::new(alloc);
+    for selection in ReachedSelections::new(alloc, false, set, &document.fragments) {
+        roots.push(selection?.1.clone()?)?;
+    }
+    Ok(roots)
+}

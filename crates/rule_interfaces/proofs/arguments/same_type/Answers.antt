@@ -1,6 +1,0 @@
-use Rattle.std.proofs.Common.{◌∙◌}
-use Rattle.rule_interfaces.proofs.SameTypes.{same_as_tested}
-use Rattle.rule_interfaces.proofs.arguments.same_type.Goals as goal
-
-pub returns : goal.returns
-returns c = c.eq.ensures ∙ same_as_tested c.args.a.now c.args.b.now

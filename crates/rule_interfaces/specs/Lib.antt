@@ -1,4 +1,0 @@
-pub mod InterfaceFaults
-pub mod Firsts
-pub mod Adds
-pub mod Trees

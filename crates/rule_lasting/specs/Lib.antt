@@ -1,4 +1,0 @@
-pub mod Parts
-pub mod LastingRules
-pub mod Lasts
-pub mod Laws

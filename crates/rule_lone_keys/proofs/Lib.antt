@@ -1,0 +1,4 @@
+pub mod Selecting
+pub mod Walking
+pub mod Leveling
+pub mod Merging

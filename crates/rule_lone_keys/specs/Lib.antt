@@ -1,0 +1,2 @@
+pub mod LoneKeys
+pub mod Passed

@@ -1,0 +1,55 @@
+//! Pairs of numbers that are remembered.
+ghost use Rattle.std.specs.Prelude.{◌≡◌, ℕ, Contains, [], ◌<◌, length, max, min, IfOk, OnOk, OnErr};
+
+use crate::bits::Bits;
+use std::alloc::{AllocError, Global};
+
+/// Pairs of numbers, in whatever order the two stand: for each number those that are not above it and are in a pair with it.
+#[derive(Drop)]
+pub struct NumberPairs {
+    rows: Vec<Bits>,
+}
+
+impl NumberPairs {
+    ghost use Rattle.rule_number_lists.specs.NumberPairs.{pairs_kept, KeepsPair, AreFew};
+
+    /// None.
+    pub fn new(alloc: Global) -> NumberPairs
+        ensures { pairs_kept result ≡ [] }
+    {
+        NumberPairs {
+            rows: Vec::new(alloc),
+        }
+    }
+
+    /// A number above all that are in pairs.
+    pub fn bound(&self) -> usize
+        ensures { (p : ℕ × ℕ) → Contains (pairs_kept self.now) p → (p.0 < result) × (p.1 < result) }
+    {
+        self.rows.len()
+    }
+
+    /// Remembers a pair. Whether it was not remembered before is given, in whatever order.
+    pub fn remember(&mut self, one: usize, other: usize) -> Result<bool, AllocError>
+        ensures keeps { IfOk result (λ is_new. KeepsPair (pairs_kept self.old) (max one other, min one other) is_new (pairs_kept self.new)) }
+        ensures refused { OnErr result (pairs_kept self.new ≡ pairs_kept self.old) }
+        ensures few { AreFew (pairs_kept self.new) }
+    {
+        let high = one.max(other);
+        let low = one.min(other);
+        self.reach(high)?;
+        self.rows[high].set(low)
+    }
+
+    /// Adds rows, until there is one for the number.
+    fn reach(&mut self, number: usize) -> Result<(), AllocError>
+        ensures same { pairs_kept self.new ≡ pairs_kept self.old }
+        ensures reached { OnOk result (number < length self.new.rows.items) }
+    {
+        let alloc = *self.rows.allocator();
+        while self.rows.len() <= number {
+            self.rows.push(Bits::new(alloc))?;
+        }
+        Ok(())
+    }
+}

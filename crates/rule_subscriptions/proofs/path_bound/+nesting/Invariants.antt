@@ -1,8 +1,0 @@
-use Rattle.std.proofs.Common.{◌≡◌, false, take}
-use Rattle.std.specs.List.{list_any}
-use Rattle.rule_subscriptions.specs.Nested.{deeper_of}
-use Rattle.rule_always.specs.Lent.{lent}
-use Rattle.rule_subscriptions.proofs.path_bound.+nesting.Given as goal
-
-abbrev pub invariant-nests_deeper-loop-selection : goal.invariant-nests_deeper-loop-selection
-invariant-nests_deeper-loop-selection l = list_any (λ s. deeper_of l.bound (lent s)) (take l.selection-index l.set.selections.items) ≡ false

@@ -1,4 +1,0 @@
-pub mod Seen
-pub mod Alike
-pub mod Again
-pub mod Equal

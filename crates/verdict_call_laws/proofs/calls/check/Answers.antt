@@ -1,6 +1,0 @@
-use Rattle.verdict_call_laws.proofs.Seen.{check_answers}
-use Rattle.verdict_call_laws.proofs.calls.check.Goals as goal
-
-pub returns : goal.returns
-returns c =
-    check_answers c.args.schema.now c.args.text.now c.check.result c.check.ensures.schema c.check.ensures.text c.check.ensures.accepted c.check.ensures.refused c.check.ensures.complete

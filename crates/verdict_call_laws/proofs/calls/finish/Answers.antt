@@ -1,5 +1,0 @@
-use Rattle.verdict_call_laws.proofs.Seen.{finish_answers}
-use Rattle.verdict_call_laws.proofs.calls.finish.Goals as goal
-
-pub returns : goal.returns
-returns c = finish_answers c.args.checker c.finish.result c.finish.ensures.schema c.finish.ensures.running c.finish.ensures.refused c.finish.ensures.complete

@@ -1,8 +1,0 @@
-use Rattle.verdict_call_laws.proofs.Alike.{verdicts_of_cut, schemas_of_cut}
-use Rattle.verdict_call_laws.proofs.cut_texts_are_checked_alike.Goals as goal
-
-pub returns-clause-verdicts : goal.returns-clause-verdicts
-returns-clause-verdicts c = verdicts_of_cut
-
-pub returns-clause-schemas : goal.returns-clause-schemas
-returns-clause-schemas c = schemas_of_cut

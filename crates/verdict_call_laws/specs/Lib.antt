@@ -1,5 +1,0 @@
-pub mod Answers
-pub mod Seen
-pub mod Alike
-pub mod Again
-pub mod Equal
