@@ -58,18 +58,14 @@ class Known(NamedTuple):
 KNOWN = {
     "dag": Known(factor=3.0),
     "apply": Known(factor=3.5),
-    "told_args": Known(factor=3.7, cut="memory"),
-    "told_keys": Known(factor=3.9, cut="memory"),
-    "told_ops": Known(factor=10.0, cut="memory"),
+    "told_ops": Known(factor=4.0),
     "told_names": Known(factor=3.7, megabytes=107),
     "hash_lists": Known(factor=2.4),
-    "missing_fields": Known(factor=3.9, cut="memory"),
-    "schema_transitive": Known(factor=3.7, cut="memory"),
     "like_names": Known(factor=2.6),
     "shared_variables": Known(factor=3.9),
     "told_roots": Known(factor=4.0, megabytes=156),
-    "told_variables": Known(factor=3.9, megabytes=871),
-    "told_labels": Known(factor=3.8, megabytes=212),
+    "told_variables": Known(factor=3.0),
+    "told_labels": Known(factor=3.5),
 }
 
 

@@ -539,7 +539,7 @@ FAMILIES = [
     family(locations, 2_500),
     family(told_args, 400, told=True),
     family(told_keys, 400, told=True),
-    family(told_ops, 160, told=True),
+    family(told_ops, 2_000, told=True),
     family(told_names, 4_000, told=True),
     family(hash_aliases, 8_000, 100_000),
     family(hash_lists, 3_500),

@@ -400,4 +400,5 @@ def main():
             print(f"| {name} | {size:,} | {answer} | {instructions:,} | {instructions / size:.1f} | {memory:,} | {memory / size:.1f} |", flush=True)
 
 
-main()
+if __name__ == "__main__":
+    main()

@@ -19,7 +19,7 @@ use Rattle.graphql_rules.specs.in_faults.DetailsTree.{of_rule, of_folding}
 use Rattle.checker_calls.specs.in_verdict_definitions.Texts.{SourceText, Tree, Terms, ReadsAll, document_number, AreWithin, AreRead}
 use Rattle.checker_calls.specs.in_verdict_definitions.Meaning.{all_definitions, schema_of}
 use Rattle.checker_calls.specs.in_verdict_definitions.Says.{AnyFault, spent, FoldingFails, SchemaFails, SchemaRuleFailsBesideCycles}
-use Rattle.checker_calls.specs.in_verdict_definitions.Answer.{UnreadFaults, RefusesSchemas}
+use Rattle.checker_calls.specs.in_verdict_definitions.Answer.{IsToldUnlessFull, UnreadFaults, RefusesSchemas}
 use Rattle.schema_building.specs.SourcesView.{with_sources}
 use Rattle.checker_calls.specs.TextSources.{Sources, text_sources}
 use Rattle.checker_calls.specs.Added.{IsNextNumber, AreAdded}
@@ -31,7 +31,7 @@ use Rattle.checker_calls.specs.declared.refusal.Refusal.TheVariants.{Faults, Mem
 use Rattle.graphql_rules.specs.in_faults.DetailsView.{diagnostics_of}
 use Rattle.schema_components.proofs.Places.{not_in_nil, Contains-cons}
 use Rattle.checker_schemas.proofs.Sourcing.{all_sources_stay}
-use Rattle.checker_calls.proofs.Deciding.{no_member, none_told, one_list, are_read, are_within, no_unread, read_unread, says_unread}
+use Rattle.checker_calls.proofs.Deciding.{none_told, one_list, are_read, are_within, no_unread, read_unread, says_unread}
 
 -- ---- a builder that has the definitions of the texts
 
@@ -71,14 +71,14 @@ none_alone : spent ∷ [] ≢ []
 none_alone e = absurd cc
 
 -- what is told of the schema of the trees: each breach of a folding rule, or that numbers are spent; of a rule on schemas, those on
--- cycles aside, each; and that numbers are spent stands alone
+-- cycles aside, each, unless as many are told as one call tells; and that numbers are spent stands alone
 module _ (terms : Terms) (faults : List AnyFault) (trees : List Tree) where
   abbrev FoldingTold : Type 0
   FoldingTold = (faults ≡ spent ∷ []) ⊎ ((f : folding.BuildFault) → FoldingFails terms trees f → Contains faults (of_folding f))
 
   abbrev RulesTold : Type 0
   RulesTold = HaveNumbers terms.first_extension (all_definitions trees) → ((f : folding.BuildFault) → FoldingFails terms trees f → ⊥)
-      → (f : PlacedFault) → SchemaRuleFailsBesideCycles terms trees f → Contains faults (of_rule f)
+      → (f : PlacedFault) → SchemaRuleFailsBesideCycles terms trees f → IsToldUnlessFull faults (of_rule f)
 
   abbrev SpentTold : Type 0
   SpentTold = (HaveNumbers terms.first_extension (all_definitions trees) → ⊥) → faults ≡ spent ∷ []

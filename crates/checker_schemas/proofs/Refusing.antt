@@ -1,11 +1,9 @@
 -- Schema texts that are accepted for sure are not refused.
 use Rattle.std.proofs.Common.{inl, inr, ◌≡◌, List, refl, subst}
-use Rattle.schema_building.specs.Numbers.{HaveNumbers}
 use Rattle.graphql_rules.specs.in_faults.DetailsView.{diagnostics_of}
 use Rattle.checker_calls.specs.in_verdict_definitions.Texts.{SourceText, Tree, Terms, AreRead}
-use Rattle.checker_calls.specs.in_verdict_definitions.Meaning.{all_definitions}
 use Rattle.checker_calls.specs.in_verdict_definitions.Judge.{AreSchemasAccepted, AreSchemasCertain}
-use Rattle.checker_calls.specs.in_verdict_definitions.Says.{AnyFault, FoldingFails, SchemaRuleFails, SchemaFails, SaysSchema}
+use Rattle.checker_calls.specs.in_verdict_definitions.Says.{AnyFault, SchemaFails, SaysSchema}
 use Rattle.checker_calls.specs.in_verdict_definitions.Answer.{RefusesSchemas}
 use Rattle.checker_schemas.specs.Refusals.{RefusalOfSchemas}
 use Rattle.checker_calls.specs.declared.refusal.Refusal.{Refusal}

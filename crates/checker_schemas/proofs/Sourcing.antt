@@ -1,5 +1,5 @@
 -- A builder that is given documents one after another has their sources in order, since each has a number of its own.
-use Rattle.std.proofs.Common.{◌≡◌, ℕ, ◌+◌, ◌<◌, Bool, false, List, [], ◌∷◌, ◌++◌, refl, sym, ap, ◌∙◌, cond, nat_eq, ne_eqb, arith, append-nil}
+use Rattle.std.proofs.Common.{◌≡◌, ℕ, ◌+◌, ◌<◌, false, List, [], ◌∷◌, ◌++◌, refl, sym, ap, ◌∙◌, cond, nat_eq, ne_eqb, arith, append-nil}
 use Rattle.std.proofs.Math.Nat.{lt_irrefl}
 use Rattle.indexmap.specs.IndexMap.{insert_entry}
 use Rattle.tree_definitions.specs.Sources.{Source}

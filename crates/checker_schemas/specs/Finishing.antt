@@ -22,6 +22,7 @@ use Rattle.graphql_rules.specs.in_faults.DetailsView.{diagnostics_of}
 use Rattle.checker_calls.specs.in_verdict_definitions.Texts.{Tree}
 use Rattle.checker_calls.specs.in_verdict_definitions.Meaning.{all_definitions}
 use Rattle.checker_calls.specs.in_verdict_definitions.Says.{AnyFault, spent}
+use Rattle.checker_calls.specs.in_verdict_definitions.Answer.{IsToldUnlessFull}
 use Rattle.checker_calls.specs.TellsOnly.{TellsOnly}
 use Rattle.checker_calls.specs.declared.refusal.Refusal.{Refusal}
 use Rattle.checker_calls.specs.declared.refusal.Refusal.TheVariants.{Faults, Memory, Failed}
@@ -73,11 +74,12 @@ RefusalOfFolding b Failed = ⊥
 
 -- ---- rules on schemas
 
--- they are broken so, or the bound on references is passed, and all that breaks them is told, of those on cycles some
+-- they are broken so, or the bound on references is passed, and all that breaks them is told, of those on cycles some, unless as many
+-- are told as one call tells
 pub record RefusesSchemaRules (schema : SchemaTree Place) (faults : List AnyFault) : Type 0 where
   pub some : faults ≢ []
   pub right : (fault : AnyFault) → Contains faults fault → (f : PlacedFault) × ((fault ≡ of_rule f) × (RulesFail schema f ⊎ BoundFails schema f))
-  pub full : (f : PlacedFault) → Told schema BreaksBesideCycles f → Contains faults (of_rule f)
+  pub full : (f : PlacedFault) → Told schema BreaksBesideCycles f → IsToldUnlessFull faults (of_rule f)
 
 abbrev pub RefusalOfSchemaRules : SchemaTree Place → Refusal → Type 0
 RefusalOfSchemaRules schema (Faults list) = RefusesSchemaRules schema (diagnostics_of list)

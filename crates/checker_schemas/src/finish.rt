@@ -40,7 +40,7 @@ pub struct JudgedTexts {
 /// The schema of the texts, if they are accepted.
 ///
 /// Otherwise it tells what is wrong: a fault for each text that is not read, alone; else each folding rule that is broken;
-/// where none is, each rule on schemas that is.
+/// where none is, the first 1,000 breaches of rules on schemas.
 pub fn schema_of_texts(texts: SchemaTexts) -> Result<JudgedTexts, Refusal>
     requires { IsReadingOf (texts_of texts) texts }
     ensures schema { IfOk result (λ s. IsCheckedSchemaOf (terms_of texts) (texts_of texts) (judged_value s)) }

@@ -1,5 +1,6 @@
 pub mod DiagnosticView
 pub mod FaultView
+pub use Rattle.rule_definitions.specs.Room
 pub mod Adds
 pub mod Messages
 pub mod FilledTemplate

@@ -17,7 +17,7 @@ mod template;
 mod use_copies;
 
 pub use diagnostic_data::DiagnosticData;
-pub use fault::{Fault, tell};
+pub use fault::{Fault, MOST_TOLD, is_full, tell};
 pub use schema_coordinates::{
     DirectiveArgumentCoordinate, DirectiveCoordinate, FieldArgumentCoordinate, SchemaCoordinate,
     TypeAttributeCoordinate,

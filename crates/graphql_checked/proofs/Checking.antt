@@ -26,7 +26,7 @@ use Rattle.book_validity.specs.in_verdict_definitions.Out.{Layout, layout_text}
 use Rattle.book_validity.specs.in_verdict_definitions.Answer.{UnreadAlone, RefusesDocument, WritesDocument}
 use Rattle.checker_schemas.specs.CheckedSchemaValue.{CheckedSchemaValue}
 use Rattle.graphql_checked.specs.CheckerValue.{IsCheckedDocumentOf}
-use Rattle.graphql_checked.specs.DocumentRefusals.{RefusalOfDocument, TypingOrLastingFails, RefusalWithLasting}
+use Rattle.graphql_checked.specs.DocumentRefusals.{RefusalOfDocument, TypingOrLastingFails, TellsLastingOfFirst, RefusalWithLasting}
 use Rattle.checker_calls.specs.TellsOnly.{TellsOnly}
 use Rattle.graphql_checked.specs.Checking.{IsReadDocument, IsUnreadDocument, TypesDocument, RefusalOfTyping, RefusalOfRules}
 use Rattle.checker_calls.specs.declared.refusal.Refusal.{Refusal}
@@ -69,7 +69,8 @@ module _ (schema : CheckedSchemaValue) (text : SourceText) where
 
   pub unread_lasting : (refusal : Refusal) → IsUnreadDocument schema text refusal → RefusalWithLasting schema text refusal
   unread_lasting (Faults list) (here, (is, unread)) = record {
-    full = λ within tree read fault fails. absurd (unread_not_read schema.nesting schema.number text here unread (is_read schema.nesting schema.number text tree read within));
+    full = λ within tree read typed fault fails. absurd (unread_not_read schema.nesting schema.number text here unread (is_read schema.nesting schema.number text tree read within));
+    first = λ within tree read f fails. absurd (unread_not_read schema.nesting schema.number text here unread (is_read schema.nesting schema.number text tree read within));
     only = λ within tree read f fails fault c. absurd (unread_not_read schema.nesting schema.number text here unread (is_read schema.nesting schema.number text tree read within));
   }
   unread_lasting Memory unread = tt
@@ -117,7 +118,9 @@ module _ (schema : CheckedSchemaValue) (text : SourceText) where
     -- and nothing else is told but what stays broken
     pub typing_lasting : (refusal : Refusal) → RefusalOfTyping schema.schema tree refusal → RefusalWithLasting schema text refusal
     typing_lasting (Faults list) h = record {
-      full = λ within other reads fault fails. h.lasting fault (subst (λ t. LastingFails schema.schema (document_over schema.schema t) fault) (same other (reads, within)) fails);
+      full = λ within other reads typed fault fails.
+          absurd (typed h.broken.0 (subst (λ t. TypingFailsOver schema.schema t h.broken.0) (sym (same other (reads, within))) h.broken.1));
+      first = λ within other reads f fails. subst (λ t. TellsLastingOfFirst schema.schema (document_over schema.schema t) (diagnostics_of list)) (sym (same other (reads, within))) h.lasting;
       only = λ within other reads f fails fault c. subst (λ t. TypingOrLastingFails schema.schema t fault) (sym (same other (reads, within))) (h.right fault c);
     }
     typing_lasting Memory h = tt
@@ -142,9 +145,11 @@ module _ (schema : CheckedSchemaValue) (text : SourceText) where
 
       pub rules_lasting : (refusal : Refusal) → RefusalOfRules schema.schema document refusal → RefusalWithLasting schema text refusal
       rules_lasting (Faults list) h = record {
-        full = λ within other reads fault fails.
+        full = λ within other reads holds fault fails.
             let e : document_over schema.schema other ≡ document = ap (document_over schema.schema) (same other (reads, within)) ∙ sym typed.is in
             h.lasting fault (subst (λ d. LastingFails schema.schema d fault) e fails);
+        first = λ within other reads f fails.
+            absurd (not_in_nil (of_typing f) (typed.full f (subst (λ t. TypingFailsOver schema.schema t f) (same other (reads, within)) fails)));
         only = λ within other reads f fails fault c.
             absurd (not_in_nil (of_typing f) (typed.full f (subst (λ t. TypingFailsOver schema.schema t f) (same other (reads, within)) fails)));
       }

@@ -1,13 +1,15 @@
 -- What typing and judging a document find, as lists of faults.
-use Rattle.std.proofs.Common.{◌≡◌, ◌≢◌, List, [], ◌∷◌, ◌++◌, map, Contains, refl, ap, subst, ◌∙◌, sym, inl, inr}
+use Rattle.std.proofs.Common.{◌≡◌, ◌≢◌, List, [], ◌∷◌, ◌++◌, map, take, Contains, refl, ap, subst, ◌∙◌, sym, inl, inr}
 use Rattle.std.proofs.lemmas.List.Elements.{Contains-append_left, Contains-append_right, Contains-append_cases}
 use Rattle.std.specs.Prelude.{◌↔◌}
+use Rattle.std.specs.List.{filter}
 use Rattle.graphql_names.specs.Placed.{Place}
 use Rattle.schema_types.specs.SchemaTree.{SchemaTree}
 use Rattle.schema_types.specs.Plain.{plain}
 use Rattle.document_meaning.specs.MeantTree.{MeantDocument}
 use Rattle.document_meaning.specs.Unplaced.{unplaced_document}
 use Rattle.book_validity.specs.in_typing.Meanings.{meanings}
+use Rattle.book_validity.specs.in_verdict_definitions.Meaning.{document_over}
 use Rattle.book_validity.specs.in_typing.KeptDocument.{kept_document}
 use Rattle.book_validity.specs.in_typing.TypedByPlace.{IsTypedDocument}
 use Rattle.book_validity.specs.in_typing.TypingFaults as typing
@@ -19,12 +21,16 @@ use Rattle.rule_document_definitions.specs.Told.{PlacedDocumentFault, IsValidDoc
 use Rattle.rule_document_definitions.specs.Verdict.{WithinBounds}
 use Rattle.rule_document_definitions.proofs.Unplaced.{contains_map, contains_unmap}
 use Rattle.graphql_validation.specs.LastingRules.{LastingFails, LastingOrCycleFails}
-use Rattle.graphql_validation.specs.TellsDocument.{DocumentTold}
+use Rattle.graphql_validation.specs.Lasts.{lasts}
+use Rattle.graphql_validation.specs.TellsDocument.{FailsBesideMerging, SomeFails, DocumentTold}
 use Rattle.graphql_validation.specs.TellsLasting.{TellsLasting}
+use Rattle.graphql_validation.proofs.Filtered.{filtered, passing}
 use Rattle.graphql_validation.proofs.StandingFaults.{lasting_told}
 use Rattle.graphql_faults.specs.DetailsTree.{of_typing, of_document}
+use Rattle.rule_definitions.specs.Room.{most_told}
 use Rattle.book_validity.specs.in_verdict_definitions.Texts.{Tree}
 use Rattle.book_validity.specs.in_verdict_definitions.Says.{AnyFault, TypingFailsOver}
+use Rattle.verdict_definitions.proofs.ToldUnlessFull.{of_first, told_unless_full, told_of}
 use Rattle.graphql_checked.specs.Checking.{TypesDocument, RefusesTyping, RefusesRules}
 
 -- ---- lists
@@ -76,38 +82,49 @@ still_some : (faults more : List AnyFault) → faults ≢ [] → faults ++ more 
 still_some [] more some none = some refl
 still_some (fault ∷ faults) more some none = let e : [] ≡ fault ∷ (faults ++ more) = sym none in absurd cc
 
--- some rule of typing is broken, and behind that stands what breaks rules that stay broken
+-- what fails beside merging fails
+besides_some : (schema : SchemaTree Place) (document : MeantDocument Place) (f : PlacedDocumentFault) → FailsBesideMerging schema document f → SomeFails schema document f
+besides_some schema document f (inl h) = inl h
+besides_some schema document f (inr (inl h)) = inr (inr (inl h))
+besides_some schema document f (inr (inr h)) = inr (inr (inr (inl h)))
+
+-- some rule of typing is broken, and behind that stands what breaks rules that stay broken, of the first breaches
 pub refuses_typing : (schema : SchemaTree Place) (tree : Tree) (document : MeantDocument Place) (found faults : List AnyFault) → TypesDocument schema tree document found → found ≢ []
-    → (added : List PlacedDocumentFault) → faults ≡ found ++ map of_document added → TellsLasting schema document added → RefusesTyping schema tree faults
-refuses_typing schema tree document found faults types some added is tells = subst (RefusesTyping schema tree) (sym is) (record {
-  broken = some_broken schema tree found some types.right;
-  some = still_some found (map of_document added) some;
-  right = λ fault c. elim (Contains-append_cases found (map of_document added) fault c) [
-    | inl h ↦ inl (types.right fault h)
-    | inr h ↦ let p = contains_unmap of_document added fault h in
-        inr (p.0, (sym p.1.1, subst (λ d. LastingOrCycleFails schema d p.0) types.is (tells.right p.0 p.1.0)))
-  ];
-  full = λ f fails. Contains-append_left found (map of_document added) (of_typing f) (types.full f fails);
-  lasting = λ f fails. Contains-append_right found (map of_document added) (of_document f)
-      (contains_map of_document added f (tells.full f (subst (λ d. LastingFails schema d f) (sym types.is) fails)));
-})
+    → (all : List PlacedDocumentFault) → faults ≡ found ++ map of_document (filter lasts (take most_told all))
+    → ((f : PlacedDocumentFault) → Contains all f → FailsBesideMerging schema document f) → TellsLasting schema document (filter lasts all) → RefusesTyping schema tree faults
+refuses_typing schema tree document found faults types some all is besides tells =
+    let kept : List PlacedDocumentFault = filter lasts (take most_told all) in
+    let told : List AnyFault = map of_document kept in
+    let among = λ (f : PlacedDocumentFault) (fails : LastingFails schema (document_over schema tree) f). filtered lasts all f (tells.full f (subst (λ d. LastingFails schema d f) (sym types.is) fails)) in
+    subst (RefusesTyping schema tree) (sym is) (record {
+      broken = some_broken schema tree found some types.right;
+      some = still_some found told some;
+      right = λ fault c. elim (Contains-append_cases found told fault c) [
+        | inl h ↦ inl (types.right fault h)
+        | inr h ↦ let p = contains_unmap of_document kept fault h in
+            let q = filtered lasts (take most_told all) p.0 p.1.0 in
+            inr (p.0, (sym p.1.1, subst (λ d. LastingOrCycleFails schema d p.0) types.is (tells.right p.0 (passing lasts all p.0 (of_first most_told all p.0 q.0) q.1))))
+      ];
+      full = λ f fails. Contains-append_left found told (of_typing f) (types.full f fails);
+      lasting = record {
+        found = all;
+        right = λ f c. subst (λ d. SomeFails schema d f) types.is (besides_some schema document f (besides f c));
+        full = λ f fails. (among f fails).0;
+        told = λ f fails c. Contains-append_right found told (of_document f) (contains_map of_document kept f (passing lasts (take most_told all) f c (among f fails).1));
+      };
+    })
 
 -- ---- judging
 
 -- some rule on documents or on merging is broken, or a bound is passed
 pub refuses_rules : (schema : SchemaTree Place) (document : MeantDocument Place) (old faults : List AnyFault) → old ≡ [] → DocumentTold schema document old faults
     → (IsValidDocument schema document → WithinBounds (unplaced_document document) → faults ≡ old) → faults ≢ [] → RefusesRules schema document faults
-refuses_rules schema document old faults none (added, (is, tells)) accepts some = record {
-  some = some;
-  full = λ f fails.
-      let e : faults ≡ map of_document added = is ∙ ap (λ l. l ++ map of_document added) none in
-      subst (λ l. Contains l (of_document f)) (sym e) (contains_map of_document added f (tells.full f fails));
-  right = λ fault c.
-      let e : faults ≡ map of_document added = is ∙ ap (λ l. l ++ map of_document added) none in
-      let p = contains_unmap of_document added fault (subst (λ l. Contains l fault) e c) in
-      (p.0, (sym p.1.1, tells.right p.0 p.1.0));
-  lasting = λ f fails.
-      let e : faults ≡ map of_document added = is ∙ ap (λ l. l ++ map of_document added) none in
-      subst (λ l. Contains l (of_document f)) (sym e) (contains_map of_document added f (lasting_told schema document added tells f fails));
-  bounds = λ valid within. some (accepts valid within ∙ none);
-}
+refuses_rules schema document old faults none (all, (is, tells)) accepts some =
+    let first : faults ≡ map of_document (take most_told all) = is ∙ ap (λ l. l ++ map of_document (take most_told all)) none in
+    record {
+      some = some;
+      full = λ f fails. told_unless_full of_document faults all first f (tells.full f fails);
+      right = λ fault c. let p = told_of of_document faults all first fault c in (p.0, (sym p.1.1, tells.right p.0 p.1.0));
+      lasting = λ f fails. told_unless_full of_document faults all first f (lasting_told schema document all tells f fails);
+      bounds = λ valid within. some (accepts valid within ∙ none);
+    }

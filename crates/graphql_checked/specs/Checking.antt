@@ -20,11 +20,11 @@ use Rattle.graphql_validation.specs.TellsDocument.{IsTypedUnder, FailsBesides, S
 use Rattle.book_validity.specs.in_verdict_definitions.Texts.{SourceText, Tree, ReadsText, IsWithin}
 use Rattle.book_validity.specs.in_verdict_definitions.Meaning.{document_over}
 use Rattle.book_validity.specs.in_verdict_definitions.Says.{AnyFault, TypingFailsOver}
-use Rattle.book_validity.specs.in_verdict_definitions.Answer.{UnreadAlone}
+use Rattle.book_validity.specs.in_verdict_definitions.Answer.{IsToldUnlessFull, UnreadAlone}
 use Rattle.checker_calls.specs.TextSources.{text_sources}
 use Rattle.checker_schemas.specs.CheckedSchemaValue.{CheckedSchemaValue}
 use Rattle.graphql_checked.specs.CheckerValue.{IsCheckedDocumentOf}
-use Rattle.graphql_checked.specs.DocumentRefusals.{TypingOrLastingFails}
+use Rattle.graphql_checked.specs.DocumentRefusals.{TypingOrLastingFails, TellsLastingOfFirst}
 use Rattle.checker_calls.specs.declared.refusal.Refusal.{Refusal}
 use Rattle.checker_calls.specs.declared.refusal.Refusal.TheVariants.{Faults, Memory, Failed}
 
@@ -50,13 +50,14 @@ pub record TypesDocument (schema : SchemaTree Place) (tree : Tree) (document : M
   pub right : (fault : AnyFault) → Contains faults fault → (f : typing.TypingFault Place) × ((fault ≡ of_typing f) × TypingFailsOver schema tree f)
   pub full : (f : typing.TypingFault Place) → TypingFailsOver schema tree f → Contains faults (of_typing f)
 
--- a rule of typing is broken, and all that breaks those rules is told, and all that breaks a rule on documents that stays broken
+-- a rule of typing is broken, and all that breaks those rules is told, and of the first 1,000 breaches of rules on documents those that
+-- stay broken
 pub record RefusesTyping (schema : SchemaTree Place) (tree : Tree) (faults : List AnyFault) : Type 0 where
   pub broken : (f : typing.TypingFault Place) × TypingFailsOver schema tree f
   pub some : faults ≢ []
   pub right : (fault : AnyFault) → Contains faults fault → TypingOrLastingFails schema tree fault
   pub full : (f : typing.TypingFault Place) → TypingFailsOver schema tree f → Contains faults (of_typing f)
-  pub lasting : (f : PlacedDocumentFault) → LastingFails schema (document_over schema tree) f → Contains faults (of_document f)
+  pub lasting : TellsLastingOfFirst schema (document_over schema tree) faults
 
 abbrev pub RefusalOfTyping : SchemaTree Place → Tree → Refusal → Type 0
 RefusalOfTyping schema tree (Faults list) = RefusesTyping schema tree (diagnostics_of list)
@@ -65,13 +66,13 @@ RefusalOfTyping schema tree Failed = ⊥
 
 -- ---- judging it
 
--- rules on documents or on merging are broken so, or bounds are passed, and each breach is told but of some rules; a document that
--- is valid is refused by bounds alone
+-- rules on documents or on merging are broken so, or bounds are passed, and each breach is told but of some rules, unless as many are
+-- told as one call tells; a document that is valid is refused by bounds alone
 pub record RefusesRules (schema : SchemaTree Place) (document : MeantDocument Place) (faults : List AnyFault) : Type 0 where
   pub some : faults ≢ []
   pub right : (fault : AnyFault) → Contains faults fault → (f : PlacedDocumentFault) × ((fault ≡ of_document f) × SomeFails schema document f)
-  pub full : (f : PlacedDocumentFault) → FailsBesides schema document f → Contains faults (of_document f)
-  pub lasting : (f : PlacedDocumentFault) → LastingFails schema document f → Contains faults (of_document f)
+  pub full : (f : PlacedDocumentFault) → FailsBesides schema document f → IsToldUnlessFull faults (of_document f)
+  pub lasting : (f : PlacedDocumentFault) → LastingFails schema document f → IsToldUnlessFull faults (of_document f)
   pub bounds : IsValidDocument schema document → WithinBounds (unplaced_document document) → ⊥
 
 abbrev pub RefusalOfRules : SchemaTree Place → MeantDocument Place → Refusal → Type 0

@@ -93,7 +93,7 @@ impl Checker {
     /// is passed.
     ///
     /// Otherwise it tells what is wrong: a fault for each text that is not read, alone; else each folding rule that is broken;
-    /// where none is, each rule on schemas that is.
+    /// where none is, the first 1,000 breaches of rules on schemas.
     pub fn finish(self) -> Result<CheckedSchema, Refusal>
         ensures schema { IfOk result (λ s. IsCheckedSchemaOf self.terms self.texts (schema_value s)) }
         ensures running { OnOk result (self.failed ≡ false) }

@@ -1,5 +1,5 @@
 //! Lists of what is wrong.
-ghost use Rattle.std.specs.Prelude.{◌≡◌, [], ◌∷◌, ◌++◌, length, map, OnOk, OnErr, IsTrue, ◌↔◌};
+ghost use Rattle.std.specs.Prelude.{◌≡◌, [], ◌∷◌, ◌++◌, length, map, take, OnOk, OnErr, IsTrue, ◌↔◌};
 ghost use Rattle.std.specs.Slice.Iter.{iter_rest};
 ghost use Rattle.schema_fold.specs.FaultView as folding;
 ghost use Rattle.fault_document_data.specs.FaultView as typing;
@@ -102,6 +102,13 @@ impl DiagnosticList {
             self.push(place, Details::DocumentBuild(error))?;
         }
         Ok(())
+    }
+
+    /// Keeps the first ones, at most so many.
+    pub fn truncate(&mut self, len: usize)
+        ensures { diagnostics_of self.new ≡ take len (diagnostics_of self.old) }
+    {
+        self.diagnostics.truncate(len);
     }
 
     /// How many there are.

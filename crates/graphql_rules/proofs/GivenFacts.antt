@@ -1,5 +1,5 @@
 -- Faults of arguments and of a variable that is given, from what is told of them.
-use Rattle.std.proofs.Common.{◌≡◌, ℕ, ◌↔◌, List, [], ◌∷◌, ◌++◌, sym, ap, subst, ◌∙◌, Contains}
+use Rattle.std.proofs.Common.{◌≡◌, ℕ, ◌↔◌, List, [], ◌∷◌, ◌++◌, subst, Contains}
 use Rattle.graphql_names.specs.Placed.{Placed, Place, node_tree}
 use Rattle.tree_literals.specs.TypeTree.{unplaced_type}
 use Rattle.tree_directives.specs.DirectiveTree.{ArgumentTree, InputValueTree, directive_tree, input_value_tree, unplaced_input_value}
@@ -15,12 +15,7 @@ use Rattle.rule_definitions.specs.VariableUsage.{IsVariableUsageAllowed}
 use Rattle.rule_definitions.specs.Told.{PlacedFault}
 use Rattle.rule_uses.specs.Steps.{Lists, DisallowedUsage}
 use Rattle.rule_definitions.proofs.Firsts.{first_is_found}
-use Rattle.rule_definitions.proofs.Listing.{Gains}
 use Rattle.graphql_rules.specs.Given.{Each, UsageBreaks}
-
--- what was added to nothing is all that is there
-pub only_added : (none new : List PlacedFault) (R : PlacedFault → Type 0) → none ≡ [] → Gains none new R → (f : PlacedFault) → Contains new f ↔ R f
-only_added none new R e (added, (is, tells)) = subst (λ l. Lists l R) (sym (is ∙ ap (λ l. l ++ added) e)) tells
 
 -- the first variable of that name is the one that is found
 pub usage_found : (variables : Variables Place) (v : InputValueTree Place) (a : Placed Place (ArgumentTree Place)) (f : PlacedFault) → UsageBreaks variables (unplaced_input_value v) a f ↔ DisallowedUsage variables v a f

@@ -1,5 +1,5 @@
 -- The faults of all rules on schemas.
-use Rattle.std.proofs.Common.{◌≡◌, ◌⊎◌, ◌↔◌, List, [], ◌∷◌, refl, sym, subst, inl, inr, Contains}
+use Rattle.std.proofs.Common.{◌≡◌, List, [], ◌∷◌, ◌++◌, take, refl, ap, subst, ◌∙◌, inl, inr, Contains}
 use Rattle.std.proofs.lemmas.List.Elements.{Contains-append_left, Contains-append_right, Contains-append_cases}
 use Rattle.graphql_names.specs.Placed.{Place}
 use Rattle.rule_definitions.specs.in_schema_types.SchemaTree.{SchemaTree}
@@ -12,83 +12,80 @@ use Rattle.rule_definitions.specs.Told.{PlacedFault, Told}
 use Rattle.rule_definitions.proofs.Lists.{not_in_nil, Contains-first}
 use Rattle.rule_types.specs.TypesBreak.{TypesBreak}
 use Rattle.rule_cycles.specs.Told.{CyclesFail, CyclesTold}
-use Rattle.rule_definitions.proofs.Listing.{Gains}
+use Rattle.rule_definitions.specs.Room.{most_told, ◌⊕◌}
+use Rattle.rule_definitions.proofs.Room.{room_both, room_first}
+use Rattle.rule_definitions.proofs.Adding.{Gains}
 use Rattle.graphql_rules.specs.SchemaTold.{RulesOrBoundFail, BreaksBesideCycles, IsWithinReferenceBound, TellsSchema}
 use Rattle.graphql_rules.proofs.Stands.{stands}
 
 told_as : {A B : Judged → SchemaFault → Type 0} → ((j : Judged) (g : SchemaFault) → A j g → B j g) → (s : SchemaTree Place) (f : PlacedFault) → Told s A f → Told s B f
 told_as into s f t = (t.0, (into (judged s) t.0 t.1.0, t.1.1))
 
--- what stands in a list to which something was added
-gained : (old new : List PlacedFault) (R : PlacedFault → Type 0) → Gains old new R → (f : PlacedFault) → Contains new f ↔ (Contains old f ⊎ R f)
-gained old new R (added, (is, tells)) f = (
-  λ h. elim (Contains-append_cases old added f (subst (λ l. Contains l f) is h)) [ inl o ↦ inl o | inr a ↦ inr ((tells f).0 a) ],
-  λ q. subst (λ l. Contains l f) (sym is) (elim q [ inl o ↦ Contains-append_left old added f o | inr r ↦ Contains-append_right old added f ((tells f).1 r) ]),
-)
+-- one check more behind those before it, which found nothing told
+behind : (all added now next : List PlacedFault) → now ≡ [] ⊕ all → next ≡ now ⊕ added → next ≡ [] ⊕ (all ++ added)
+behind all added now next so_far step = step ∙ ap (λ l. l ⊕ added) so_far ∙ room_both [] all added
 
--- what each check adds to what the one before it left
+-- what each check tells behind what the one before it left
 module _ (s : SchemaTree Place) (none types interfaces cycles uses : List PlacedFault) (is_none : none ≡ [])
     (types_added : Gains none types (Told s TypesBreak))
     (interfaces_added : Gains types interfaces (Told s InterfacesBreak))
     (by_cycles : CyclesTold s interfaces cycles)
     (uses_added : Gains cycles uses (Told s SchemaUsesBreak)) where
-  by_types : (f : PlacedFault) → Contains types f ↔ (Contains none f ⊎ Told s TypesBreak f)
-  by_types = gained none types (Told s TypesBreak) types_added
+  -- all that they tell where there is room
+  abbrev pub all_told : List PlacedFault
+  all_told = ((types_added.0 ++ interfaces_added.0) ++ by_cycles.added) ++ uses_added.0
 
-  by_interfaces : (f : PlacedFault) → Contains interfaces f ↔ (Contains types f ⊎ Told s InterfacesBreak f)
-  by_interfaces = gained types interfaces (Told s InterfacesBreak) interfaces_added
+  -- of which the first are told
+  pub first_told : uses ≡ take most_told all_told
+  first_told =
+      let of_types : types ≡ [] ⊕ types_added.0 = types_added.1.0 ∙ ap (λ l. l ⊕ types_added.0) is_none in
+      let of_interfaces = behind types_added.0 interfaces_added.0 types interfaces of_types interfaces_added.1.0 in
+      let of_cycles = behind (types_added.0 ++ interfaces_added.0) by_cycles.added interfaces cycles of_interfaces by_cycles.is in
+      behind ((types_added.0 ++ interfaces_added.0) ++ by_cycles.added) uses_added.0 cycles uses of_cycles uses_added.1.0 ∙ room_first all_told
 
-  by_uses : (f : PlacedFault) → Contains uses f ↔ (Contains cycles f ⊎ Told s SchemaUsesBreak f)
-  by_uses = gained cycles uses (Told s SchemaUsesBreak) uses_added
+  -- the list of each check
+  in_types : (f : PlacedFault) → Contains types_added.0 f → Contains all_told f
+  in_types f h = Contains-append_left _ uses_added.0 f (Contains-append_left _ by_cycles.added f (Contains-append_left types_added.0 interfaces_added.0 f h))
 
-  of_types : (f : PlacedFault) → Contains types f → Told s RulesOrBoundFail f
-  of_types f h = elim ((by_types f).0 h) [
-    | inl n ↦ not_in_nil f (subst (λ l. Contains l f) is_none n)
-    | inr t ↦ told_as {A = TypesBreak} {B = RulesOrBoundFail} (λ j g b. inl (elim b [ inl r ↦ inl r | inr e ↦ inr (inl e) ])) s f t
+  in_interfaces : (f : PlacedFault) → Contains interfaces_added.0 f → Contains all_told f
+  in_interfaces f h = Contains-append_left _ uses_added.0 f (Contains-append_left _ by_cycles.added f (Contains-append_right types_added.0 interfaces_added.0 f h))
+
+  in_cycles : (f : PlacedFault) → Contains by_cycles.added f → Contains all_told f
+  in_cycles f h = Contains-append_left _ uses_added.0 f (Contains-append_right (types_added.0 ++ interfaces_added.0) by_cycles.added f h)
+
+  in_uses : (f : PlacedFault) → Contains uses_added.0 f → Contains all_told f
+  in_uses f h = Contains-append_right ((types_added.0 ++ interfaces_added.0) ++ by_cycles.added) uses_added.0 f h
+
+  each_right : (f : PlacedFault) → Contains all_told f → Told s RulesOrBoundFail f
+  each_right f h = elim (Contains-append_cases ((types_added.0 ++ interfaces_added.0) ++ by_cycles.added) uses_added.0 f h) [
+    | inl before ↦ elim (Contains-append_cases (types_added.0 ++ interfaces_added.0) by_cycles.added f before) [
+      | inl first ↦ elim (Contains-append_cases types_added.0 interfaces_added.0 f first) [
+        | inl t ↦ told_as {A = TypesBreak} {B = RulesOrBoundFail} (λ j g b. inl (elim b [ inl r ↦ inl r | inr e ↦ inr (inl e) ])) s f ((types_added.1.1 f).0 t)
+        | inr i ↦ told_as {A = InterfacesBreak} {B = RulesOrBoundFail} (λ j g b. inl (inr (inr (inl b)))) s f ((interfaces_added.1.1 f).0 i)
+      ]
+      | inr c ↦ told_as {A = CyclesFail} {B = RulesOrBoundFail} (λ j g b. elim b [ inl r ↦ inl (inr (inr (inr (inl r)))) | inr p ↦ inr p ]) s f (by_cycles.right f c)
+    ]
+    | inr u ↦ told_as {A = SchemaUsesBreak} {B = RulesOrBoundFail} (λ j g b. inl (inr (inr (inr (inr b))))) s f ((uses_added.1.1 f).0 u)
   ]
 
-  of_interfaces : (f : PlacedFault) → Contains interfaces f → Told s RulesOrBoundFail f
-  of_interfaces f h = elim ((by_interfaces f).0 h) [
-    | inl before ↦ of_types f before
-    | inr t ↦ told_as {A = InterfacesBreak} {B = RulesOrBoundFail} (λ j g b. inl (inr (inr (inl b)))) s f t
-  ]
-
-  of_cycles : (f : PlacedFault) → Contains cycles f → Told s RulesOrBoundFail f
-  of_cycles f h = elim (Contains-append_cases interfaces by_cycles.added f (subst (λ l. Contains l f) by_cycles.is h)) [
-    | inl before ↦ of_interfaces f before
-    | inr c ↦ told_as {A = CyclesFail} {B = RulesOrBoundFail} (λ j g b. elim b [ inl r ↦ inl (inr (inr (inr (inl r)))) | inr p ↦ inr p ]) s f (by_cycles.right f c)
-  ]
-
-  of_uses : (f : PlacedFault) → Contains uses f → Told s RulesOrBoundFail f
-  of_uses f h = elim ((by_uses f).0 h) [
-    | inl before ↦ of_cycles f before
-    | inr t ↦ told_as {A = SchemaUsesBreak} {B = RulesOrBoundFail} (λ j g b. inl (inr (inr (inr (inr b))))) s f t
-  ]
-
-  from_interfaces : (f : PlacedFault) → Contains interfaces f → Contains uses f
-  from_interfaces f h = (by_uses f).1 (inl (subst (λ l. Contains l f) (sym by_cycles.is) (Contains-append_left interfaces by_cycles.added f h)))
-
-  from_cycles : (f : PlacedFault) → Contains by_cycles.added f → Contains uses f
-  from_cycles f h = (by_uses f).1 (inl (subst (λ l. Contains l f) (sym by_cycles.is) (Contains-append_right interfaces by_cycles.added f h)))
-
-  each_told : (f : PlacedFault) → Told s BreaksBesideCycles f → Contains uses f
+  each_told : (f : PlacedFault) → Told s BreaksBesideCycles f → Contains all_told f
   each_told f t = elim t.1.0 [
-    | inl r ↦ from_interfaces f ((by_interfaces f).1 (inl ((by_types f).1 (inr (t.0, (inl r, t.1.1))))))
+    | inl r ↦ in_types f ((types_added.1.1 f).1 (t.0, (inl r, t.1.1)))
     | inr q ↦ elim q [
-      | inl e ↦ from_interfaces f ((by_interfaces f).1 (inl ((by_types f).1 (inr (t.0, (inr e, t.1.1))))))
+      | inl e ↦ in_types f ((types_added.1.1 f).1 (t.0, (inr e, t.1.1)))
       | inr w ↦ elim w [
-        | inl i ↦ from_interfaces f ((by_interfaces f).1 (inr (t.0, (i, t.1.1))))
-        | inr u ↦ (by_uses f).1 (inr (t.0, (u, t.1.1)))
+        | inl i ↦ in_interfaces f ((interfaces_added.1.1 f).1 (t.0, (i, t.1.1)))
+        | inr u ↦ in_uses f ((uses_added.1.1 f).1 (t.0, (u, t.1.1)))
       ]
     ]
   ]
 
-  pub tells_schema : TellsSchema s uses
+  pub tells_schema : TellsSchema s all_told
   tells_schema = record {
-    right = of_uses;
+    right = each_right;
     full = each_told;
-    inputs = λ n c. let r = by_cycles.inputs n c in (r.0, (from_cycles r.0 r.1.0, r.1.1));
-    directives = λ n c. let r = by_cycles.directives n c in (r.0, (from_cycles r.0 r.1.0, r.1.1));
+    inputs = λ n c. let r = by_cycles.inputs n c in (r.0, (in_cycles r.0 r.1.0, r.1.1));
+    directives = λ n c. let r = by_cycles.directives n c in (r.0, (in_cycles r.0 r.1.0, r.1.1));
   }
 
 module _ (s : SchemaTree Place) (told : List PlacedFault) (tells : TellsSchema s told) where

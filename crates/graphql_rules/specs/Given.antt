@@ -48,8 +48,8 @@ module _ {C S A : Type 0} (gives : C → S → Type 0) (steps : S → Option A �
   abbrev pub GivesDirectives : (Directives Place → Type 0) → Type 0
   GivesDirectives AreSo = (it : S) × (gives c it × ((all : List A) × (DrainsIf steps ⊤ it all × ((ds : Directives Place) × (Each (LeadsToDirective leads) all ds × AreSo ds)))))
 
-  -- behind what was told stand the faults of these directives, which are used at one place of a schema or a document, with the
-  -- variables of an operation or none
+  -- behind what was told stand the first 1,000 of the faults of these directives, which are used at one place of a schema or a
+  -- document, with the variables of an operation or none
   abbrev pub UsesTold : Option (Bor Schema) → List (Node VariableDefinition) → DirectiveLocation → DiagnosticList → DiagnosticList → Type 0
   UsesTold schema variables location old new =
       GivesDirectives (λ ds. Appends (diagnostics_of old) (diagnostics_of new)

@@ -1,5 +1,5 @@
 -- What is told of a schema (GraphQL, October 2021, sections 3 and 5).
-use Rattle.std.specs.Prelude.{◌≡◌, ℕ, List, Contains, ◌⊎◌}
+use Rattle.std.specs.Prelude.{◌≡◌, ℕ, List, take, Contains, ◌⊎◌}
 use Rattle.graphql_names.specs.Placed.{Place}
 use Rattle.rule_definitions.specs.in_schema_types.SchemaTree.{SchemaTree}
 use Rattle.rule_definitions.specs.Faults.{SchemaFault}
@@ -7,6 +7,7 @@ use Rattle.rule_definitions.specs.Judged.{Judged, judged}
 use Rattle.rule_definitions.specs.Cycles.{PassesReferenceBound}
 use Rattle.rule_definitions.specs.Rules.{ReferencesBreak, EmptyBreaks, InterfacesBreak, SchemaUsesBreak, Breaks, SchemaRules}
 use Rattle.rule_definitions.specs.Told.{PlacedFault, Told}
+use Rattle.rule_definitions.specs.Room.{most_told}
 use Rattle.rule_schema_laws.specs.Literals.{HasTheFiveAlone, HasNoKeywordValue, InputTypesHaveLiterals}
 use Rattle.rule_cycles.specs.Told.{IsInputCycle, IsDirectiveCycle, AnswersInput, AnswersDirective}
 use Rattle.graphql_faults.specs.DetailsTree.{Telling}
@@ -31,9 +32,9 @@ pub record TellsSchema (s : SchemaTree Place) (told : List PlacedFault) : Type 0
   pub inputs : (n : List ℕ) → IsInputCycle (judged s) n → (f : PlacedFault) × (Contains told f × AnswersInput n f)
   pub directives : (n : List ℕ) → IsDirectiveCycle (judged s) n → (f : PlacedFault) × (Contains told f × AnswersDirective n f)
 
--- behind what was told stands what is told of the schema
+-- behind what was told stand the first 1,000 of what is told of the schema
 abbrev pub SchemaTold : SchemaTree Place → Telling → Telling → Type 0
-SchemaTold s old new = (added : List PlacedFault) × (AppendsThese old new added × TellsSchema s added)
+SchemaTold s old new = (all : List PlacedFault) × (AppendsThese old new (take most_told all) × TellsSchema s all)
 
 -- of a schema of which every rule holds, and that passes the bound on references nowhere, nothing is told
 abbrev pub ValidSchemaMeansSilence : SchemaTree Place → Telling → Telling → Type 0

@@ -17,7 +17,7 @@ use Rattle.graphql_faults.specs.DetailsTree.{Telling}
 use Rattle.graphql_rules.specs.Appends.{Appends}
 
 module _ (s : SchemaTree Place) (variables : List (Node VariableDefinition)) (ty : Node «Type») (value : Node Value) where
-  -- behind what was told stand the faults of the value, which is given for the type among these variables
+  -- behind what was told stand the first 1,000 of the faults of the value, which is given for the type among these variables
   abbrev pub ValueTold : Telling → Telling → Type 0
   ValueTold old new =
       Appends old new (ValueBreaks (place_at s) (judged s) (variables_of variables) (wanted_type ty) (place value) (value_tree (content value)))

@@ -35,7 +35,7 @@ fn nodes_of<D: Deref<Target = Node<Directive>> + Drop, I: IntoIterator<Item = D>
 /// Tells the faults of the directives that are used at one place of a schema or a document (section 5.7):
 /// UniqueDirective, UndefinedDirective, UnsupportedLocation, and the rules on their arguments. `variables` are those of
 /// the operation, or none. Any iterator gives the directives: its items are references to nodes, or lead to nodes.
-/// Without a schema each directive is undefined. After a refusal the list begins as before.
+/// Without a schema each directive is undefined. It tells the first 1,000 of them. After a refusal the list begins as before.
 pub fn validate_directives<D: Deref<Target = Node<Directive>> + Drop, I: IntoIterator<Item = D>>(
     alloc: Global,
     list: &mut DiagnosticList,
@@ -57,7 +57,8 @@ pub fn validate_directives<D: Deref<Target = Node<Directive>> + Drop, I: IntoIte
 }
 
 /// Tells each argument whose name an earlier one has (UniqueArgument, section 5.4.2). Tells each key that an object
-/// inside an argument has before (UniqueInputValue, section 5.6.3). After a refusal the list begins as before.
+/// inside an argument has before (UniqueInputValue, section 5.6.3). It tells the first 1,000 of these. After a refusal the
+/// list begins as before.
 pub fn validate_arguments(
     alloc: Global,
     list: &mut DiagnosticList,

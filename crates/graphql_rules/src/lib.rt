@@ -1,9 +1,10 @@
 //! Rules of schemas, values and directives (GraphQL, October 2021, sections 3 and 5).
 //!
-//! For the layers above: a check adds to a list the faults by which the rules of its name break, at their places, and no
-//! others (`specs/Appends.antt`); what breaks a rule is a predicate named after its variant, in `rule_definitions`.
-//! Of a schema `validate_schema` tells all of them (`specs/SchemaTold.antt`), and leaves the types that are kept. Where it
-//! tells nothing, implementing is a strict order on interfaces, and each input type has a literal (`rule_schema_laws`).
+//! For the layers above: a check adds to a list the first 1,000 of the faults by which the rules of its name break, at their
+//! places, and no others (`specs/Appends.antt`); what breaks a rule is a predicate named after its variant, in
+//! `rule_definitions`. Of a schema `validate_schema` tells the first 1,000 of them all (`specs/SchemaTold.antt`), and leaves
+//! the types that are kept. Where it tells nothing, implementing is a strict order on interfaces, and each input type has a
+//! literal (`rule_schema_laws`).
 //!
 //! The rules are in inner crates side by side: `rule_types`, `rule_cycles`, `rule_uses`, `rule_values`.
 //! Begin with `schema.rt`.

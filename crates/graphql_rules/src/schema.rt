@@ -1,11 +1,13 @@
 //! Every rule on a schema.
-ghost use Rattle.std.specs.Prelude.{◌≡◌, IfOk, OnOk, OnErr};
+ghost use Rattle.std.specs.Prelude.{◌≡◌, List, take, IfOk, OnOk, OnErr};
 ghost use Rattle.rule_cycles.specs.in_schema.SchemaOf.{schema_tree};
 ghost use Rattle.fault_data.specs.FaultView.{faults_of};
+ghost use Rattle.rule_definitions.specs.Room.{most_told};
 ghost use Rattle.rule_definitions.specs.Distinct.{AreAllDistinct};
 ghost use Rattle.rule_definitions.specs.Judged.{judged};
 ghost use Rattle.rule_definitions.specs.Kept.{validated};
 ghost use Rattle.rule_definitions.specs.Rules.{SchemaRules};
+ghost use Rattle.rule_definitions.specs.Told.{PlacedFault};
 ghost use Rattle.graphql_faults.specs.DetailsView.{diagnostics_of, BeginsAs};
 ghost use Rattle.rule_schema_laws.specs.Implementing.{ImplementsInOrder};
 ghost use Rattle.graphql_rules.specs.SchemaTold.{TellsSchema, SchemaTold, ValidSchemaMeansSilence, SilenceGivesLiterals};
@@ -19,9 +21,10 @@ use rule_types::{check_interfaces, check_types};
 use rule_uses::{IndexedSchema, SchemaInputs, check_schema_directives};
 use std::alloc::{AllocError, Global};
 
-/// Tells every fault of the rules on schemas (sections 3 and 5). Then it drops from the types each built-in scalar to
-/// which no field, argument or input field refers, and adds at the end those of the five that are referred to and
-/// missing. The rest of the schema stays. Where memory is refused the schema is as before, and some faults may be told.
+/// Tells the faults of the rules on schemas (sections 3 and 5), the first 1,000 of them. Then it drops from the types each
+/// built-in scalar to which no field, argument or input field refers, and adds at the end those of the five that are
+/// referred to and missing. The rest of the schema stays. Where memory is refused the schema is as before, and some faults
+/// may be told.
 ///
 /// Where nothing is told, implementing is a strict order on interfaces (sections 3.6 and 3.7). And each input type of
 /// the schema that is left, non-null ones too, has a literal: a text of a value that may be given for it (sections 2.9,
@@ -54,10 +57,10 @@ pub fn validate_schema(
     Ok(())
 }
 
-/// What breaks the rules on schemas.
+/// What breaks the rules on schemas, the first 1,000 of it.
 fn schema_faults(alloc: Global, schema: &Schema) -> Result<Vec<Fault>, AllocError>
     requires { AreAllDistinct (schema_tree schema.now) }
-    ensures { IfOk result (λ faults. TellsSchema (schema_tree schema.now) (faults_of faults)) }
+    ensures { IfOk result (λ faults. (all : List PlacedFault) × ((faults_of faults ≡ take most_told all) × TellsSchema (schema_tree schema.now) all)) }
 {
     let mut faults = Vec::new(alloc);
     let inputs = SchemaInputs::new(alloc, &schema.types, &schema.directive_definitions)?;

@@ -13,8 +13,8 @@ use tree_literals::{Type, Value};
 use tree_operations::VariableDefinition;
 
 /// Tells the faults of a value that is given for a type (section 5.6), and each variable in it, at any depth, that is
-/// none of `variables` (section 5.8.3). It tells nothing exactly when the type accepts the value. After a refusal the
-/// list begins as before.
+/// none of `variables` (section 5.8.3), the first 1,000 of these. It tells nothing exactly when the type accepts the value.
+/// After a refusal the list begins as before.
 pub fn value_of_correct_type(
     alloc: Global,
     list: &mut DiagnosticList,

@@ -1,9 +1,11 @@
 -- The faults with data of a document: those of each operation, and behind them those of all fragments.
-use Rattle.std.proofs.Common.{◌↔◌, ◌⊎◌, inl, inr, ◌++◌, ℕ, List, [], sym, subst, Contains}
+use Rattle.std.proofs.Common.{◌≡◌, ◌↔◌, ◌⊎◌, inl, inr, ◌++◌, ℕ, List, [], take, ap, ◌∙◌, Contains}
 use Rattle.std.proofs.lemmas.List.Elements.{Contains-append_left, Contains-append_right, Contains-append_cases}
 use Rattle.graphql_names.specs.Placed.{Place}
 use Rattle.rule_definitions.proofs.Lists.{not_in_nil}
 use Rattle.document_meaning.specs.MeantTree.{MeantOperation, MeantFragment, MeantDocument}
+use Rattle.rule_definitions.specs.Room.{most_told, ◌⊕◌}
+use Rattle.rule_definitions.proofs.Room.{room_both, room_first}
 use Rattle.rule_definitions.specs.Told.{PlacedFault}
 use Rattle.rule_document_definitions.specs.DocumentFaults.{OfData}
 use Rattle.rule_document_definitions.specs.Fragments.{ReachesItself, UnusedFragmentAt, RecursiveFragmentDefinitionAt}
@@ -12,7 +14,7 @@ use Rattle.rule_document_definitions.specs.Reached.{AtOperation}
 use Rattle.rule_document_definitions.specs.Told.{places_alone}
 use Rattle.rule_fragments.specs.Used.{IsUsed, AreUsed}
 use Rattle.rule_fragments.specs.Told.{Answers}
-use Rattle.graphql_validation.specs.Operations.{ReachesNamed, NotesNames, FragmentsTold, TellsData}
+use Rattle.graphql_validation.specs.Operations.{ReachesNamed, NotesNames, FragmentsTold, TellsFirst}
 
 module _ (d : MeantDocument Place) where
   -- the names that were noted are those of the fragments that some operation reaches
@@ -27,15 +29,17 @@ module _ (d : MeantDocument Place) where
 
   module _ (All Beside : MeantOperation Place → PlacedFault → Type 0) (beside : (o : MeantOperation Place) (f : PlacedFault) → Beside o f → All o f)
       (recursive : (o : MeantOperation Place) (f : PlacedFault) → RecursiveFragmentDefinitionAt d f places_alone o → All o f) where
-    -- those of the operations, and behind them those of the fragments
-    pub tells_data : (ops new : List PlacedFault) → ((f : PlacedFault) → Contains ops f ↔ AtOperation d (λ o. Beside o f)) → FragmentsTold d ops new → TellsData d All Beside new
-    tells_data ops new told (unused, (lists, cycles)) = record { right = right; full = full; cycles = itself }
+    -- those of the operations, and behind them those of the fragments: the first of all these
+    pub tells_data : (old new ops : List PlacedFault) → old ≡ [] ⊕ ops → ((f : PlacedFault) → Contains ops f ↔ AtOperation d (λ o. Beside o f)) → FragmentsTold d old new → TellsFirst d All Beside new
+    tells_data old new ops first told (unused, (lists, cycles)) = ((ops ++ unused) ++ cycles.added, (is, record { right = right; full = full; cycles = itself }))
       where
-        first : (f : PlacedFault) → Contains (ops ++ unused) f → Contains new f
-        first f c = subst (λ l. Contains l f) (sym cycles.is) (Contains-append_left (ops ++ unused) cycles.added f c)
+        is : new ≡ take most_told ((ops ++ unused) ++ cycles.added)
+        is =
+            cycles.is ∙ ap (λ l. (l ⊕ unused) ⊕ cycles.added) first ∙ ap (λ l. l ⊕ cycles.added) (room_both [] ops unused)
+            ∙ room_both [] (ops ++ unused) cycles.added ∙ room_first ((ops ++ unused) ++ cycles.added)
 
-        right : (f : PlacedFault) → Contains new f → (AtOperation d (λ o. All o f) ⊎ UnusedFragmentAt d f) ⊎ SpreadBoundFails places_alone d (OfData f)
-        right f c = elim (Contains-append_cases (ops ++ unused) cycles.added f (subst (λ l. Contains l f) cycles.is c)) [
+        right : (f : PlacedFault) → Contains ((ops ++ unused) ++ cycles.added) f → (AtOperation d (λ o. All o f) ⊎ UnusedFragmentAt d f) ⊎ SpreadBoundFails places_alone d (OfData f)
+        right f c = elim (Contains-append_cases (ops ++ unused) cycles.added f c) [
           | inl h ↦ elim (Contains-append_cases ops unused f h) [
             | inl k ↦ let o = (told f).0 k in inl (inl (o.0, (o.1.0, beside o.0 f o.1.1)))
             | inr k ↦ inl (inr ((lists f).0 k))
@@ -46,11 +50,11 @@ module _ (d : MeantDocument Place) where
           ]
         ]
 
-        full : (f : PlacedFault) → AtOperation d (λ o. Beside o f) ⊎ UnusedFragmentAt d f → Contains new f
-        full f (inl h) = first f (Contains-append_left ops unused f ((told f).1 h))
-        full f (inr h) = first f (Contains-append_right ops unused f ((lists f).1 h))
+        full : (f : PlacedFault) → AtOperation d (λ o. Beside o f) ⊎ UnusedFragmentAt d f → Contains ((ops ++ unused) ++ cycles.added) f
+        full f (inl h) = Contains-append_left (ops ++ unused) cycles.added f (Contains-append_left ops unused f ((told f).1 h))
+        full f (inr h) = Contains-append_left (ops ++ unused) cycles.added f (Contains-append_right ops unused f ((lists f).1 h))
 
-        itself : (g : MeantFragment Place) → IsUsed d g → ReachesItself d g → (f : PlacedFault) × (Contains new f × Answers g f)
+        itself : (g : MeantFragment Place) → IsUsed d g → ReachesItself d g → (f : PlacedFault) × (Contains ((ops ++ unused) ++ cycles.added) f × Answers g f)
         itself g used reaches =
             let f = cycles.full g used reaches in
-            (f.0, (subst (λ l. Contains l f.0) (sym cycles.is) (Contains-append_right (ops ++ unused) cycles.added f.0 f.1.0), f.1.1))
+            (f.0, (Contains-append_right (ops ++ unused) cycles.added f.0 f.1.0, f.1.1))

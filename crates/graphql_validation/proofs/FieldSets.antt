@@ -1,11 +1,12 @@
 -- Of a field set: what is told in parts tells all, and what is silent is valid.
-use Rattle.std.proofs.Common.{◌≡◌, inl, inr, Bool, List, [], ◌∷◌, None, refl, ap, sym, subst, Contains, true≢false, is_some}
+use Rattle.std.proofs.Common.{◌≡◌, inl, inr, Bool, List, [], ◌∷◌, ◌++◌, map, take, None, refl, ap, sym, ◌∙◌, subst, Contains, true≢false, is_some}
 use Rattle.std.specs.Prelude.{IsTrue}
 use Rattle.graphql_names.specs.Placed.{Place}
 use Rattle.schema_types.specs.SchemaTree.{SchemaTree}
 use Rattle.rule_definitions.proofs.Lists.{not_in_nil, Contains-first}
 use Rattle.document_meaning.specs.MeantTree.{MeantSet, MeantOperation, MeantFragment, MeantDocument}
 use Rattle.document_meaning.specs.Unplaced.{unplaced_set}
+use Rattle.rule_definitions.specs.Room.{most_told}
 use Rattle.rule_definitions.specs.Told.{PlacedFault}
 use Rattle.rule_document_definitions.specs.DocumentFaults.{Broken, OfData, OfDocument, OfLimit}
 use Rattle.rule_document_definitions.specs.FieldSets.{document_of_set}
@@ -16,11 +17,14 @@ use Rattle.rule_document_definitions.specs.Told.{PlacedDocumentFault, SetRulesFa
 use Rattle.rule_document_definitions.proofs.Verdicts.{set_valid_where_nothing_is_told, set_within_bounds_where_nothing_is_told}
 use Rattle.rule_fragments.specs.Used.{AreUnderOwnNames}
 use Rattle.rule_fragments.specs.Nested.{NestsTooDeep}
+use Rattle.rule_merging.specs.in_faults.DetailsTree.{of_document}
 use Rattle.rule_selections.proofs.Typing.{field_set_reaches_typed}
 use Rattle.rule_selections.specs.in_typing.Meanings.{meanings}
 use Rattle.schema_types.specs.Plain.{plain}
-use Rattle.graphql_validation.specs.Operations.{AreReachesTyped, TellsData, AllUnder, OperationFails, all_told}
-use Rattle.graphql_validation.specs.Told.{IsTypedSet, SetRulesOrBoundFail, TellsFieldSet}
+use Rattle.graphql_validation.specs.Operations.{TellsData, AllUnder, OperationFails, all_told, AreReachesTyped}
+use Rattle.graphql_validation.specs.Steps.{TellsUnder}
+use Rattle.graphql_validation.specs.Told.{IsTypedSet, SetRulesOrBoundFail, TellsFieldSet, FieldSetTold, Telling}
+use Rattle.graphql_validation.proofs.FirstTold.{first_all, none_told, told_none}
 use Rattle.graphql_validation.proofs.Telling.{data_in, limit_in, told_cases, bound_is}
 use Rattle.graphql_validation.proofs.Ordered.{beside_under}
 
@@ -38,7 +42,7 @@ module _ (s : SchemaTree Place) (set : MeantSet Place) where
   no_fragment : (o : MeantOperation Place) (g : MeantFragment Place) → ReachesFragment Doc o g → ⊥
   no_fragment o g reaches = true≢false (sym (ap is_some reaches.1.1.1.1))
 
-  pub tells_field_set : (faults : List PlacedFault) (is_passed : Bool) → TellsData Doc (AllUnder s Doc) (λ o. OperationFails Doc o s) faults → (IsTrue is_passed → PassesPathBound Doc)
+  tells_field_set : (faults : List PlacedFault) (is_passed : Bool) → TellsData Doc (AllUnder s Doc) (λ o. OperationFails Doc o s) faults → (IsTrue is_passed → PassesPathBound Doc)
       → (NestsTooDeep Doc → IsTrue is_passed) → TellsFieldSet s set (all_told faults [] is_passed)
   tells_field_set faults is_passed parts passes found = record { right = right; full = full; bound = λ nests. limit_in faults [] is_passed (found nests) }
     where
@@ -60,23 +64,31 @@ module _ (s : SchemaTree Place) (set : MeantSet Place) where
       full (OfDocument b) h = absurd h
       full (OfLimit place) h = absurd h
 
-  -- where the document is that of the set, and nothing is told but faults with data and the bound
-  pub told_of_set : (d : MeantDocument Place) (faults : List PlacedFault) (breaches : List (Broken Place)) (is_passed : Bool) → d ≡ Doc → breaches ≡ []
-      → (AreReachesTyped s d → AreUnderOwnNames d → TellsData d (AllUnder s d) (λ o. OperationFails d o s) faults) → (IsTrue is_passed → PassesPathBound d) → (NestsTooDeep d → IsTrue is_passed) → IsTypedSet s set
-      → TellsFieldSet s set (all_told faults breaches is_passed)
-  told_of_set d faults breaches is_passed is none parts passes found typed =
-      subst (λ bs. TellsFieldSet s set (all_told faults bs is_passed)) (sym none)
-      (tells_field_set faults is_passed
-      (subst (λ d. AreReachesTyped s d → AreUnderOwnNames d → TellsData d (AllUnder s d) (λ o. OperationFails d o s) faults) is parts (reaches_typed typed) own_names)
-      (subst (λ d. IsTrue is_passed → PassesPathBound d) is passes)
-      (subst (λ d. NestsTooDeep d → IsTrue is_passed) is found))
+  -- where the document is that of the set, and nothing is told but the first of all faults with data, and the bound
+  pub told_of_set : (old new : Telling) (d : MeantDocument Place) (faults : List PlacedFault) (breaches : List (Broken Place)) (is_passed : Bool) → d ≡ Doc → breaches ≡ []
+      → TellsUnder s d faults → (IsTrue is_passed → PassesPathBound d) → (NestsTooDeep d → IsTrue is_passed)
+      → new ≡ old ++ map of_document (take most_told (all_told faults breaches is_passed)) → IsTypedSet s set → FieldSetTold s set old new
+  told_of_set old new d faults breaches is_passed is none parts passes found told typed =
+      let given = subst (λ d. TellsUnder s d faults) is parts (reaches_typed typed) own_names in
+      let first = ap (λ bs. take most_told (all_told faults bs is_passed)) none ∙ first_all faults given.0 [] [] is_passed given.1.0 refl in (
+        all_told given.0 [] is_passed,
+        (
+          told ∙ ap (λ l. old ++ map of_document l) first,
+          tells_field_set given.0 is_passed given.1.1 (subst (λ d. IsTrue is_passed → PassesPathBound d) is passes) (subst (λ d. NestsTooDeep d → IsTrue is_passed) is found),
+        ),
+      )
 
-  pub silent_set : TellsFieldSet s set [] → IsValidFieldSet s set
-  silent_set tells = (set_valid_where_nothing_is_told s set).1 (λ f h. not_in_nil f (tells.full f h))
+  pub silent_set : (old new : Telling) → FieldSetTold s set old new → new ≡ old → IsValidFieldSet s set
+  silent_set old new (all, (is, tells)) same =
+      let none = subst (TellsFieldSet s set) (none_told old new all is same) tells in
+      (set_valid_where_nothing_is_told s set).1 (λ f h. not_in_nil f (none.full f h))
 
-  pub valid_set : (told : List PlacedDocumentFault) → TellsFieldSet s set told → IsValidFieldSet s set → FieldSetWithinBounds (unplaced_set set) → told ≡ []
-  valid_set [] tells valid within = refl
-  valid_set (f ∷ fs) tells valid within = elim (tells.right f (Contains-first f fs f refl)) [
+  none_of_valid : (told : List PlacedDocumentFault) → TellsFieldSet s set told → IsValidFieldSet s set → FieldSetWithinBounds (unplaced_set set) → told ≡ []
+  none_of_valid [] tells valid within = refl
+  none_of_valid (f ∷ fs) tells valid within = elim (tells.right f (Contains-first f fs f refl)) [
     | inl h ↦ absurd ((set_valid_where_nothing_is_told s set).0 valid f h)
     | inr h ↦ absurd ((set_within_bounds_where_nothing_is_told set).0 within f h)
   ]
+
+  pub valid_set : (old new : Telling) → FieldSetTold s set old new → IsValidFieldSet s set → FieldSetWithinBounds (unplaced_set set) → new ≡ old
+  valid_set old new (all, (is, tells)) valid within = told_none old new all is (none_of_valid all tells valid within)

@@ -1,11 +1,11 @@
 -- What is reached in a document is reached in each document that it is part of.
-use Rattle.std.proofs.Common.{◌≡◌, ◌⊎◌, ℕ, suc, List, [], ◌∷◌, refl, sym, ap, subst, ◌∙◌, inl, inr, Contains, Option, None, Some, is_some, true≢false}
+use Rattle.std.proofs.Common.{◌≡◌, ℕ, suc, List, [], ◌∷◌, refl, sym, ap, subst, inl, inr, Contains, None, Some, is_some, true≢false}
 use Rattle.std.proofs.lemmas.Option.{same_Some}
 use Rattle.std.proofs.lemmas.List.Elements.{Contains-append_right}
 use Rattle.document_meaning.specs.MeantTree.{MeantSelection, MeantField, MeantSpread, MeantInline, MeantSet, meant_set, MeantSelections, no_meant, meant_then, MeantOperation, MeantFragment, MeantDocument}
 use Rattle.rule_definitions.specs.Words.{Present}
 use Rattle.rule_definitions.proofs.Lists.{not_in_nil, Contains-cons, Contains-first}
-use Rattle.rule_document_definitions.specs.Selected.{Position, InOperation, InFragment, SelectionAt, Standing, StandingField, stand, standing_in, all_in, field_there, as_field, in_inline, spread_name, fragment_named, own, held, operation_name}
+use Rattle.rule_document_definitions.specs.Selected.{Position, InOperation, InFragment, SelectionAt, Standing, StandingField, stand, standing_in, all_in, field_there, as_field, in_inline, spread_name, fragment_named, own, operation_name}
 use Rattle.rule_document_definitions.specs.Reached.{Closed, first, next, InField, InFragmentOf, LeadsInto, Reached, AtRoot, ReachesFragment, AtReached, AtReachedField, AtReachedFragment}
 use Rattle.rule_document_definitions.proofs.Inside.{IsInside, own_in, inside_in, all_so}
 use Rattle.graphql_validation.specs.Parts.{AtSomeSelection, IsPartOfSelection, IsPartOfSet, ArePartOf, IsPartOf}

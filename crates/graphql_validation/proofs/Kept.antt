@@ -1,25 +1,19 @@
 -- What is kept of the faults of a document by their variants breaks rules that stay broken.
-use Rattle.std.proofs.Common.{◌≡◌, ◌⊎◌, inl, inr, Bool, true, false, refl, ap, sym, ◌∙◌, true≢false}
+use Rattle.std.proofs.Common.{◌≡◌, ◌⊎◌, inl, inr, true, false, refl, ap, sym, ◌∙◌, true≢false}
 use Rattle.graphql_names.specs.Placed.{Place}
 use Rattle.schema_types.specs.SchemaTree.{SchemaTree}
 use Rattle.document_meaning.specs.MeantTree.{MeantOperation, MeantDocument}
 use Rattle.rule_definitions.specs.Judged.{judged}
 use Rattle.rule_definitions.specs.Told.{PlacedFault}
-use Rattle.rule_document_definitions.specs.DocumentFaults.{Broken, OfData, OfDocument, OfLimit}
+use Rattle.rule_document_definitions.specs.DocumentFaults.{Broken, OfData, OfDocument}
 use Rattle.rule_document_definitions.specs.DocumentRules.{DataBreaks, DeferredBreaks}
 use Rattle.rule_document_definitions.specs.Limits.{SpreadBoundFails}
 use Rattle.rule_document_definitions.specs.Reached.{AtOperation}
 use Rattle.rule_document_definitions.specs.Subscriptions.{SubscriptionUsesMultipleFieldsAt, SubscriptionBreaks}
 use Rattle.rule_document_definitions.specs.Told.{PlacedDocumentFault, places_in, places_alone}
-use Rattle.graphql_validation.specs.LastingRules.{LastingFails, LastingOrCycleFails, LastingSubscriptionBreaks}
-use Rattle.graphql_validation.specs.Lasts.{fault_lasts, broken_lasts}
+use Rattle.graphql_validation.specs.LastingRules.{LastingOrCycleFails, LastingSubscriptionBreaks}
+use Rattle.graphql_validation.specs.Lasts.{fault_lasts, broken_lasts, lasts}
 use Rattle.graphql_validation.proofs.Passing.{subscription_passes}
-
--- whether a fault lasts, among those of documents
-abbrev lasts : PlacedDocumentFault → Bool
-lasts (OfData f) = fault_lasts f
-lasts (OfDocument b) = broken_lasts b
-lasts (OfLimit place) = false
 
 -- a fault that lasts is none that does not
 lasts_not : {R : Type 0} (f g : PlacedDocumentFault) → lasts f ≡ true → f ≡ g → lasts g ≡ false → R

@@ -7,6 +7,7 @@ pub mod WholeAlone
 pub mod OneSet
 pub mod FieldSets
 pub mod Telling
+pub mod FirstTold
 pub mod MergedOperations
 pub mod WholeDocuments
 pub mod Fitting

@@ -1,6 +1,6 @@
 -- What breaks a rule that stays broken breaks a rule on documents; and a document is part of itself.
-use Rattle.std.proofs.Common.{◌≡◌, ◌⊎◌, refl, inl, inr, Contains, Some, List, ℕ}
-use Rattle.document_meaning.specs.MeantTree.{MeantSelection, MeantField, MeantSpread, MeantInline, MeantSet, meant_set, MeantSelections, no_meant, meant_then, MeantOperation, MeantFragment, MeantDocument}
+use Rattle.std.proofs.Common.{◌⊎◌, refl, inl, inr}
+use Rattle.document_meaning.specs.MeantTree.{MeantSelection, MeantField, MeantSpread, MeantInline, MeantSet, meant_set, MeantSelections, no_meant, meant_then, MeantOperation, MeantDocument}
 use Rattle.rule_definitions.specs.Faults.{FaultAt}
 use Rattle.rule_definitions.specs.Judged.{Judged}
 use Rattle.rule_document_definitions.specs.Places.{Places}
@@ -9,7 +9,7 @@ use Rattle.rule_document_definitions.specs.DocumentRules.{RulesFail}
 use Rattle.rule_document_definitions.specs.Fragments.{FragmentsBreak}
 use Rattle.rule_document_definitions.specs.Selections.{SelectionsBreak}
 use Rattle.rule_document_definitions.specs.Variables.{VariablesBreak}
-use Rattle.graphql_validation.specs.Parts.{AtSomeSelection, IsPartOfSelection, IsPartOfSet, ArePartOf, IsPartOf}
+use Rattle.graphql_validation.specs.Parts.{IsPartOfSelection, IsPartOfSet, ArePartOf, IsPartOf}
 use Rattle.graphql_validation.specs.LastingRules.{LastingVariablesBreak, LastingSelectionsBreak, LastingFragmentsBreak, LastingDataBreaks, LastingBreaks, CycleBreaks}
 
 module _ {P E : Type 0} (places : Places P) (s : Judged) (d : MeantDocument P) where

@@ -1,24 +1,31 @@
 -- What is kept of the faults of a document are those that last.
-use Rattle.std.proofs.Common.{inl, inr, false, List, sym, subst, Contains, true≢false}
+use Rattle.std.proofs.Common.{◌≡◌, inl, inr, Bool, false, List, ◌++◌, map, take, ap, sym, ◌∙◌, subst, Contains, true≢false}
 use Rattle.std.specs.List.{filter}
 use Rattle.graphql_names.specs.Placed.{Place}
 use Rattle.schema_types.specs.SchemaTree.{SchemaTree}
 use Rattle.document_meaning.specs.MeantTree.{MeantOperation, MeantDocument}
 use Rattle.rule_definitions.specs.Judged.{judged}
+use Rattle.rule_definitions.specs.Room.{most_told}
 use Rattle.rule_definitions.specs.Told.{PlacedFault}
 use Rattle.rule_document_definitions.specs.DocumentFaults.{Broken, OfData, OfDocument, OfLimit}
 use Rattle.rule_document_definitions.specs.Selected.{operations}
 use Rattle.rule_document_definitions.specs.Told.{PlacedDocumentFault, places_in}
 use Rattle.graphql_validation.specs.LastingRules.{LastingDataBreaks, LastingSubscriptionBreaks, LastingFails, LastingOrCycleFails}
-use Rattle.graphql_validation.specs.Lasts.{fault_lasts, broken_lasts}
+use Rattle.graphql_validation.specs.Lasts.{fault_lasts, broken_lasts, lasts}
 use Rattle.graphql_validation.proofs.Filtered.{filtered, passing}
 use Rattle.graphql_validation.proofs.Passing.{data_passes, defer_passes, subscription_passes}
 use Rattle.graphql_validation.proofs.Kept.{data_right, broken_right, not_many}
 use Rattle.graphql_validation.proofs.Reasons.{of_variables}
 use Rattle.graphql_validation.specs.Operations.{TellsData, AllUnder, OperationFails, all_told}
-use Rattle.rule_fragments.specs.Documents.{TellsBreaches}
+use Rattle.graphql_validation.specs.Steps.{TellsUnder}
+use Rattle.graphql_validation.specs.Told.{Telling}
+use Rattle.rule_fragments.specs.Documents.{AreFirst, TellsBreaches}
+use Rattle.rule_fragments.specs.Used.{AreUnderOwnNames}
+use Rattle.rule_merging.specs.in_faults.DetailsTree.{of_document}
 use Rattle.graphql_validation.specs.TellsDocument.{TellsDocument}
-use Rattle.graphql_validation.specs.TellsLasting.{TellsLasting}
+use Rattle.graphql_validation.specs.TellsLasting.{TellsLasting, TypedLastingTold}
+use Rattle.graphql_validation.proofs.FirstTold.{first_all, lasting_all}
+use Rattle.graphql_validation.proofs.WholeDocuments.{own_names, reaches_typed, beside}
 use Rattle.graphql_validation.proofs.Telling.{data_in, broken_in, told_cases, bound_is}
 
 module _ (s : SchemaTree Place) (d : MeantDocument Place) where
@@ -62,8 +69,26 @@ module _ (s : SchemaTree Place) (d : MeantDocument Place) where
         (passing broken_lasts breaches b (subscription_told o b c h) (subscription_passes b d o h))
     full (OfLimit place) h = absurd h
 
-    pub tells_lasting : TellsLasting s d (all_told kept_faults kept_breaches false)
+    tells_lasting : TellsLasting s d (all_told kept_faults kept_breaches false)
     tells_lasting = record { right = right; full = full }
+
+  -- where faults and breaches are the first of all, and of what is told the first are kept, and those of them that last are told
+  pub lasting_told_of : (faults first : List PlacedFault) (breaches front : List (Broken Place)) (is_told : Bool) → TellsUnder s d faults → (AreUnderOwnNames d → AreFirst (TellsBreaches d) breaches)
+      → all_told first front is_told ≡ take most_told (all_told faults breaches false)
+      → (old new : Telling) → new ≡ old ++ map of_document (all_told (filter fault_lasts first) (filter broken_lasts front) false) → TypedLastingTold s d old new
+  lasting_told_of faults first breaches front is_told parts told cut old new is typed =
+      let given = parts (reaches_typed s d typed) (own_names s d typed) in
+      let breaks = told (own_names s d typed) in
+      let kept = sym (lasting_all first front is_told) ∙ ap (filter lasts) (cut ∙ first_all faults given.0 breaches breaks.0 false given.1.0 breaks.1.0) in (
+        all_told given.0 breaks.0 false,
+        (
+          is ∙ ap (λ l. old ++ map of_document l) kept,
+          (
+            beside s d given.0 breaks.0 false given.1.1 breaks.1.1 (λ no. absurd (true≢false (sym no))),
+            subst (TellsLasting s d) (sym (lasting_all given.0 breaks.0 false)) (tells_lasting given.0 breaks.0 given.1.1 breaks.1.1),
+          ),
+        ),
+      )
 
   -- ---- where all rules are judged, all of that is told, too
 

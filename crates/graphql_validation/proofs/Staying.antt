@@ -1,5 +1,5 @@
 -- What breaks a rule that stays broken breaks it in each document that the document is part of.
-use Rattle.std.proofs.Common.{◌≡◌, ◌⊎◌, ℕ, List, [], ◌∷◌, codes, reverse, refl, sym, subst, inl, inr, Contains, None, Some}
+use Rattle.std.proofs.Common.{◌≡◌, ◌⊎◌, ℕ, List, [], ◌∷◌, codes, reverse, subst, inl, inr, Contains, None, Some}
 use Rattle.std.specs.List.{filter}
 use Rattle.graphql_names.specs.Placed.{Placed}
 use Rattle.tree_directives.specs.DirectiveQueries.{directive_has_name}
@@ -17,16 +17,15 @@ use Rattle.rule_definitions.specs.Uses.{GivenBreaks, TakerBreaks, UsesBreak}
 use Rattle.rule_document_definitions.specs.Places.{Places}
 use Rattle.rule_document_definitions.specs.DocumentFaults.{Broken, broken, DocumentFault, OfData, OfDocument, OfLimit}
 use Rattle.rule_document_definitions.specs.PossibleTypes.{IsNotComposite, MayApply}
-use Rattle.rule_document_definitions.specs.Selected.{Position, InFragment, Standing, StandingField, operations, fragment_named, spread_name, inline_condition, selection_place, selection_location, selection_directives, operation_name, field_name, own}
-use Rattle.rule_document_definitions.specs.Reached.{LeadsInto, AtOperation}
+use Rattle.rule_document_definitions.specs.Selected.{InFragment, Standing, operations, fragment_named, spread_name, inline_condition, selection_place, selection_location, selection_directives, operation_name}
+use Rattle.rule_document_definitions.specs.Reached.{AtOperation}
 use Rattle.rule_document_definitions.specs.Selections.{field_taker, FieldArgumentsBreak, DirectivesBreak}
 use Rattle.rule_document_definitions.specs.Fragments.{as_spread, RefersBySpread, RecursiveFragmentDefinitionAt, InvalidFragmentTargetAt, InvalidFragmentSpreadAt}
-use Rattle.rule_document_definitions.specs.Subscriptions.{SubscriptionUsesIntrospectionAt, SubscriptionUsesConditionalSelectionAt}
 use Rattle.rule_document_definitions.specs.DeferUses.{MayBeLeftOut, ReachedAlways, IsConditional}
-use Rattle.rule_document_definitions.specs.Defer.{DeferOnRootMutationOrSubscriptionFieldAt, DeferInSubscriptionMustBeConditionalAt, DeferBreaks}
+use Rattle.rule_document_definitions.specs.Defer.{DeferBreaks}
 use Rattle.graphql_validation.specs.Parts.{IsPartOfSet, IsPartOf}
 use Rattle.graphql_validation.specs.LastingRules.{LastingDataBreaks, LastingSubscriptionBreaks, LastingBreaks, CycleBreaks}
-use Rattle.graphql_validation.proofs.Fitting.{closed_fits, Fits, all_fits, as_field_fits, no_field_fits, standing_fits, leads_into, own_fits, root_fits, at_reached, at_reached_field, at_reached_fragment, spread_fits}
+use Rattle.graphql_validation.proofs.Fitting.{closed_fits, Fits, all_fits, as_field_fits, no_field_fits, standing_fits, leads_into, own_fits, root_fits, at_reached, at_reached_field, at_reached_fragment}
 
 module _ {P : Type 0} (d e : MeantDocument P) (part : IsPartOf d e) where
   pub at_operation : (Q R : MeantOperation P → Type 0) → ((o : MeantOperation P) (t : MeantSet P) → IsPartOfSet o.set t → Q o → R (record o { set = t }))

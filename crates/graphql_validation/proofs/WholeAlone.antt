@@ -1,28 +1,31 @@
 -- Of a document without a schema: what is told in parts tells all, and what is silent is valid.
-use Rattle.std.proofs.Common.{◌≡◌, ◌↔◌, ◌⊎◌, inl, inr, Bool, List, [], ◌∷◌, refl, subst, Contains}
+use Rattle.std.proofs.Common.{◌≡◌, ◌⊎◌, inl, inr, Bool, List, [], ◌∷◌, ◌++◌, map, take, refl, ap, ◌∙◌, subst, Contains}
 use Rattle.std.specs.Prelude.{IsTrue}
 use Rattle.graphql_names.specs.Placed.{Place}
 use Rattle.rule_definitions.proofs.Lists.{not_in_nil, Contains-first}
 use Rattle.document_meaning.specs.MeantTree.{MeantFragment, MeantDocument}
 use Rattle.document_meaning.specs.Unplaced.{unplaced_document}
+use Rattle.rule_definitions.specs.Room.{most_told}
 use Rattle.rule_definitions.specs.Told.{PlacedFault}
 use Rattle.rule_document_definitions.specs.DocumentFaults.{Broken, OfData, OfDocument, OfLimit}
-use Rattle.rule_document_definitions.specs.DocumentRules.{DeferredBreaks}
 use Rattle.rule_document_definitions.specs.Fragments.{ReachesItself}
 use Rattle.rule_document_definitions.specs.Limits.{PassesPathBound}
 use Rattle.rule_document_definitions.specs.Verdict.{WithinBounds}
 use Rattle.rule_document_definitions.specs.Named.{FragmentsFoundByName}
 use Rattle.rule_document_definitions.specs.Told.{PlacedDocumentFault, DocumentFailsAlone, DocumentBoundFails, IsValidAlone}
 use Rattle.rule_document_definitions.proofs.Verdicts.{valid_alone_where_nothing_is_told, within_bounds_where_nothing_is_told}
+use Rattle.rule_fragments.specs.Documents.{AreFirst, TellsDeferred}
 use Rattle.rule_fragments.specs.Used.{IsUsed}
 use Rattle.rule_fragments.specs.Nested.{NestsTooDeep}
-use Rattle.graphql_validation.specs.Operations.{TellsData, AllAlone, OperationFailsAlone, all_told}
+use Rattle.rule_merging.specs.in_faults.DetailsTree.{of_document}
+use Rattle.graphql_validation.specs.Operations.{TellsData, TellsFirst, AllAlone, OperationFailsAlone, all_told}
 use Rattle.graphql_validation.proofs.Telling.{data_in, broken_in, limit_in, told_cases, bound_is}
+use Rattle.graphql_validation.proofs.FirstTold.{first_all, none_told, told_none}
 use Rattle.graphql_validation.proofs.Ordered.{beside_alone}
-use Rattle.graphql_validation.specs.Told.{FailsAloneBesideCycles, AnswersFragment, TellsAlone}
+use Rattle.graphql_validation.specs.Told.{FailsAloneBesideCycles, AnswersFragment, TellsAlone, AloneTold, Telling}
 
 module _ (d : MeantDocument Place) where
-  pub tells_alone : (faults : List PlacedFault) (breaches : List (Broken Place)) (is_passed : Bool) → TellsData d (AllAlone d) (OperationFailsAlone d) faults → ((f : Broken Place) → Contains breaches f ↔ DeferredBreaks d f) → (IsTrue is_passed → PassesPathBound d)
+  tells_alone : (faults : List PlacedFault) (breaches : List (Broken Place)) (is_passed : Bool) → TellsData d (AllAlone d) (OperationFailsAlone d) faults → TellsDeferred d breaches → (IsTrue is_passed → PassesPathBound d)
       → (NestsTooDeep d → IsTrue is_passed) → TellsAlone d (all_told faults breaches is_passed)
   tells_alone faults breaches is_passed parts deferred passes found = record { right = right; full = full; cycles = cycles; bound = λ nests. limit_in faults breaches is_passed (found nests) }
     where
@@ -43,6 +46,12 @@ module _ (d : MeantDocument Place) where
       cycles : (g : MeantFragment Place) → IsUsed d g → ReachesItself d g → (f : PlacedDocumentFault) × (Contains (all_told faults breaches is_passed) f × AnswersFragment g f)
       cycles g reached itself = let f = parts.cycles g reached itself in (OfData f.0, (data_in faults breaches is_passed f.0 f.1.0, (f.0, (refl, f.1.1))))
 
+  -- where the faults and the breaches are the first of all
+  pub alone_told : (old new : Telling) (faults : List PlacedFault) (breaches : List (Broken Place)) (is_passed : Bool) → TellsFirst d (AllAlone d) (OperationFailsAlone d) faults → AreFirst (TellsDeferred d) breaches
+      → (IsTrue is_passed → PassesPathBound d) → (NestsTooDeep d → IsTrue is_passed) → new ≡ old ++ map of_document (take most_told (all_told faults breaches is_passed)) → AloneTold d old new
+  alone_told old new faults breaches is_passed (all, (first, parts)) (broken, (front, deferred)) passes found is =
+      (all_told all broken is_passed, (is ∙ ap (λ l. old ++ map of_document l) (first_all faults all breaches broken is_passed first front), tells_alone all broken is_passed parts deferred passes found))
+
   never : TellsAlone d [] → (f : PlacedDocumentFault) → DocumentFailsAlone d f → ⊥
   never tells (OfData f) (inl at) = elim (beside_alone d at.0 f at.1.1) [
     | inl h ↦ not_in_nil (OfData f) (tells.full (OfData f) (inl (at.0, (at.1.0, h))))
@@ -52,13 +61,16 @@ module _ (d : MeantDocument Place) where
   never tells (OfDocument b) h = not_in_nil (OfDocument b) (tells.full (OfDocument b) h)
   never tells (OfLimit place) h = h
 
-  pub silent_is_valid : FragmentsFoundByName d → TellsAlone d [] → IsValidAlone d
-  silent_is_valid named tells = (valid_alone_where_nothing_is_told d named).1 (never tells)
+  pub silent_is_valid : FragmentsFoundByName d → (old new : Telling) → AloneTold d old new → new ≡ old → IsValidAlone d
+  silent_is_valid named old new (all, (is, tells)) same = (valid_alone_where_nothing_is_told d named).1 (never (subst (TellsAlone d) (none_told old new all is same) tells))
 
   -- nothing is told of what is valid and within the bounds
-  pub valid_is_silent : FragmentsFoundByName d → (told : List PlacedDocumentFault) → TellsAlone d told → IsValidAlone d → WithinBounds (unplaced_document d) → told ≡ []
-  valid_is_silent named [] tells valid within = refl
-  valid_is_silent named (f ∷ fs) tells valid within = elim (tells.right f (Contains-first f fs f refl)) [
+  none_of_valid : FragmentsFoundByName d → (told : List PlacedDocumentFault) → TellsAlone d told → IsValidAlone d → WithinBounds (unplaced_document d) → told ≡ []
+  none_of_valid named [] tells valid within = refl
+  none_of_valid named (f ∷ fs) tells valid within = elim (tells.right f (Contains-first f fs f refl)) [
     | inl h ↦ absurd ((valid_alone_where_nothing_is_told d named).0 valid f h)
     | inr h ↦ absurd ((within_bounds_where_nothing_is_told d).0 within f h)
   ]
+
+  pub valid_is_silent : FragmentsFoundByName d → (old new : Telling) → AloneTold d old new → IsValidAlone d → WithinBounds (unplaced_document d) → new ≡ old
+  valid_is_silent named old new (all, (is, tells)) valid within = told_none old new all is (none_of_valid named all tells valid within)

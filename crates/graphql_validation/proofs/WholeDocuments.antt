@@ -1,5 +1,5 @@
 -- Of a document under a schema: what is told in parts tells all, and what is silent is valid.
-use Rattle.std.proofs.Common.{◌≡◌, inl, inr, Bool, true, false, List, [], ◌∷◌, None, refl, subst, Contains}
+use Rattle.std.proofs.Common.{◌≡◌, inl, inr, Bool, true, false, List, [], ◌∷◌, ◌++◌, map, take, None, refl, ap, sym, ◌∙◌, subst, Contains}
 use Rattle.std.specs.Prelude.{IsTrue}
 use Rattle.graphql_names.specs.Placed.{Place}
 use Rattle.schema_types.specs.SchemaTree.{SchemaTree}
@@ -8,6 +8,7 @@ use Rattle.document_meaning.specs.MeantTree.{MeantOperation, MeantFragment, Mean
 use Rattle.document_meaning.specs.Unplaced.{unplaced_document}
 use Rattle.rule_definitions.proofs.Lists.{not_in_nil, Contains-first}
 use Rattle.rule_definitions.specs.Judged.{judged}
+use Rattle.rule_definitions.specs.Room.{most_told}
 use Rattle.rule_definitions.specs.Told.{PlacedFault}
 use Rattle.rule_document_definitions.specs.DocumentFaults.{Broken, OfData, OfDocument, OfLimit}
 use Rattle.rule_document_definitions.specs.Fragments.{ReachesItself}
@@ -27,10 +28,13 @@ use Rattle.rule_fragments.specs.Nested.{NestsTooDeep}
 use Rattle.rule_fragments.specs.SubscriptionTold.{AreAlike}
 use Rattle.rule_selections.specs.in_typing.Meanings.{meanings}
 use Rattle.rule_merging.specs.Merged.{MergingFailsAt}
+use Rattle.rule_merging.specs.in_faults.DetailsTree.{of_document}
 use Rattle.graphql_validation.specs.Operations.{AreReachesTyped, TellsData, AllUnder, OperationFails, all_told}
-use Rattle.rule_fragments.specs.Documents.{TellsBreaches}
-use Rattle.graphql_validation.specs.Told.{AnswersFragment}
-use Rattle.graphql_validation.specs.TellsDocument.{IsTypedUnder, FailsBesides, FailsBesideMerging, FailsInMerging, SomeFails, TellsDocument}
+use Rattle.graphql_validation.specs.Steps.{TellsUnder}
+use Rattle.rule_fragments.specs.Documents.{AreFirst, TellsBreaches}
+use Rattle.graphql_validation.specs.Told.{AnswersFragment, Telling}
+use Rattle.graphql_validation.specs.TellsDocument.{IsTypedUnder, FailsBesides, FailsBesideMerging, FailsInMerging, SomeFails, TellsDocument, DocumentTold}
+use Rattle.graphql_validation.proofs.FirstTold.{first_all, none_first, told_none}
 use Rattle.graphql_validation.proofs.Ordered.{beside_under}
 use Rattle.graphql_validation.proofs.Telling.{data_in, broken_in, limit_in, told_cases, bound_is}
 
@@ -57,22 +61,22 @@ module _ (s : SchemaTree Place) (d : MeantDocument Place) where
 
   -- the rules but those on merging, and the bounds
   module _ (faults : List PlacedFault) (breaches : List (Broken Place)) (is_passed : Bool)
-      (parts : TellsData d (AllUnder s d) (λ o. OperationFails d o s) faults) (told : TellsBreaches d breaches) (passes : IsTrue is_passed → PassesPathBound d) (found : NestsTooDeep d → IsTrue is_passed) where
+      (parts : TellsData d (AllUnder s d) (λ o. OperationFails d o s) faults) (told : TellsBreaches d breaches) (passes : IsTrue is_passed → PassesPathBound d) where
     abbrev All : List PlacedDocumentFault
     All = all_told faults breaches is_passed
 
-    pub tells_document : TellsDocument s d (all_told faults breaches is_passed)
-    tells_document = record { right = λ f c. besides_some f (beside f c); full = full; cycles = cycles; subscriptions = subscriptions; bound = bound; apart = inl beside }
-      where
-        beside : (f : PlacedDocumentFault) → Contains All f → FailsBesideMerging s d f
-        beside f c = elim (told_cases faults breaches is_passed f c) [
-          | inl g ↦ subst (FailsBesideMerging s d) g.1.1 (elim (parts.right g.0 g.1.0) [ inl h ↦ inl h | inr h ↦ inr (inl h) ])
-          | inr r ↦ elim r [
-            | inl b ↦ subst (FailsBesideMerging s d) b.1.1 (inl (told.right b.0 b.1.0))
-            | inr k ↦ let b = bound_is is_passed f k in inr (inr (passes b.0, inr b.1))
-          ]
-        ]
+    pub beside : (f : PlacedDocumentFault) → Contains (all_told faults breaches is_passed) f → FailsBesideMerging s d f
+    beside f c = elim (told_cases faults breaches is_passed f c) [
+      | inl g ↦ subst (FailsBesideMerging s d) g.1.1 (elim (parts.right g.0 g.1.0) [ inl h ↦ inl h | inr h ↦ inr (inl h) ])
+      | inr r ↦ elim r [
+        | inl b ↦ subst (FailsBesideMerging s d) b.1.1 (inl (told.right b.0 b.1.0))
+        | inr k ↦ let b = bound_is is_passed f k in inr (inr (passes b.0, inr b.1))
+      ]
+    ]
 
+    tells_document : (NestsTooDeep d → IsTrue is_passed) → TellsDocument s d (all_told faults breaches is_passed)
+    tells_document found = record { right = λ f c. besides_some f (beside f c); full = full; cycles = cycles; subscriptions = subscriptions; bound = bound; apart = inl beside }
+      where
         full : (f : PlacedDocumentFault) → FailsBesides s d f → Contains All f
         full (OfData f) h = data_in faults breaches is_passed f (parts.full f h)
         full (OfDocument b) h = broken_in faults breaches is_passed b (told.deferred b h)
@@ -86,6 +90,29 @@ module _ (s : SchemaTree Place) (d : MeantDocument Place) where
 
         bound : NestsTooDeep d → Contains All (OfLimit None)
         bound nests = limit_in faults breaches is_passed (found nests)
+
+  -- the same where the faults and the breaches are the first of all
+  module _ (typed : IsTypedUnder s d) (faults : List PlacedFault) (breaches : List (Broken Place)) (is_passed : Bool)
+      (parts : TellsUnder s d faults) (told : AreUnderOwnNames d → AreFirst (TellsBreaches d) breaches) (passes : IsTrue is_passed → PassesPathBound d) (found : NestsTooDeep d → IsTrue is_passed) where
+    first : (all : List PlacedFault) × ((broken : List (Broken Place)) × (((faults ≡ take most_told all) × (breaches ≡ take most_told broken)) × TellsDocument s d (all_told all broken is_passed)))
+    first =
+        let given = parts (reaches_typed typed) (own_names typed) in
+        let breaks = told (own_names typed) in
+        (given.0, (breaks.0, ((given.1.0, breaks.1.0), tells_document given.0 breaks.0 is_passed given.1.1 breaks.1.1 passes found)))
+
+    pub document_told : (old new : Telling) → new ≡ old ++ map of_document (take most_told (all_told faults breaches is_passed)) → DocumentTold s d old new
+    document_told old new is = (
+      all_told first.0 first.1.0 is_passed,
+      (is ∙ ap (λ l. old ++ map of_document l) (first_all faults first.0 breaches first.1.0 is_passed first.1.1.0.0 first.1.1.0.1), first.1.1.1),
+    )
+
+    -- where none of the first are told, nothing is
+    pub nothing_beside : (faults ≡ []) × ((breaches ≡ []) × (is_passed ≡ false)) → TellsDocument s d []
+    nothing_beside (a, (b, e)) =
+        let no_fault : first.0 ≡ [] = none_first first.0 (sym first.1.1.0.0 ∙ a) in
+        let no_breach : first.1.0 ≡ [] = none_first first.1.0 (sym first.1.1.0.1 ∙ b) in
+        let nothing : all_told first.0 first.1.0 is_passed ≡ [] = λ i. all_told (no_fault i) (no_breach i) (e i) in
+        subst (TellsDocument s d) nothing first.1.1.1
 
   -- where they tell nothing, what merging tells is all
   pub tells_merging : TellsDocument s d [] → (told : List PlacedDocumentFault) → ((f : PlacedDocumentFault) → Contains told f → AtOperation d (λ o. MergingFailsAt (judged s) d o f)) → TellsDocument s d told
@@ -129,9 +156,9 @@ module _ (s : SchemaTree Place) (d : MeantDocument Place) where
   silent_is_valid named tells merge = (valid_where_nothing_is_told s d named).1 (λ f q. elim q [ inl h ↦ no_rule tells f h | inr h ↦ no_conflict merge f h ])
 
   -- nothing is told of what is valid and within the bounds
-  pub valid_is_silent : FragmentsFoundByName d → (told : List PlacedDocumentFault) → TellsDocument s d told → IsValidDocument s d → WithinBounds (unplaced_document d) → told ≡ []
-  valid_is_silent named [] tells valid within = refl
-  valid_is_silent named (f ∷ fs) tells valid within = elim (tells.right f (Contains-first f fs f refl)) [
+  none_of_valid : FragmentsFoundByName d → (told : List PlacedDocumentFault) → TellsDocument s d told → IsValidDocument s d → WithinBounds (unplaced_document d) → told ≡ []
+  none_of_valid named [] tells valid within = refl
+  none_of_valid named (f ∷ fs) tells valid within = elim (tells.right f (Contains-first f fs f refl)) [
     | inl h ↦ absurd ((valid_where_nothing_is_told s d named).0 valid f (inl h))
     | inr r ↦ elim r [
       | inl h ↦ absurd ((valid_where_nothing_is_told s d named).0 valid f (inr h))
@@ -139,12 +166,12 @@ module _ (s : SchemaTree Place) (d : MeantDocument Place) where
     ]
   ]
 
+  pub valid_is_silent : FragmentsFoundByName d → (old new : Telling) → DocumentTold s d old new → IsValidDocument s d → WithinBounds (unplaced_document d) → new ≡ old
+  valid_is_silent named old new (all, (is, tells)) valid within = told_none old new all is (none_of_valid named all tells valid within)
+
 -- ---- where nothing is told
 
 module _ (faults : List PlacedFault) (breaches : List (Broken Place)) (is_passed : Bool) where
-  pub all_none : (faults ≡ []) × ((breaches ≡ []) × (is_passed ≡ false)) → all_told faults breaches is_passed ≡ []
-  all_none (a, (b, e)) = λ i. all_told (a i) (b i) (e i)
-
   pub only_none : all_told faults breaches is_passed ≡ [] → (faults ≡ []) × ((breaches ≡ []) × (is_passed ≡ false))
   only_none none = (
     no_member faults (λ f c. not_in_nil (OfData f) (subst (λ l. Contains l (OfData f)) none (data_in faults breaches is_passed f c))),

@@ -1,5 +1,5 @@
 -- The rules on documents that stay broken whatever is added to a document: what was left out of it cannot be why they are (GraphQL, October 2021, section 5).
-use Rattle.std.specs.Prelude.{◌≡◌, List, ◌⊎◌}
+use Rattle.std.specs.Prelude.{◌≡◌, ◌⊎◌}
 use Rattle.graphql_names.specs.Placed.{Place}
 use Rattle.tree_directives.specs.declared.operation_type.OperationType.TheVariants as operation
 use Rattle.schema_types.specs.SchemaTree.{SchemaTree}

@@ -1,9 +1,10 @@
--- Private: leads to `LastingFails`. Which faults are of rules that stay broken, by their variants.
+-- Which faults are of rules that stay broken, by their variants: what they are is in `LastingFails`.
 use Rattle.std.specs.Prelude.{Bool, true, false}
 use Rattle.fault_document_data.specs.DocumentBreaches.{DocumentBreach, SubscriptionUsesIntrospection, SubscriptionUsesConditionalSelection, DeferOnRootMutationOrSubscriptionField, DeferInSubscriptionMustBeConditional}
 use Rattle.rule_definitions.specs.Diagnostics.{Diagnostic, UnusedVariable, MissingSubselection, UndefinedFragment, UnusedFragment, DeeplyNestedType}
 use Rattle.rule_definitions.specs.Faults.{FaultAt}
-use Rattle.rule_document_definitions.specs.DocumentFaults.{Broken}
+use Rattle.rule_document_definitions.specs.DocumentFaults.{Broken, OfData, OfDocument, OfLimit}
+use Rattle.rule_document_definitions.specs.Told.{PlacedDocumentFault}
 
 module _ {P E : Type 0} where
   abbrev pub data_lasts : Diagnostic P E → Bool
@@ -27,3 +28,9 @@ module _ {P : Type 0} where
 
   abbrev pub broken_lasts : Broken P → Bool
   broken_lasts fault = breach_lasts fault.it
+
+-- whether a fault lasts, among those of documents
+abbrev pub lasts : PlacedDocumentFault → Bool
+lasts (OfData fault) = fault_lasts fault
+lasts (OfDocument fault) = broken_lasts fault
+lasts (OfLimit place) = false

@@ -1,5 +1,5 @@
 -- What is judged operation by operation, and what is noted of the fragments.
-use Rattle.std.specs.Prelude.{◌≡◌, ◌↔◌, ◌++◌, ℕ, Bool, true, false, List, [], ◌∷◌, map, fold, Contains, None, ◌⊎◌}
+use Rattle.std.specs.Prelude.{◌≡◌, ◌↔◌, ◌++◌, ℕ, Bool, true, false, List, [], ◌∷◌, map, take, fold, Contains, None, ◌⊎◌}
 use Rattle.std.specs.Str.{bytes_eq}
 use Rattle.indexmap.specs.IndexSet.{insert_key}
 use Rattle.graphql_names.specs.Placed.{Place}
@@ -10,6 +10,7 @@ use Rattle.document_typed_selections.specs.TypedTree.{TypedSet}
 use Rattle.document_typed_operations.specs.TypedDocument.{TypedOperation}
 use Rattle.rule_selections.specs.in_typing.Meanings.{meanings}
 use Rattle.document_meaning.specs.MeantTree.{MeantOperation, MeantFragment, MeantDocument}
+use Rattle.rule_definitions.specs.Room.{most_told, ◌⊕◌}
 use Rattle.rule_definitions.specs.Judged.{judged}
 use Rattle.rule_definitions.specs.Told.{PlacedFault}
 use Rattle.rule_document_definitions.specs.DocumentFaults.{Broken, OfData, OfDocument, OfLimit}
@@ -56,13 +57,17 @@ with_fragments = fold (λ ns f. insert_key bytes_eq ns f.name.it)
 
 -- behind these faults those of the fragments that no operation reaches, and then those of the fragments that reach themselves
 abbrev pub FragmentsTold : MeantDocument Place → List PlacedFault → List PlacedFault → Type 0
-FragmentsTold d old new = (unused : List PlacedFault) × (((f : PlacedFault) → Contains unused f ↔ UnusedFragmentAt d f) × TellsFragmentCycles d (old ++ unused) new)
+FragmentsTold d old new = (unused : List PlacedFault) × (((f : PlacedFault) → Contains unused f ↔ UnusedFragmentAt d f) × TellsFragmentCycles d (old ⊕ unused) new)
 
 -- the faults with data of a document: `All` are those of an operation, `Beside` those but that fragments reach themselves
 pub record TellsData (d : MeantDocument Place) (All Beside : MeantOperation Place → PlacedFault → Type 0) (told : List PlacedFault) : Type 0 where
   pub right : (f : PlacedFault) → Contains told f → (AtOperation d (λ o. All o f) ⊎ UnusedFragmentAt d f) ⊎ SpreadBoundFails places_alone d (OfData f)
   pub full : (f : PlacedFault) → AtOperation d (λ o. Beside o f) ⊎ UnusedFragmentAt d f → Contains told f
   pub cycles : (g : MeantFragment Place) → IsUsed d g → ReachesItself d g → (f : PlacedFault) × (Contains told f × Answers g f)
+
+-- these are the first 1,000 of all faults with data of a document
+abbrev pub TellsFirst : MeantDocument Place → (All Beside : MeantOperation Place → PlacedFault → Type 0) → List PlacedFault → Type 0
+TellsFirst d All Beside told = (all : List PlacedFault) × ((told ≡ take most_told all) × TellsData d All Beside all)
 
 -- all rules without a schema, all rules under one, with data, on an operation
 abbrev pub AllAlone : MeantDocument Place → MeantOperation Place → PlacedFault → Type 0

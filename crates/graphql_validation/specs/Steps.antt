@@ -1,5 +1,5 @@
--- Private: leads to `TellsData` and `TellsDocument`. What the checks of operations find and note, and what is told at the end, as the program has it.
-use Rattle.std.specs.Prelude.{◌≡◌, ◌++◌, List, map, Option, Contains}
+-- Private: leads to `TellsFirst` and `TellsDocument`. What the checks of operations find and note, and what is told at the end, as the program has it.
+use Rattle.std.specs.Prelude.{◌≡◌, ◌++◌, List, map, take, Option, Contains}
 use Rattle.indexmap.specs.IndexMap.{IndexMap}
 use Rattle.graphql_names.specs.NameValue.{NameValue}
 use Rattle.graphql_names.specs.Placed.{Place}
@@ -11,6 +11,7 @@ use Rattle.document_meaning.specs.MeantTree.{MeantOperation, MeantDocument}
 use Rattle.rule_selections.specs.in_typing.Meanings.{meanings}
 use Rattle.fault_data.specs.Adds.{Adds}
 use Rattle.fault_data.specs.FaultView.{faults_of}
+use Rattle.rule_definitions.specs.Room.{most_told}
 use Rattle.rule_merging.specs.in_faults.DetailsTree.{of_document}
 use Rattle.rule_merging.specs.in_faults.DetailsView.{diagnostics_of}
 use Rattle.rule_merging.specs.in_faults.declared.diagnostic_list.DiagnosticList.{DiagnosticList}
@@ -24,10 +25,10 @@ use Rattle.rule_fragments.specs.in_ground.NotedNames.{noted_names}
 use Rattle.rule_fragments.specs.in_ground.Reach.{meant_fragments}
 use Rattle.rule_fragments.specs.Possible.{ObjectsOfTypes, ArePossibleIfFound}
 use Rattle.rule_fragments.specs.Used.{AreUnderOwnNames, AreUsed}
-use Rattle.rule_merging.specs.Merged.{DocumentMergingTold}
+use Rattle.rule_merging.specs.Merged.{MergingFailsAt}
 use Rattle.rule_selections.specs.Settled.{StandIn}
 use Rattle.rule_selections.specs.Typed.{ReachesTyped}
-use Rattle.graphql_validation.specs.Operations.{OperationFailsAlone, OperationFails, ReachesNamed, AreReachesTyped, NotesNames, FragmentsTold, TellsData, AllAlone, AllUnder}
+use Rattle.graphql_validation.specs.Operations.{OperationFailsAlone, OperationFails, ReachesNamed, AreReachesTyped, NotesNames, FragmentsTold, TellsFirst, AllAlone, AllUnder}
 use Rattle.graphql_validation.specs.declared.found.Found.{Found}
 
 -- what was told, and after it this of documents
@@ -55,7 +56,7 @@ abbrev pub FindsAllAlone : MeantDocument Place → Found → Found → Type 0
 FindsAllAlone d old new = Adds old.faults new.faults (λ f. AtOperation d (λ o. OperationFailsAlone d o f))
 
 abbrev pub TellsAlone : MeantDocument Place → List PlacedFault → Type 0
-TellsAlone d told = AreUnderOwnNames d → TellsData d (AllAlone d) (OperationFailsAlone d) told
+TellsAlone d told = AreUnderOwnNames d → TellsFirst d (AllAlone d) (OperationFailsAlone d) told
 
 -- ---- under a schema
 
@@ -86,11 +87,11 @@ module _ (s : SchemaTree Place) where
     NotesAllUnder fragments old new = StandIn s d.fragments (meant_fragments fragments) → NotesAllReached d old new
 
     abbrev pub TellsUnder : List PlacedFault → Type 0
-    TellsUnder told = AreReachesTyped s d → AreUnderOwnNames d → TellsData d (AllUnder s d) (λ o. OperationFails d o s) told
+    TellsUnder told = AreReachesTyped s d → AreUnderOwnNames d → TellsFirst d (AllUnder s d) (λ o. OperationFails d o s) told
 
-    -- what merging tells of the operations of the document
+    -- the first 1,000 of what merging tells of the operations of the document
     abbrev pub TellsMerging : DiagnosticList → DiagnosticList → Type 0
-    TellsMerging old new = DocumentMergingTold (judged s) d (diagnostics_of old) (diagnostics_of new)
+    TellsMerging old new = (all : List PlacedDocumentFault) × (AddsDetails old new (take most_told all) × ((f : PlacedDocumentFault) → Contains all f → AtOperation d (λ o. MergingFailsAt (judged s) d o f)))
 
     -- the fields of each operation merge
     abbrev pub AllMerge : Type 0

@@ -1,5 +1,5 @@
 -- What is told of a document under a schema (GraphQL, October 2021, section 5).
-use Rattle.std.specs.Prelude.{◌≡◌, ◌++◌, List, map, Contains, ◌⊎◌, None}
+use Rattle.std.specs.Prelude.{◌≡◌, ◌++◌, List, map, take, Contains, ◌⊎◌, None}
 use Rattle.graphql_names.specs.Placed.{Place}
 use Rattle.schema_types.specs.SchemaTree.{SchemaTree}
 use Rattle.schema_types.specs.Plain.{plain}
@@ -7,6 +7,7 @@ use Rattle.document_meaning.specs.MeantTree.{MeantOperation, MeantFragment, Mean
 use Rattle.document_meaning.specs.Unplaced.{unplaced_document}
 use Rattle.rule_selections.specs.in_typing.Meanings.{meanings}
 use Rattle.rule_selections.specs.in_typing.TypedByPlace.{IsTypedDocument}
+use Rattle.rule_definitions.specs.Room.{most_told}
 use Rattle.rule_document_definitions.specs.DocumentFaults.{Broken, OfData, OfDocument, OfLimit}
 use Rattle.rule_document_definitions.specs.DocumentRules.{DeferredBreaks}
 use Rattle.rule_document_definitions.specs.Fragments.{ReachesItself, UnusedFragmentAt}
@@ -58,9 +59,9 @@ module _ (s : SchemaTree Place) (d : MeantDocument Place) where
     pub bound : NestsTooDeep d → Contains told (OfLimit None)
     pub apart : ((f : PlacedDocumentFault) → Contains told f → FailsBesideMerging f) ⊎ ((f : PlacedDocumentFault) → Contains told f → FailsInMerging f)
 
-  -- behind what was told stands what is told of the document
+  -- behind what was told stand the first 1,000 of what is told of the document
   abbrev pub DocumentTold : Telling → Telling → Type 0
-  DocumentTold old new = (added : List PlacedDocumentFault) × ((new ≡ old ++ map of_document added) × TellsDocument added)
+  DocumentTold old new = (all : List PlacedDocumentFault) × ((new ≡ old ++ map of_document (take most_told all)) × TellsDocument all)
 
   -- the same of a document that is typed
   abbrev pub TypedDocumentTold : Telling → Telling → Type 0

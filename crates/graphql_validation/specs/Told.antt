@@ -1,5 +1,5 @@
 -- What is told of a document, and of a field set (GraphQL, October 2021, section 5).
-use Rattle.std.specs.Prelude.{◌≡◌, ℕ, List, ◌++◌, map, Contains, ◌⊎◌, None}
+use Rattle.std.specs.Prelude.{◌≡◌, ℕ, List, ◌++◌, map, take, Contains, ◌⊎◌, None}
 use Rattle.graphql_names.specs.Placed.{Place}
 use Rattle.schema_types.specs.SchemaTree.{SchemaTree}
 use Rattle.schema_types.specs.Plain.{plain}
@@ -9,6 +9,7 @@ use Rattle.document_meaning.specs.MeantTree.{MeantSet, MeantFragment, MeantDocum
 use Rattle.document_meaning.specs.Unplaced.{unplaced_document, unplaced_set}
 use Rattle.rule_selections.specs.in_typing.Meanings.{meanings}
 use Rattle.rule_selections.specs.in_typing.TypedByPlace.{IsSetOn}
+use Rattle.rule_definitions.specs.Room.{most_told}
 use Rattle.rule_definitions.specs.Told.{PlacedFault}
 use Rattle.rule_document_definitions.specs.DocumentFaults.{OfData, OfDocument, OfLimit}
 use Rattle.rule_document_definitions.specs.FieldSets.{document_of_set}
@@ -42,13 +43,13 @@ pub record TellsAlone (d : MeantDocument Place) (told : List PlacedDocumentFault
   pub cycles : (g : MeantFragment Place) → IsUsed d g → ReachesItself d g → (f : PlacedDocumentFault) × (Contains told f × AnswersFragment g f)
   pub bound : NestsTooDeep d → Contains told (OfLimit None)
 
--- behind what was told stands what is told of the document without a schema
+-- behind what was told stand the first 1,000 of what is told of the document without a schema
 abbrev pub AloneTold : MeantDocument Place → Telling → Telling → Type 0
-AloneTold d old new = (added : List PlacedDocumentFault) × ((new ≡ old ++ map of_document added) × TellsAlone d added)
+AloneTold d old new = (all : List PlacedDocumentFault) × ((new ≡ old ++ map of_document (take most_told all)) × TellsAlone d all)
 
 -- of a document whose fragments stand under their own names, as in each that is built
 module _ (d : MeantDocument Place) where
-  -- behind what was told stands what is told of it without a schema
+  -- behind what was told stand the first 1,000 of what is told of it without a schema
   abbrev pub NamedAloneTold : Telling → Telling → Type 0
   NamedAloneTold old new = AreUnderOwnNames d → AloneTold d old new
 
@@ -77,12 +78,13 @@ pub record TellsFieldSet (s : SchemaTree Place) (set : MeantSet Place) (told : L
   pub full : (f : PlacedDocumentFault) → SetRulesFail s set f → Contains told f
   pub bound : NestsTooDeep (document_of_set None set) → Contains told (OfLimit None)
 
+-- behind what was told stand the first 1,000 of what is told of the field set
 abbrev pub FieldSetTold : SchemaTree Place → MeantSet Place → Telling → Telling → Type 0
-FieldSetTold s set old new = (added : List PlacedDocumentFault) × ((new ≡ old ++ map of_document added) × TellsFieldSet s set added)
+FieldSetTold s set old new = (all : List PlacedDocumentFault) × ((new ≡ old ++ map of_document (take most_told all)) × TellsFieldSet s set all)
 
 -- of a field set that is typed
 module _ (s : SchemaTree Place) (set : MeantSet Place) where
-  -- behind what was told stands what is told of it
+  -- behind what was told stand the first 1,000 of what is told of it
   abbrev pub TypedFieldSetTold : Telling → Telling → Type 0
   TypedFieldSetTold old new = IsTypedSet s set → FieldSetTold s set old new
 

@@ -1,5 +1,5 @@
 //! Every rule on a document under a schema.
-ghost use Rattle.std.specs.Prelude.{◌≡◌, ◌↔◌, [], false, IsTrue, OnErr, OnOk};
+ghost use Rattle.std.specs.Prelude.{◌≡◌, ◌↔◌, [], false, IfOk, IsTrue, OnErr, OnOk};
 ghost use Rattle.std.specs.Option.{option_copied};
 ghost use Rattle.rule_fragments.specs.in_schema.SchemaOf.{schema_tree};
 ghost use Rattle.rule_fragments.specs.in_typed_operations.DocumentView.{document_meant};
@@ -8,6 +8,7 @@ ghost use Rattle.fault_data.specs.FaultView.{faults_of};
 ghost use Rattle.rule_merging.specs.in_faults.DetailsView.{diagnostics_of, BeginsAs};
 ghost use Rattle.rule_fragments.specs.in_ground.Broken.{brokens_of};
 ghost use Rattle.rule_definitions.specs.Judged.{judged};
+ghost use Rattle.rule_merging.specs.Merged.{DocumentMergingTold};
 ghost use Rattle.rule_fragments.specs.Possible.{ArePossibleIfFound};
 ghost use Rattle.graphql_validation.specs.TellsDocument.{TypedDocumentTold, SilenceMeansValid, ValidMeansSilence};
 ghost use Rattle.graphql_validation.specs.Steps.{TellsMerging, AllMerge};
@@ -16,7 +17,7 @@ use crate::found::fragments_differ;
 use crate::told::append_all;
 use crate::under_schema::faults_under;
 use document_typed_operations::ExecutableDocument;
-use fault_data::Fault;
+use fault_data::{Fault, MOST_TOLD};
 use rule_fragments::{PossibleTypes, Schema, document_breaches, passes_path_bound};
 use rule_merging::{Breach, DiagnosticList, FieldsInSetCanMerge};
 use rule_selections::{IndexedSchema, SchemaInputs};
@@ -29,7 +30,27 @@ fn is_nothing(faults: &Vec<Fault>, breaches: &Vec<Breach>, is_passed: bool) -> b
     faults.is_empty() && breaches.is_empty() && !is_passed
 }
 
-/// Adds what does not merge in each operation.
+/// What does not merge in each operation, up to the one where [`MOST_TOLD`] are told or more.
+fn merge_each(
+    alloc: Global,
+    schema: &Schema,
+    document: &ExecutableDocument,
+) -> Result<DiagnosticList, AllocError>
+    ensures told { IfOk result (λ list. DocumentMergingTold (judged (schema_tree schema.now)) (document_meant document.now) [] (diagnostics_of list)) }
+    ensures merged { IfOk result (λ list. diagnostics_of list ≡ [] → AllMerge (schema_tree schema.now) (document_meant document.now)) }
+{
+    let mut list = DiagnosticList::new(alloc);
+    let mut merger = FieldsInSetCanMerge::new(alloc, schema, document);
+    for operation in document.operations.iter() {
+        merger.validate_operation(operation, &mut list)?;
+        if list.len() >= MOST_TOLD {
+            return Ok(list);
+        }
+    }
+    Ok(list)
+}
+
+/// Adds the first [`MOST_TOLD`] of what does not merge in the operations.
 fn merge_operations(
     alloc: Global,
     list: &mut DiagnosticList,
@@ -40,17 +61,15 @@ fn merge_operations(
     ensures merged { OnOk result (diagnostics_of list.new ≡ diagnostics_of list.old → AllMerge (schema_tree schema.now) (document_meant document.now)) }
     ensures begins { OnErr result (BeginsAs (diagnostics_of list.old) (diagnostics_of list.new)) }
 {
-    let mut merger = FieldsInSetCanMerge::new(alloc, schema, document);
-    for operation in document.operations.iter() {
-        merger.validate_operation(operation, list)?;
-    }
-    Ok(())
+    let mut told = merge_each(alloc, schema, document)?;
+    told.truncate(MOST_TOLD);
+    list.append(&mut told)
 }
 
-/// Tells what breaks the rules on a document under a schema (section 5, from 5.2.3 on, and the rules on `@defer`). Where all
-/// other rules hold, the fields of each operation are merged (section 5.3.2). If the document is typed, as each that is built,
-/// nothing is told exactly when all rules hold, apart from the bounds on how deep spreads, selections and fields nest. Where
-/// memory is refused the list begins as before.
+/// Tells what breaks the rules on a document under a schema (section 5, from 5.2.3 on, and the rules on `@defer`), the first
+/// [`MOST_TOLD`] of it. Where all other rules hold, the fields of each operation are merged (section 5.3.2). If the document
+/// is typed, as each that is built, nothing is told exactly when all rules hold, apart from the bounds on how deep spreads,
+/// selections and fields nest. Where memory is refused the list begins as before.
 pub fn validate_executable_document(
     alloc: Global,
     list: &mut DiagnosticList,

@@ -9,7 +9,7 @@ ghost use Rattle.rule_fragments.specs.Possible.{ArePossibleIfFound};
 ghost use Rattle.graphql_validation.specs.TellsLasting.{TypedLastingTold};
 
 use crate::filters::{keep_lasting_breaches, keep_lasting_faults};
-use crate::told::append_all;
+use crate::told::{append_told, keep_first};
 use crate::under_schema::faults_under;
 use document_typed_operations::ExecutableDocument;
 use rule_fragments::{PossibleTypes, document_breaches};
@@ -20,8 +20,9 @@ use std::alloc::{AllocError, Global};
 /// Tells of a document of which something may be left out, as typing does, what is wrong with it whatever that was: what
 /// breaks rules under a schema that stay broken whatever is added to the document (section 5, from 5.2.3 on, and the rules on
 /// `@defer`). Those are all rules on documents but UnusedVariable, MissingSubselection, UndefinedFragment, UnusedFragment,
-/// SubscriptionUsesMultipleFields and those on labels and on merging. `possible` has the possible types of the schema, if they
-/// are there already. Where memory is refused the list begins as before.
+/// SubscriptionUsesMultipleFields and those on labels and on merging. What is told is of the first 1,000 faults of all rules:
+/// a fault that lasts and stands after them is not told. `possible` has the possible types of the schema, if they are there
+/// already. Where memory is refused the list begins as before.
 pub fn tell_lasting_faults(
     alloc: Global,
     list: &mut DiagnosticList,
@@ -34,9 +35,10 @@ pub fn tell_lasting_faults(
     ensures begins { OnErr result (BeginsAs (diagnostics_of list.old) (diagnostics_of list.new)) }
 {
     let mut faults = faults_under(alloc, schema, possible, document)?;
-    keep_lasting_faults(&mut faults);
     let mut breaches = document_breaches(alloc, document)?;
-    keep_lasting_breaches(&mut breaches);
     // The bound on how deep selections nest is no rule, so it is not told.
-    append_all(list, faults, breaches, false)
+    let _ = keep_first(&mut faults, &mut breaches, false);
+    keep_lasting_faults(&mut faults);
+    keep_lasting_breaches(&mut breaches);
+    append_told(list, faults, breaches, false)
 }

@@ -4,6 +4,7 @@ use crate::answers::{UNREAD_LINE, accepted_line, refused_line};
 use crate::asked::{Request, request_of};
 use crate::files::{Stop, put, unread};
 use crate::tally::Tally;
+use crate::telling::tell_cut;
 use report_forms::Entry;
 use std::alloc::{AllocError, Global};
 use std::io;
@@ -44,6 +45,7 @@ pub fn answer_refused(
     tally: &mut Tally,
 ) -> Result<(), Stop> {
     tally.add_refused(entries.len());
+    tell_cut(rt, entries.len());
     let (told, left_out) = entries.split_at(entries.len().min(most));
     let faults = objects(rt.alloc(), told)?;
     let line = refused_line(rt.alloc(), id, &faults, left_out.len())?;

@@ -6,6 +6,9 @@ use crate::settings::{Format, Settings};
 use report_forms::{Entry, Lines, Source};
 use std::alloc::{AllocError, Global};
 
+/// How many faults of the rules a check tells at most.
+const MOST_TOLD: usize = 1_000;
+
 /// What is asked for, and the texts of the schema.
 #[derive(Clone, Copy)]
 pub struct Telling<'a> {
@@ -17,6 +20,7 @@ impl Telling<'_> {
     /// Prints the faults, as far as they are asked for. Lines of JSON are for programs, which fold what they like: there each fault
     /// has its line.
     pub fn tell(&self, rt: &HostRuntime, entries: &[Entry]) -> Result<(), Stop> {
+        tell_cut(rt, entries.len());
         let most = self.settings.max_faults;
         if matches!(self.settings.format, Format::Json) {
             for entry in &entries[..entries.len().min(most)] {
@@ -44,6 +48,15 @@ impl Telling<'_> {
             print_more(rt, one.more)?;
         }
         Ok(())
+    }
+}
+
+/// Says on standard error that there may be more faults, where there are as many as a check tells of the rules.
+pub(crate) fn tell_cut(rt: &HostRuntime, told: usize) {
+    if told >= MOST_TOLD {
+        let _ = eprintln!(rt;
+            "note: a check tells at most 1,000 faults of the rules: there may be more"
+        );
     }
 }
 

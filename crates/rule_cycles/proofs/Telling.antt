@@ -1,9 +1,10 @@
 -- What is told of the roots of a graph, one after the other.
-use Rattle.std.proofs.Common.{◌≡◌, ℕ, ◌+◌, List, [], ◌++◌, sym, ap, subst, ◌∙◌, inl, inr, arith, append_assoc}
+use Rattle.std.proofs.Common.{◌≡◌, ℕ, ◌+◌, List, [], ◌++◌, refl, ap, subst, ◌∙◌, inl, inr, arith}
 use Rattle.std.specs.Prelude.{Contains}
 use Rattle.std.proofs.lemmas.Bool.{cases_lt}
-use Rattle.std.proofs.lemmas.List.{append-nil}
 use Rattle.std.proofs.lemmas.List.Elements.{Contains-append_cases, Contains-append_left, Contains-append_right}
+use Rattle.fault_data.specs.Room.{◌⊕◌}
+use Rattle.fault_data.proofs.Room.{room_both}
 use Rattle.rule_cycle_search.specs.declared.graph.Graph.{Graph}
 use Rattle.rule_cycle_search.specs.Graph.{IsWayBack}
 use Rattle.rule_cycle_search.specs.declared.found.Found.{Found}
@@ -16,7 +17,7 @@ module _ {F : Type 0} (Recursive : ℕ → List ℕ → List F → Type 0) (IsTo
   pub TellsRoots-none : (old : List F) → TellsRoots Recursive IsTooLong g 0 old old
   TellsRoots-none old = record {
     added = [];
-    is = sym (append-nil old);
+    is = refl;
     right = λ f c. not_in_nil f c;
     full = λ root h path way. absurd (omega arith);
   }
@@ -35,10 +36,10 @@ module _ {F : Type 0} (Recursive : ℕ → List ℕ → List F → Type 0) (IsTo
     }
 
     -- this is told of it
-    told : (l : List F) → IsOfRoot Recursive IsTooLong g number l → new ≡ middle ++ l → TellsRoots Recursive IsTooLong g (number + 1) old new
+    told : (l : List F) → IsOfRoot Recursive IsTooLong g number l → new ≡ middle ⊕ l → TellsRoots Recursive IsTooLong g (number + 1) old new
     told l of is = record {
       added = before.added ++ l;
-      is = is ∙ ap (λ k. k ++ l) before.is ∙ append_assoc old before.added l;
+      is = is ∙ ap (λ k. k ⊕ l) before.is ∙ room_both old before.added l;
       right = λ f c. elim (Contains-append_cases before.added l f c) [ inl m ↦ before.right f m | inr m ↦ (number, (l, (of, m))) ];
       full = λ root h path way. elim (cases_lt root number) [
         | inl low ↦
@@ -55,7 +56,7 @@ module _ {F : Type 0} (Recursive : ℕ → List ℕ → List F → Type 0) (IsTo
     TellsRoots-more (inr t) = told t.0 t.1.0 t.1.1
 
   -- what is told of a root is what was found of it
-  pub TellsRoot-found : (root : ℕ) (found : Found) (l old new : List F) → Finds g root found → TellsFound Recursive IsTooLong root found l → new ≡ old ++ l → TellsRoot Recursive IsTooLong g root old new
-  TellsRoot-found root Nothing l old new a t e = inl (e ∙ ap (λ k. old ++ k) t ∙ append-nil old, a)
+  pub TellsRoot-found : (root : ℕ) (found : Found) (l old new : List F) → Finds g root found → TellsFound Recursive IsTooLong root found l → new ≡ old ⊕ l → TellsRoot Recursive IsTooLong g root old new
+  TellsRoot-found root Nothing l old new a t e = inl (e ∙ ap (λ k. old ⊕ k) t, a)
   TellsRoot-found root (WayBack path) l old new a t e = inr (l, (inl (path.items, (a, t)), e))
   TellsRoot-found root Deep l old new a t e = inr (l, (inr (a, t), e))

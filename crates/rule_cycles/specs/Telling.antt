@@ -1,5 +1,6 @@
 -- Private: leads to `CyclesBreak` and `RecursiveFragmentDefinitionAt`. What is told of the roots of a graph, one after the other.
-use Rattle.std.specs.Prelude.{◌≡◌, ℕ, ◌<◌, List, [], ◌++◌, Contains, ◌⊎◌}
+use Rattle.std.specs.Prelude.{◌≡◌, ℕ, ◌<◌, List, [], Contains, ◌⊎◌}
+use Rattle.fault_data.specs.Room.{◌⊕◌}
 use Rattle.rule_cycle_search.specs.declared.graph.Graph.{Graph}
 use Rattle.rule_cycle_search.specs.declared.found.Found.{Found}
 use Rattle.rule_cycle_search.specs.declared.found.Found.TheVariants.{Nothing, WayBack, Deep}
@@ -19,11 +20,11 @@ module _ {F : Type 0} (Recursive : ℕ → List ℕ → List F → Type 0) (IsTo
 
     -- nothing is told of a root to which no way leads back, else what is told of it is at the end
     abbrev pub TellsRoot : ℕ → List F → List F → Type 0
-    TellsRoot root old new = ((new ≡ old) × ((path : List ℕ) → IsWayBack g root path → ⊥)) ⊎ ((l : List F) × (IsOfRoot root l × (new ≡ old ++ l)))
+    TellsRoot root old new = ((new ≡ old) × ((path : List ℕ) → IsWayBack g root path → ⊥)) ⊎ ((l : List F) × (IsOfRoot root l × (new ≡ old ⊕ l)))
 
     -- the same of all roots below a number
     pub record TellsRoots (number : ℕ) (old new : List F) : Type 0 where
       pub added : List F
-      pub is : new ≡ old ++ added
+      pub is : new ≡ old ⊕ added
       pub right : (f : F) → Contains added f → (root : ℕ) × ((l : List F) × (IsOfRoot root l × Contains l f))
       pub full : (root : ℕ) → root < number → (path : List ℕ) → IsWayBack g root path → (l : List F) × (IsOfRoot root l × ((f : F) → Contains l f → Contains added f))

@@ -1,9 +1,10 @@
 -- What the check of cycles tells (GraphQL, October 2021, sections 3.10 and 3.13).
-use Rattle.std.specs.Prelude.{◌≡◌, ℕ, List, ◌∷◌, ◌++◌, codes, Contains, Option, ◌⊎◌}
+use Rattle.std.specs.Prelude.{◌≡◌, ℕ, List, ◌∷◌, codes, Contains, Option, ◌⊎◌}
 use Rattle.graphql_names.specs.Placed.{Placed, Place}
 use Rattle.tree_directives.specs.DirectiveTree.{DirectiveTree, InputValueTree}
 use Rattle.schema_types.specs.SchemaTree.{SchemaTree}
 use Rattle.rule_cycle_search.specs.Paths.{Leads}
+use Rattle.fault_data.specs.Room.{◌⊕◌}
 use Rattle.fault_data.specs.in_rule_definitions.Diagnostics.{RecursiveInputObjectDefinition, RecursiveDirectiveDefinition, DeeplyNestedType}
 use Rattle.fault_data.specs.in_rule_definitions.Faults.{SchemaFault}
 use Rattle.fault_data.specs.in_rule_definitions.Judged.{Judged, judged}
@@ -35,7 +36,7 @@ AnswersDirective n f = ((trace : List (Placed Place (DirectiveTree (Unit {0}))))
 -- what is added tells what fails, and each of these names that is a cycle is answered
 pub record TellsCycles (s : SchemaTree Place) (IsCycle : List ℕ → Type 0) (Says : List ℕ → PlacedFault → Type 0) (old new : List PlacedFault) : Type 0 where
   pub added : List PlacedFault
-  pub is : new ≡ old ++ added
+  pub is : new ≡ old ⊕ added
   pub right : (f : PlacedFault) → Contains added f → Told s CyclesFail f
   pub full : (n : List ℕ) → IsCycle n → (f : PlacedFault) × (Contains added f × Says n f)
 
@@ -48,7 +49,7 @@ DirectivesTold s = TellsCycles s (IsDirectiveCycle (judged s)) AnswersDirective
 -- what is added tells what fails, and each input object and each directive that leads back to itself is answered
 pub record CyclesTold (s : SchemaTree Place) (old new : List PlacedFault) : Type 0 where
   pub added : List PlacedFault
-  pub is : new ≡ old ++ added
+  pub is : new ≡ old ⊕ added
   pub right : (f : PlacedFault) → Contains added f → Told s CyclesFail f
   pub inputs : (n : List ℕ) → IsInputCycle (judged s) n → (f : PlacedFault) × (Contains added f × AnswersInput n f)
   pub directives : (n : List ℕ) → IsDirectiveCycle (judged s) n → (f : PlacedFault) × (Contains added f × AnswersDirective n f)

@@ -6,5 +6,7 @@ pub use Rattle.rule_cycle_search.proofs.Lists
 pub mod Lookups
 pub mod Tells
 pub mod Listing
+pub mod Room
+pub mod Adding
 pub mod Firsts
 pub use Rattle.schema_types.proofs as in_schema_types

@@ -20,6 +20,7 @@ pub mod Accepts
 pub mod Uses
 pub mod Rules
 pub mod Told
+pub mod Room
 pub use Rattle.schema_types.specs.Distinct
 pub mod Kept
 pub mod Laws

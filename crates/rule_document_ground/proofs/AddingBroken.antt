@@ -5,7 +5,9 @@ use Rattle.std.specs.declared.alloc.Global.{Global}
 use Rattle.graphql_names.specs.Placed.{Place}
 use Rattle.fault_document_data.specs.declared.build_error.BuildError.{BuildError}
 use Rattle.rule_definitions.specs.Words.{AtSomeIndex}
-use Rattle.rule_definitions.proofs.Listing.{gains_both, gains_same, gains_nothing, gains_none, gains_more, lists_one}
+use Rattle.rule_definitions.specs.Room.{◌⊕◌}
+use Rattle.rule_definitions.proofs.Listing.{lists_one}
+use Rattle.rule_definitions.proofs.Adding.{gains_both, gains_same, gains_nothing, gains_none, gains_more}
 use Rattle.rule_document_definitions.specs.DocumentFaults.{Broken}
 use Rattle.rule_document_ground.specs.Broken.{brokens_of, AddsBroken}
 
@@ -13,7 +15,7 @@ abbrev pub Breaches : Type 0
 Breaches = Vec (Place × BuildError) Global
 
 -- what is told as a list that has what breaks a rule, and nothing else
-pub broken_listed : (old new : Breaches) (l : List (Broken Place)) (R : Broken Place → Type 0) → brokens_of new ≡ brokens_of old ++ l → ((f : Broken Place) → Contains l f ↔ R f) → AddsBroken old new R
+pub broken_listed : (old new : Breaches) (l : List (Broken Place)) (R : Broken Place → Type 0) → brokens_of new ≡ brokens_of old ⊕ l → ((f : Broken Place) → Contains l f ↔ R f) → AddsBroken old new R
 broken_listed old new l R e h = (l, (e, h))
 
 -- nothing, where no rule breaks
@@ -21,7 +23,7 @@ pub broken_nothing : (old : Breaches) (R : Broken Place → Type 0) → ((f : Br
 broken_nothing old R never = gains_nothing (brokens_of old) R never
 
 -- one
-pub broken_one : (old new : Breaches) (x : Broken Place) → brokens_of new ≡ brokens_of old ++ x ∷ [] → AddsBroken old new (λ f. f ≡ x)
+pub broken_one : (old new : Breaches) (x : Broken Place) → brokens_of new ≡ brokens_of old ⊕ (x ∷ []) → AddsBroken old new (λ f. f ≡ x)
 broken_one old new x e = (x ∷ [], (e, lists_one x))
 
 -- one check behind another

@@ -8,4 +8,3 @@ pub mod ContentEquality
 pub mod NotedNames
 -- Lists of what rules tell, for the layers above.
 pub use Rattle.rule_definitions.proofs.Listing
-pub use Rattle.graphql_schema.proofs as in_schema

@@ -1,7 +1,8 @@
 -- Private: leads to `TellsDocument`. What a check adds to a list of breaches of documents, as `Adds` of the faults with data says it of theirs.
-use Rattle.std.specs.Prelude.{◌≡◌, ◌↔◌, ◌++◌, List, map, Vec, Contains}
+use Rattle.std.specs.Prelude.{◌≡◌, ◌↔◌, List, map, Vec, Contains}
 use Rattle.std.specs.declared.alloc.Global.{Global}
 use Rattle.graphql_names.specs.Placed.{Place}
+use Rattle.rule_definitions.specs.Room.{◌⊕◌}
 use Rattle.fault_document_data.specs.DocumentBreachView.{document_breach_of}
 use Rattle.fault_document_data.specs.declared.build_error.BuildError.{BuildError}
 use Rattle.rule_document_definitions.specs.DocumentFaults.{Broken, broken}
@@ -13,6 +14,6 @@ broken_of e = broken e.0 (document_breach_of e.1)
 abbrev pub brokens_of : Vec (Place × BuildError) Global → List (Broken Place)
 brokens_of breaches = map broken_of breaches.items
 
--- the breaches that were there, as they stood, and behind them those by which the rules break; no others
+-- the breaches that were there, as they stood, and behind them, as far as there is room, those by which the rules break; no others
 abbrev pub AddsBroken : Vec (Place × BuildError) Global → Vec (Place × BuildError) Global → (Broken Place → Type 0) → Type 0
-AddsBroken old new Breaks = (added : List (Broken Place)) × ((brokens_of new ≡ brokens_of old ++ added) × ((f : Broken Place) → Contains added f ↔ Breaks f))
+AddsBroken old new Breaks = (added : List (Broken Place)) × ((brokens_of new ≡ brokens_of old ⊕ added) × ((f : Broken Place) → Contains added f ↔ Breaks f))

@@ -23,11 +23,8 @@ mod lists;
 mod noted_names;
 mod reaching;
 
-pub use breaches::tell_breach;
+pub use breaches::{push_breach, tell_breach};
 pub use field_selection::FieldSelection;
 pub use lists::Reach;
 pub use noted_names::{has_name, note_name};
 pub use reaching::reach;
-
-// Of the crates beneath, for those above.
-pub use graphql_schema::Schema;

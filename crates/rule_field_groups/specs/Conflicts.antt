@@ -2,7 +2,7 @@
 use Rattle.std.specs.Prelude.{Vec}
 use Rattle.std.specs.declared.alloc.Global.{Global}
 use Rattle.graphql_names.specs.Placed.{Place}
-use Rattle.rule_field_sets.specs.in_ground.in_schema.SchemaOf.{schema_tree}
+use Rattle.rule_field_sets.specs.in_schema.SchemaOf.{schema_tree}
 use Rattle.fault_document_data.specs.declared.build_error.BuildError.{BuildError}
 use Rattle.rule_same_values.specs.in_definitions.Judged.{Judged, judged}
 use Rattle.rule_same_values.specs.in_document_definitions.Merging.{SameShape, SameName}

@@ -2,7 +2,7 @@
 ghost use Rattle.std.specs.Prelude.{◌≡◌, ◌↔◌, ◌≤◌, ◌+◌, ◌++◌, ◌∷◌, min, map, take, drop, IfOk, IsTrue, OnOk};
 ghost use Rattle.schema_coordinates.specs.CoordinateView.{attribute_coordinate, argument_coordinate};
 ghost use Rattle.fault_document_data.specs.DocumentBreachView.{value_in_conflict};
-ghost use Rattle.rule_field_sets.specs.in_ground.in_schema.SchemaOf.{schema_tree};
+ghost use Rattle.rule_field_sets.specs.in_schema.SchemaOf.{schema_tree};
 ghost use Rattle.rule_same_values.specs.in_definitions.Judged.{judged};
 ghost use Rattle.rule_same_values.specs.in_document_definitions.Merging.{SameName};
 ghost use Rattle.rule_same_values.specs.in_document_definitions.SameValues.{plain_given};
@@ -20,7 +20,7 @@ use fault_document_data::{
     BuildError, ConflictingFieldArgument, ConflictingFieldName, ConflictingFieldType,
 };
 use graphql_names::{Name, SourceSpan};
-use rule_field_sets::{Member, Schema, tell_breach};
+use rule_field_sets::{Member, Schema, push_breach};
 use rule_same_values::differing_argument;
 use schema_coordinates::{FieldArgumentCoordinate, TypeAttributeCoordinate};
 use std::alloc::{AllocError, Global};
@@ -93,7 +93,7 @@ fn conflicting_field_type(
         return Ok(());
     }
     let conflict = told_types(*breaches.allocator(), first, other)?;
-    tell_breach(breaches, Some(conflict))
+    push_breach(breaches, Some(conflict))
 }
 
 /// Whether two fields have one name.
@@ -133,7 +133,7 @@ fn conflicting_field_name(
         return Ok(());
     }
     let conflict = told_names(*breaches.allocator(), first, other)?;
-    tell_breach(breaches, Some(conflict))
+    push_breach(breaches, Some(conflict))
 }
 
 /// The coordinate of the field's argument of that name.
@@ -234,7 +234,7 @@ fn conflicting_field_argument(
         None => Ok(()),
         Some(name) => {
             let conflict = told_arguments(alloc, first, other, &name)?;
-            tell_breach(breaches, Some(conflict))
+            push_breach(breaches, Some(conflict))
         }
     }
 }

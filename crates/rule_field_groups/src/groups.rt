@@ -5,7 +5,7 @@ ghost use Rattle.std.specs.Str.{bytes_eq};
 ghost use Rattle.indexmap.specs.IndexMap.{get, IsUnique};
 ghost use Rattle.rule_same_values.specs.in_definitions.in_components.Names.{same_text};
 ghost use Rattle.schema_types.specs.TypeView.{name_text};
-ghost use Rattle.rule_field_sets.specs.in_ground.in_schema.SchemaOf.{schema_tree};
+ghost use Rattle.rule_field_sets.specs.in_schema.SchemaOf.{schema_tree};
 ghost use Rattle.rule_same_values.specs.in_definitions.Judged.{judged};
 ghost use Rattle.rule_same_values.specs.in_document_definitions.Groups.{AreGroups};
 ghost use Rattle.rule_field_groups.specs.Members.{fields_of};

@@ -1,7 +1,7 @@
 //! Shapes of types ("SameResponseShape").
 ghost use Rattle.std.specs.Prelude.{◌≡◌};
 ghost use Rattle.tree_literals.specs.TypeTree.{type_tree, unplaced_type};
-ghost use Rattle.rule_field_sets.specs.in_ground.in_schema.SchemaOf.{schema_tree};
+ghost use Rattle.rule_field_sets.specs.in_schema.SchemaOf.{schema_tree};
 ghost use Rattle.rule_same_values.specs.in_definitions.Judged.{judged};
 ghost use Rattle.rule_field_groups.specs.Shapes.{same_marks, same_inner, same_type};
 

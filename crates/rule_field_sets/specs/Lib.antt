@@ -8,3 +8,4 @@ pub mod Nodes
 pub mod Read
 pub mod Added
 pub use Rattle.rule_document_ground.specs as in_ground
+pub use Rattle.graphql_schema.specs as in_schema

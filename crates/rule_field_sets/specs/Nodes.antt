@@ -12,7 +12,7 @@ use Rattle.rule_cycle_search.specs.Paths.{HasNoRepeat}
 use Rattle.rule_definitions.specs.Judged.{Judged, judged}
 use Rattle.rule_document_definitions.specs.Selected.{HasNone, StandingField}
 use Rattle.rule_document_definitions.specs.ReadFields.{field_read}
-use Rattle.rule_document_ground.specs.in_schema.SchemaOf.{schema_tree}
+use Rattle.graphql_schema.specs.SchemaOf.{schema_tree}
 use Rattle.rule_document_ground.specs.Fields.{field_of}
 use Rattle.rule_document_ground.specs.Lent.{fields_lent}
 use Rattle.rule_document_ground.specs.declared.field_selection.FieldSelection.{FieldSelection}

@@ -13,7 +13,7 @@ use crate::member::{Member, SetNode};
 use crate::numbers::Numbers;
 use document_typed_operations::FragmentMap;
 use document_typed_selections::SelectionSet;
-use rule_document_ground::Schema;
+use graphql_schema::Schema;
 use std::alloc::{AllocError, Global};
 
 /// The fields of a node that is being added.

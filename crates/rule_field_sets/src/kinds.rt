@@ -1,11 +1,11 @@
 //! Which types are abstract.
 ghost use Rattle.std.specs.Prelude.{◌≡◌};
-ghost use Rattle.rule_document_ground.specs.in_schema.SchemaOf.{schema_tree};
+ghost use Rattle.graphql_schema.specs.SchemaOf.{schema_tree};
 ghost use Rattle.rule_definitions.specs.Judged.{judged};
 ghost use Rattle.rule_field_sets.specs.Kinds.{is_abstract, is_abstract_kind};
 
 use graphql_names::Name;
-use rule_document_ground::Schema;
+use graphql_schema::Schema;
 use schema_types::TypeKind;
 
 /// Whether the type of that name is an interface or a union.

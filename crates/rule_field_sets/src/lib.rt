@@ -23,4 +23,5 @@ pub use field_sets::FieldSets;
 pub use member::{Member, SetNode};
 
 // Of the crates below, for those above.
-pub use rule_document_ground::{FieldSelection, Schema, tell_breach};
+pub use graphql_schema::Schema;
+pub use rule_document_ground::{FieldSelection, push_breach};

@@ -1,6 +1,6 @@
 //! Numbers of fields and of sets, by what merging reads of them.
 ghost use Rattle.std.specs.Prelude.{◌≡◌, [], ◌∷◌, Some, slice_get, length, IfOk, OnErr};
-ghost use Rattle.rule_document_ground.specs.in_schema.SchemaOf.{schema_tree};
+ghost use Rattle.graphql_schema.specs.SchemaOf.{schema_tree};
 ghost use Rattle.rule_definitions.specs.Judged.{judged, Judged};
 ghost use Rattle.rule_document_definitions.specs.ReadFields.{head_of, set_of, list_read};
 ghost use Rattle.rule_field_sets.specs.Tables.{Extends, EntriesExtend, Enters, AreJudged, PartsGrow, IsSetNumber, ReadsAs, MeansSet, AreRight, TablesGrow};
@@ -10,8 +10,9 @@ use crate::kinds::is_abstract;
 use crate::member::Member;
 use document_typed_selections::{Field, SelectionSet};
 use graphql_names::{Name, Node};
+use graphql_schema::Schema;
 use indexmap::{IndexMap, IndexSet};
-use rule_document_ground::{FieldSelection, Schema};
+use rule_document_ground::FieldSelection;
 use std::alloc::{AllocError, Global};
 use tree_directives::Argument;
 use tree_literals::{NamedType, Type};

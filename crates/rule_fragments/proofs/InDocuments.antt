@@ -1,9 +1,11 @@
 -- What breaks the rules on subscriptions, operation by operation, and with it what breaks those on `@defer`.
-use Rattle.std.proofs.Common.{◌≡◌, ◌↔◌, ◌⊎◌, inl, inr, ◌++◌, List, [], ◌∷◌, refl, ap, sym, ◌∙◌, subst, Contains, append_assoc, append-nil}
+use Rattle.std.proofs.Common.{◌≡◌, ◌↔◌, ◌⊎◌, inl, inr, ◌++◌, List, [], ◌∷◌, refl, ap, sym, ◌∙◌, subst, Contains}
 use Rattle.std.proofs.lemmas.List.Elements.{Contains-append_left, Contains-append_right, Contains-append_cases}
 use Rattle.graphql_names.specs.Placed.{Place}
 use Rattle.document_meaning.specs.MeantTree.{MeantOperation, MeantDocument}
 use Rattle.rule_definitions.proofs.Lists.{not_in_nil, only, Contains-first}
+use Rattle.rule_definitions.specs.Room.{◌⊕◌}
+use Rattle.rule_definitions.proofs.Room.{room_both, room_first}
 use Rattle.rule_document_definitions.specs.DocumentFaults.{Broken}
 use Rattle.rule_document_definitions.specs.DocumentRules.{DeferredBreaks}
 use Rattle.rule_document_definitions.specs.Reached.{AtOperation}
@@ -12,12 +14,12 @@ use Rattle.rule_document_definitions.specs.Subscriptions.{SubscriptionBreaks}
 use Rattle.rule_always.specs.in_ground.Broken.{brokens_of}
 use Rattle.rule_always.proofs.in_ground.AddingBroken.{Breaches}
 use Rattle.rule_fragments.specs.SubscriptionTold.{AreAlike, TellsSubscription, AddsSubscription}
-use Rattle.rule_fragments.specs.Documents.{TellsSubscriptions, AddsSubscriptions, TellsBreaches}
+use Rattle.rule_fragments.specs.Documents.{TellsSubscriptions, AddsSubscriptions, AreFirst, TellsDeferred, TellsBreaches}
 
 module _ (d : MeantDocument Place) where
   -- of no operation
   pub subscriptions_none : (old : Breaches) → AddsSubscriptions old old d []
-  subscriptions_none old = ([], (sym (append-nil (brokens_of old)), record { right = λ f c. absurd (not_in_nil f c); full = λ o c f breaks. absurd (not_in_nil o c) }))
+  subscriptions_none old = ([], (refl, record { right = λ f c. absurd (not_in_nil f c); full = λ o c f breaks. absurd (not_in_nil o c) }))
 
   -- of one operation behind others
   told_behind : (os : List (MeantOperation Place)) (o : MeantOperation Place) (l m : List (Broken Place)) → TellsSubscriptions d os l → TellsSubscription d o m → TellsSubscriptions d (os ++ o ∷ []) (l ++ m)
@@ -40,12 +42,11 @@ module _ (d : MeantDocument Place) where
   pub subscriptions_more : (old mid new : Breaches) (os all : List (MeantOperation Place)) (o : MeantOperation Place) → all ≡ os ++ o ∷ []
       → AddsSubscriptions old mid d os → AddsSubscription mid new d o → AddsSubscriptions old new d all
   subscriptions_more old mid new os all o is (l, (e, before)) (m, (e', this)) =
-      (l ++ m, (e' ∙ ap (λ k. k ++ m) e ∙ append_assoc (brokens_of old) l m, subst (λ k. TellsSubscriptions d k (l ++ m)) (sym is) (told_behind os o l m before this)))
+      (l ++ m, (e' ∙ ap (λ k. k ⊕ m) e ∙ room_both (brokens_of old) l m, subst (λ k. TellsSubscriptions d k (l ++ m)) (sym is) (told_behind os o l m before this)))
 
   -- with what breaks the rules on `@defer` before them
-  pub tells_breaches : (deferred new : List (Broken Place)) → ((f : Broken Place) → Contains deferred f ↔ DeferredBreaks d f)
-      → (added : List (Broken Place)) × ((new ≡ deferred ++ added) × TellsSubscriptions d (operations d) added) → TellsBreaches d new
-  tells_breaches deferred new lists (added, (is, told)) = subst (λ l. TellsBreaches d l) (sym is) (record { right = right; subscriptions = subscriptions; deferred = behind })
+  tells_both : (deferred added : List (Broken Place)) → TellsDeferred d deferred → TellsSubscriptions d (operations d) added → TellsBreaches d (deferred ++ added)
+  tells_both deferred added lists told = record { right = right; subscriptions = subscriptions; deferred = behind }
     where
       right : (f : Broken Place) → Contains (deferred ++ added) f → AtOperation d (λ o. SubscriptionBreaks d o f) ⊎ DeferredBreaks d f
       right f c = elim (Contains-append_cases deferred added f c) [ inl h ↦ inr ((lists f).0 h) | inr h ↦ inl (told.right f h) ]
@@ -55,3 +56,8 @@ module _ (d : MeantDocument Place) where
 
       behind : (f : Broken Place) → DeferredBreaks d f → Contains (deferred ++ added) f
       behind f breaks = Contains-append_left deferred added f ((lists f).1 breaks)
+
+  -- the first of them
+  pub tells_breaches : (mid new : List (Broken Place)) → AreFirst (TellsDeferred d) mid → (added : List (Broken Place)) × ((new ≡ mid ⊕ added) × TellsSubscriptions d (operations d) added) → AreFirst (TellsBreaches d) new
+  tells_breaches mid new (deferred, (first, lists)) (added, (is, told)) =
+      (deferred ++ added, (is ∙ ap (λ l. l ⊕ added) (first ∙ sym (room_first deferred)) ∙ room_both [] deferred added ∙ room_first (deferred ++ added), tells_both deferred added lists told))

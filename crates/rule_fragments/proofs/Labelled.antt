@@ -1,5 +1,5 @@
 -- Labels of `@defer`: those of a document in order, and what is told of one after another.
-use Rattle.std.proofs.Common.{◌≡◌, ◌↔◌, ◌<◌, ◌+◌, ℕ, suc, Bool, true, false, List, [], ◌∷◌, ◌++◌, take, length, get_or, find, codes, bytes_eq, Option, None, Some, refl, sym, ap, subst, ◌∙◌, inl, inr, append_assoc, append-nil, if◌then◌else◌, cond, Contains}
+use Rattle.std.proofs.Common.{◌≡◌, ◌↔◌, ◌<◌, ◌+◌, ℕ, suc, Bool, true, false, List, [], ◌∷◌, ◌++◌, take, length, get_or, find, codes, bytes_eq, Option, None, Some, refl, sym, ap, subst, ◌∙◌, inl, inr, append-nil, if◌then◌else◌, cond, Contains}
 use Rattle.std.specs.Prelude.{String, option_to_list}
 use Rattle.std.specs.HashMap.{Updates}
 use Rattle.std.specs.String.{string_bytes, string_eq}
@@ -30,7 +30,10 @@ use Rattle.rule_document_definitions.specs.Selected.{Position, InOperation, InFr
 use Rattle.rule_document_definitions.specs.DeferUses.{defers, labels, string_labels}
 use Rattle.rule_document_definitions.specs.Defer.{LabelsBreak}
 use Rattle.rule_definitions.proofs.Firsts.{earlier_is_found}
-use Rattle.rule_definitions.proofs.Listing.{Lists, lists_same, lists_both, lists_one, lists_present, lists_index, lists_places, places_more, mapped_more}
+use Rattle.rule_definitions.proofs.Listing.{Lists, lists_same, lists_both, lists_one, lists_present, lists_index, lists_places, mapped_more}
+use Rattle.rule_definitions.specs.Room.{◌⊕◌}
+use Rattle.rule_definitions.proofs.Room.{room_both}
+use Rattle.rule_definitions.proofs.Adding.{places_more}
 use Rattle.rule_always.specs.Inside.{contents_along, contents_below}
 use Rattle.rule_fragments.specs.Labels.{values_meant, label_of, labels_of, labels_in, text_label, string_label, variable_label, label_again, first_place, duplicate_label, label_breaks, AreFirstPlaces, NotesFirst, NotesLabel, told_again}
 use Rattle.rule_always.specs.Stays.{is_directive, all_stay}
@@ -244,17 +247,17 @@ module _ {P : Type 0} where
     again_at places place o = option_map_or (λ t. label_again place t (get_by_text places t)) o []
 
     -- that is no string
-    pub none_again : (places : IndexMap (String Y) P S) (v : Placed P (ValueTree P)) (old : List (Broken P)) → None ≡ string_text v.it → old ≡ old ++ told_again places v
-    none_again places v old e = sym (append-nil old) ∙ ap (λ o. old ++ again_at places v.place o) e
+    pub none_again : (places : IndexMap (String Y) P S) (v : Placed P (ValueTree P)) (old : List (Broken P)) → None ≡ string_text v.it → old ≡ old ⊕ told_again places v
+    none_again places v old e = ap (λ o. old ⊕ again_at places v.place o) e
 
     pub none_noted : (places : IndexMap (String Y) P S) (v : Placed P (ValueTree P)) → None ≡ string_text v.it → NotesLabel places places v
     none_noted places v e ts are = subst (AreFirstPlaces places) (sym (append-nil ts) ∙ ap (λ o. ts ++ strings v.place o) e) are
 
     -- that is one
     pub some_again : (places : IndexMap (String Y) P S) (v : Placed P (ValueTree P)) (text : List ℕ) (place : P) (first : Option P) (old new told : List (Broken P)) → Some text ≡ string_text v.it → place ≡ v.place
-        → first ≡ get_by_text places text → told ≡ label_again place text first → new ≡ old ++ told → new ≡ old ++ told_again places v
+        → first ≡ get_by_text places text → told ≡ label_again place text first → new ≡ old ⊕ told → new ≡ old ⊕ told_again places v
     some_again places v text place first old new told e at is tells step =
-        step ∙ ap (λ l. old ++ l) (tells ∙ (λ i. label_again (at i) text (is i)) ∙ ap (again_at places v.place) e)
+        step ∙ ap (λ l. old ⊕ l) (tells ∙ (λ i. label_again (at i) text (is i)) ∙ ap (again_at places v.place) e)
 
     pub some_noted : (old new : IndexMap (String Y) P S) (v : Placed P (ValueTree P)) (text : List ℕ) (place : P) → Some text ≡ string_text v.it → place ≡ v.place → NotesFirst old new text place → NotesLabel old new v
     some_noted old new v text place e at notes ts are =
@@ -265,13 +268,13 @@ module _ {P : Type 0} where
 -- ---- along the labels
 
 module _ {S Y : Type 0} (xs : List (Node Value)) (i : ℕ) (x : Node Value) (h : i < length xs) (e : x ≡ get_or xs i x) where
-  pub told_next : (places : IndexMap (String Y) Place S) (old now mid new : List (Broken Place)) → now ≡ old ++ each_place label_breaks (values_meant (take i xs)) → AreFirstPlaces places (flat_map string_label (values_meant (take i xs)))
-      → mid ≡ now ++ variable_label (node_tree value_tree x) → new ≡ mid ++ told_again places (node_tree value_tree x) → new ≡ old ++ each_place label_breaks (values_meant (take (i + 1) xs))
+  pub told_next : (places : IndexMap (String Y) Place S) (old now mid new : List (Broken Place)) → now ≡ old ⊕ each_place label_breaks (values_meant (take i xs)) → AreFirstPlaces places (flat_map string_label (values_meant (take i xs)))
+      → mid ≡ now ⊕ variable_label (node_tree value_tree x) → new ≡ mid ⊕ told_again places (node_tree value_tree x) → new ≡ old ⊕ each_place label_breaks (values_meant (take (i + 1) xs))
   told_next places old now mid new so_far are one two =
       let v = node_tree value_tree x in
       let before = values_meant (take i xs) in
       places_more (node_tree value_tree) label_breaks old now new (variable_label v ++ told_again places v) xs i x h e so_far
-      (two ∙ ap (λ l. l ++ told_again places v) one ∙ append_assoc now (variable_label v) (told_again places v))
+      (two ∙ ap (λ l. l ⊕ told_again places v) one ∙ room_both now (variable_label v) (told_again places v))
       (ap (λ l. variable_label v ++ l) (λ k. option_map_or (λ t. label_again v.place t (are t k)) (string_text v.it) []))
 
   pub noted_next : (old new : IndexMap (String Y) Place S) → AreFirstPlaces old (flat_map string_label (values_meant (take i xs))) → NotesLabel old new (node_tree value_tree x) → AreFirstPlaces new (flat_map string_label (values_meant (take (i + 1) xs)))

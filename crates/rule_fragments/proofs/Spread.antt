@@ -1,5 +1,5 @@
 -- What is told of fragments where they stand is what breaks InvalidFragmentSpread.
-use Rattle.std.proofs.Common.{◌≡◌, ◌⊎◌, inl, inr, ◌∙◌, ℕ, Bool, true, List, [], ◌∷◌, ◌++◌, refl, ap, sym, subst, Option, None, Some, is_some, true≢false, Contains, bytes_eq, if◌then◌else◌}
+use Rattle.std.proofs.Common.{◌≡◌, ◌⊎◌, inl, inr, ◌∙◌, ℕ, Bool, true, List, [], ◌∷◌, refl, ap, sym, subst, Option, None, Some, is_some, true≢false, Contains, bytes_eq, if◌then◌else◌}
 use Rattle.std.specs.List.{flat_map}
 use Rattle.std.specs.Option.{option_map, option_map_or}
 use Rattle.std.proofs.lemmas.List.Elements.{All-contains}
@@ -21,7 +21,9 @@ use Rattle.rule_document_definitions.specs.PossibleTypes.{MayApply}
 use Rattle.rule_document_definitions.specs.Fragments.{InvalidFragmentTargetAt, InvalidFragmentSpreadAt}
 use Rattle.rule_document_definitions.specs.Told.{places_in, place_or_built_in}
 use Rattle.rule_definitions.proofs.Listing.{present_known}
-use Rattle.rule_definitions.proofs.Listing.{Lists, lists_same, lists_nothing, lists_unless, lists_index, Gains, gains_list, gains_both, gains_nothing}
+use Rattle.rule_definitions.proofs.Listing.{Lists, lists_same, lists_nothing, lists_unless, lists_index}
+use Rattle.rule_definitions.specs.Room.{◌⊕◌}
+use Rattle.rule_definitions.proofs.Adding.{Gains, gains_list, gains_both, gains_nothing}
 use Rattle.rule_document_ground.specs.Reach.{Member, IsReach}
 use Rattle.rule_document_ground.proofs.AtReaches.{at_reached}
 use Rattle.rule_fragments.specs.Held.{may_apply}
@@ -117,7 +119,7 @@ module _ (d : MeantDocument Place) (o : MeantOperation Place) (reached : List (M
 
   -- with what is told of the types of fragments before
   pub gains_applications : (fragments : Entries (MeantFragment Place)) → d.fragments ≡ fragments → (a b c : List PlacedFault) → Gains a b (λ f. InvalidFragmentTargetAt (judged s) d o f)
-      → c ≡ b ++ flat_map (invalid_fragment_spread s p fragments) reached
+      → c ≡ b ⊕ flat_map (invalid_fragment_spread s p fragments) reached
       → Gains a c (λ f. InvalidFragmentTargetAt (judged s) d o f ⊎ InvalidFragmentSpreadAt (judged s) d o f (places_in s))
   gains_applications fragments same a b c before told =
       gains_both a b c before (gains_list b c (flat_map (invalid_fragment_spread s p fragments) reached) told (lists_spreads fragments same))

@@ -1,5 +1,5 @@
 -- What is told of the types of fragments is what breaks InvalidFragmentTarget.
-use Rattle.std.proofs.Common.{◌≡◌, ◌↔◌, ◌∙◌, ℕ, Bool, true, false, ◌&&◌, not, List, [], ◌∷◌, ◌++◌, refl, ap, sym, subst, Option, None, Some, is_some, true≢false, if◌then◌else◌}
+use Rattle.std.proofs.Common.{◌≡◌, ◌↔◌, ◌∙◌, ℕ, Bool, true, false, ◌&&◌, not, List, [], ◌∷◌, refl, ap, sym, subst, Option, None, Some, is_some, true≢false, if◌then◌else◌}
 use Rattle.std.specs.List.{flat_map}
 use Rattle.std.specs.Option.{option_map, option_map_or}
 use Rattle.graphql_names.specs.Node.{content, place}
@@ -22,7 +22,9 @@ use Rattle.rule_definitions.specs.Words.{Present}
 use Rattle.rule_document_definitions.specs.Selected.{selection_place, inline_condition, own}
 use Rattle.rule_document_definitions.specs.PossibleTypes.{IsNoCompositeType, IsNotComposite}
 use Rattle.rule_document_definitions.specs.Fragments.{InvalidFragmentTargetAt}
-use Rattle.rule_definitions.proofs.Listing.{Lists, lists_same, lists_present, lists_when, lists_index, Gains, gains_list, gains_both}
+use Rattle.rule_definitions.proofs.Listing.{Lists, lists_same, lists_present, lists_when, lists_index}
+use Rattle.rule_definitions.specs.Room.{◌⊕◌}
+use Rattle.rule_definitions.proofs.Adding.{Gains, gains_list, gains_both}
 use Rattle.rule_document_ground.specs.Reach.{Member, IsReach}
 use Rattle.rule_document_ground.proofs.AtReaches.{at_reached, at_reached_fragment}
 use Rattle.rule_fragments.specs.Listed.{is_no_composite, invalid_fragment_target, fragment_target, inline_target}
@@ -86,7 +88,7 @@ module _ (d : MeantDocument Place) (o : MeantOperation Place) (reached : List (M
   lists_inline : (x : MeantSelection Place) → Lists (inline_target s x) (Inline x)
   lists_inline x = lists_present (inline_condition x) (λ c. invalid_fragment_target s (selection_place x) None c) (λ c f. IsNotComposite (judged s) c × (f ≡ wrong (selection_place x) (InvalidFragmentTarget None c))) (λ c is. lists_target s (selection_place x) None c)
 
-  pub gains_targets : (a b c : List PlacedFault) → b ≡ a ++ flat_map (fragment_target s) spread → c ≡ b ++ flat_map (λ (e : Member Place). inline_target s e.1) reached → Gains a c (λ f. InvalidFragmentTargetAt (judged s) d o f)
+  pub gains_targets : (a b c : List PlacedFault) → b ≡ a ⊕ flat_map (fragment_target s) spread → c ≡ b ⊕ flat_map (λ (e : Member Place). inline_target s e.1) reached → Gains a c (λ f. InvalidFragmentTargetAt (judged s) d o f)
   gains_targets a b c first second =
       gains_both a b c
       (gains_list a b (flat_map (fragment_target s) spread) first

@@ -1,5 +1,5 @@
 -- Private: leads to `Fragments.antt` of the rules' definitions. What is told of selections and fragments as the program has them.
-use Rattle.std.specs.Prelude.{◌≡◌, ℕ, List, ◌++◌, map, flat_map, Vec, Option}
+use Rattle.std.specs.Prelude.{◌≡◌, ℕ, List, map, flat_map, Vec, Option}
 use Rattle.std.specs.Borrow.{Bor}
 use Rattle.std.specs.Option.{option_map}
 use Rattle.std.specs.declared.alloc.Global.{Global}
@@ -15,6 +15,7 @@ use Rattle.document_typed_selections.specs.declared.selection.Selection.{Selecti
 use Rattle.document_typed_operations.specs.declared.operation.Fragment.{Fragment}
 use Rattle.document_meaning.specs.MeantTree.{MeantSelection, MeantOperation, MeantDocument, meant}
 use Rattle.fault_data.specs.Adds.{Adds}
+use Rattle.rule_definitions.specs.Room.{◌⊕◌}
 use Rattle.fault_data.specs.FaultView.{faults_of}
 use Rattle.fault_data.specs.declared.fault.Fault.{Fault}
 use Rattle.rule_definitions.specs.Judged.{judged}
@@ -30,9 +31,9 @@ use Rattle.rule_fragments.specs.SpreadViews.{fragment_meant}
 use Rattle.rule_fragments.specs.Unused.{unused_fragment}
 use Rattle.rule_fragments.specs.declared.applications.Application.{Application}
 
--- the faults that were there, as they stood, and after them exactly these
+-- the faults that were there, as they stood, and behind them, as far as there is room, exactly these
 abbrev pub AddsThese : Vec Fault Global → Vec Fault Global → List PlacedFault → Type 0
-AddsThese old new these = faults_of new ≡ faults_of old ++ these
+AddsThese old new these = faults_of new ≡ faults_of old ⊕ these
 
 -- what a selection means
 abbrev pub meant_selection : Selection → MeantSelection Place

@@ -1,7 +1,8 @@
 -- What the check of cycles tells (GraphQL, October 2021, section 5.5.2.2).
-use Rattle.std.specs.Prelude.{◌≡◌, List, ◌++◌, codes, Contains, ◌⊎◌}
+use Rattle.std.specs.Prelude.{◌≡◌, List, codes, Contains, ◌⊎◌}
 use Rattle.graphql_names.specs.Placed.{Placed, Place}
 use Rattle.document_meaning.specs.MeantTree.{MeantFragment, MeantDocument}
+use Rattle.rule_definitions.specs.Room.{◌⊕◌}
 use Rattle.rule_definitions.specs.Diagnostics.{SpreadTree, RecursiveFragmentDefinition, DeeplyNestedType}
 use Rattle.rule_definitions.specs.Faults.{wrong}
 use Rattle.rule_definitions.specs.Told.{PlacedFault}
@@ -25,6 +26,6 @@ Answers f fault =
 -- what is added tells what fails, and each fragment that an operation reaches and that reaches itself is answered
 pub record TellsFragmentCycles (d : MeantDocument Place) (old new : List PlacedFault) : Type 0 where
   pub added : List PlacedFault
-  pub is : new ≡ old ++ added
+  pub is : new ≡ old ⊕ added
   pub right : (fault : PlacedFault) → Contains added fault → FragmentCyclesFail d fault
   pub full : (f : MeantFragment Place) → IsUsed d f → ReachesItself d f → (fault : PlacedFault) × (Contains added fault × Answers f fault)

@@ -37,6 +37,7 @@ fn defer_on_root_mutation_or_subscription_field(
 }
 
 /// Adds what breaks that rule at a selection at the root: fields may be deferred.
+#[tactic(auto, using(rule_definitions::proofs::Room::room_both, std::proofs::lemmas::Grind::common_steps))]
 fn check_root_selection(
     operation: &Node<Operation>,
     selection: &Selection,
@@ -55,6 +56,7 @@ fn check_root_selection(
 }
 
 /// Adds what breaks that rule at the selections at the root.
+#[tactic(auto, using(rule_definitions::proofs::Room::room_both, std::proofs::lemmas::Grind::common_steps))]
 fn check_root_selections(
     operation: &Node<Operation>,
     roots: &[Selection],
@@ -95,6 +97,7 @@ fn defer_in_subscription_must_be_conditional(
 }
 
 /// Adds what breaks that rule at a selection.
+#[tactic(auto, using(rule_definitions::proofs::Room::room_both, std::proofs::lemmas::Grind::common_steps))]
 fn check_always_reached(selection: &Selection, breaches: &mut Vec<Breach>) -> Result<(), AllocError>
     ensures { OnOk result (AddsThese breaches.old breaches.new (always_deferred (lent selection.now))) }
 {
@@ -106,6 +109,7 @@ fn check_always_reached(selection: &Selection, breaches: &mut Vec<Breach>) -> Re
 }
 
 /// Adds what breaks that rule at the selections that a subscription always reaches.
+#[tactic(auto, using(rule_definitions::proofs::Room::room_both, std::proofs::lemmas::Grind::common_steps))]
 fn check_all_always_reached(
     found: &[Selection],
     breaches: &mut Vec<Breach>,

@@ -1,14 +1,11 @@
 //! What breaks the rules on subscriptions and on `@defer` in all operations of a document.
-ghost use Rattle.std.specs.Prelude.{◌↔◌, Contains, IfOk, OnOk};
-ghost use Rattle.graphql_names.specs.Placed.{Place};
+ghost use Rattle.std.specs.Prelude.{IfOk, OnOk};
 ghost use Rattle.rule_always.specs.in_ground.in_typed_operations.DocumentView.{document_meant};
 ghost use Rattle.rule_document_definitions.specs.Defer.{DeferBreaks};
-ghost use Rattle.rule_document_definitions.specs.DocumentFaults.{Broken};
-ghost use Rattle.rule_document_definitions.specs.DocumentRules.{DeferredBreaks};
 ghost use Rattle.rule_document_definitions.specs.Reached.{AtOperation};
 ghost use Rattle.rule_document_definitions.specs.Selected.{operations};
 ghost use Rattle.rule_fragments.specs.Broken.{brokens_of, AddsBroken};
-ghost use Rattle.rule_fragments.specs.Documents.{AddsSubscriptions, TellsBreaches};
+ghost use Rattle.rule_fragments.specs.Documents.{AddsSubscriptions, AreFirst, TellsDeferred, TellsBreaches};
 ghost use Rattle.rule_fragments.specs.Used.{AreUnderOwnNames};
 
 use crate::breach::Breach;
@@ -28,12 +25,12 @@ fn check_defers(document: &ExecutableDocument, breaches: &mut Vec<Breach>) -> Re
     Ok(())
 }
 
-/// What breaks the rules on `@defer` in a document.
+/// What breaks the rules on `@defer` in a document: the first 1,000.
 pub fn deferred_breaches(
     alloc: Global,
     document: &ExecutableDocument,
 ) -> Result<Vec<Breach>, AllocError>
-    ensures { IfOk result (λ r. (f : Broken Place) → Contains (brokens_of r) f ↔ DeferredBreaks (document_meant document.now) f) }
+    ensures { IfOk result (λ r. AreFirst (TellsDeferred (document_meant document.now)) (brokens_of r)) }
 {
     let mut breaches = Vec::new(alloc);
     check_defers(document, &mut breaches)?;
@@ -54,12 +51,13 @@ fn check_subscriptions(
     Ok(())
 }
 
-/// What breaks the rules on `@defer` in a document, and after it what breaks those on subscriptions (section 5.2.3).
+/// What breaks the rules on `@defer` in a document, and after it what breaks those on subscriptions (section 5.2.3): the first
+/// 1,000.
 pub fn document_breaches(
     alloc: Global,
     document: &ExecutableDocument,
 ) -> Result<Vec<Breach>, AllocError>
-    ensures { IfOk result (λ r. AreUnderOwnNames (document_meant document.now) → TellsBreaches (document_meant document.now) (brokens_of r)) }
+    ensures { IfOk result (λ r. AreUnderOwnNames (document_meant document.now) → AreFirst (TellsBreaches (document_meant document.now)) (brokens_of r)) }
 {
     let mut breaches = deferred_breaches(alloc, document)?;
     check_subscriptions(document, &mut breaches)?;

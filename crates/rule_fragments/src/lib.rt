@@ -6,20 +6,20 @@
 //! has one root field, which is no meta-field and under no condition; `@defer` and its labels are judged by the proposal on
 //! incremental delivery.
 //!
-//! For the layers above: each check adds exactly the faults by which the rules of its name break (`Fragments.antt` and
-//! `Limits.antt` of `rule_document_definitions`). `PossibleTypes` has, under each type's name, the objects that values of the
-//! type can be (`ArePossible` of `Possible.antt`). It is made once for a schema, and `for_document` shares it with each document;
-//! or at most once for a document: `check_applications` makes it where a fragment is on another type than that where it stands,
-//! and it stays for the operations that follow. For a document it keeps of two types whether they have an object in common,
-//! once that is found. `check_unused` tells each fragment that no operation reaches; `check_cycles` each fragment that an
-//! operation reaches and that spreads itself, or that the bound is passed (`specs/Told.antt`). Both take the names of the
-//! fragments that the operations reach. There fragments are numbers, and `rule_cycle_search` finds the ways of spreads from
-//! each back to it.
+//! For the layers above: each check adds, as far as there is room, exactly the faults by which the rules of its name break
+//! (`Fragments.antt` and `Limits.antt` of `rule_document_definitions`). `PossibleTypes` has, under each type's name, the
+//! objects that values of the type can be (`ArePossible` of `Possible.antt`). It is made once for a schema, and `for_document`
+//! shares it with each document; or at most once for a document: `check_applications` makes it where a fragment is on another
+//! type than that where it stands, and it stays for the operations that follow. For a document it keeps of two types whether
+//! they have an object in common, once that is found. `check_unused` tells each fragment that no operation reaches;
+//! `check_cycles` each fragment that an operation reaches and that spreads itself, or that the bound is passed
+//! (`specs/Told.antt`). Both take the names of the fragments that the operations reach. There fragments are numbers, and
+//! `rule_cycle_search` finds the ways of spreads from each back to it.
 //!
-//! `document_breaches` gives what breaks the rules on subscriptions and on `@defer` in a typed document, each with its place, and
-//! `deferred_breaches` what breaks those on `@defer` alone (`specs/Documents.antt`; `AreAlike` of `specs/SubscriptionTold.antt`,
-//! since root fields have no order). These rules are `Subscriptions.antt`, `Defer.antt` and `Limits.antt` of
-//! `rule_document_definitions`.
+//! `document_breaches` gives what breaks the rules on subscriptions and on `@defer` in a typed document, each with its place,
+//! and `deferred_breaches` what breaks those on `@defer` alone, the first 1,000 each (`specs/Documents.antt`; `AreAlike` of
+//! `specs/SubscriptionTold.antt`, since root fields have no order). These rules are `Subscriptions.antt`, `Defer.antt` and
+//! `Limits.antt` of `rule_document_definitions`.
 //!
 //! For fragments, begin with `spreads.rt`, then `targets.rt`, `possible_types.rt` and `applications.rt`; and with `unused.rt` and
 //! `cycles.rt`. For subscriptions and `@defer`, begin with `documents.rt`, then `subscriptions.rt`, `defer.rt` and `labels.rt`.

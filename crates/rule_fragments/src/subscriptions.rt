@@ -107,6 +107,7 @@ fn subscription_uses_conditional_selection(
 }
 
 /// Adds what breaks a rule of one selection at the root of a subscription.
+#[tactic(auto, using(rule_definitions::proofs::Room::room_both, std::proofs::lemmas::Grind::common_steps))]
 fn check_root_selection(
     operation: &Node<Operation>,
     selection: &Selection,
@@ -123,6 +124,7 @@ fn check_root_selection(
 }
 
 /// Adds what breaks a rule of all selections at the root of a subscription.
+#[tactic(auto, using(rule_definitions::proofs::Room::room_both, std::proofs::lemmas::Grind::common_steps))]
 fn check_root_selections(
     operation: &Node<Operation>,
     roots: &[Selection],

@@ -38,6 +38,7 @@ fn unused_fragment(
 }
 
 /// Adds a fault for each fragment, in order, whose name is not among those that are used.
+#[tactic(auto, using(rule_definitions::proofs::Room::room_both, std::proofs::lemmas::Grind::common_steps))]
 fn tell_unused(
     fragments: &FragmentMap,
     used: &IndexSet<Name>,

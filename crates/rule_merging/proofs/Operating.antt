@@ -9,7 +9,7 @@ use Rattle.graphql_names.specs.declared.node.Node.{Node}
 use Rattle.rule_field_groups.specs.in_typed_selections.TypedTree.{TypedSet, typed_set_tree}
 use Rattle.document_typed_operations.specs.declared.operation.Operation.{Operation}
 use Rattle.rule_field_groups.specs.in_meaning.MeantTree.{MeantSet, MeantOperation, MeantDocument, meant_of_set}
-use Rattle.rule_field_groups.specs.in_sets.in_ground.in_schema.SchemaOf.{schema_tree}
+use Rattle.rule_field_groups.specs.in_sets.in_schema.SchemaOf.{schema_tree}
 use Rattle.rule_field_groups.specs.in_sets.in_ground.in_typed_operations.DocumentView.{operation_meant}
 use Rattle.rule_field_groups.specs.in_sets.in_ground.Fields.{meant_fragments}
 use Rattle.rule_field_groups.specs.in_definitions.Judged.{Judged, judged}

@@ -3,7 +3,7 @@ use Rattle.std.specs.Prelude.{◌≡◌, ◌+◌, ◌++◌, ◌∷◌, ℕ, Bool
 use Rattle.std.specs.declared.alloc.Global.{Global}
 use Rattle.graphql_names.specs.Placed.{Place}
 use Rattle.graphql_faults.specs.in_document_data.declared.build_error.BuildError.{BuildError}
-use Rattle.rule_field_groups.specs.in_sets.in_ground.in_schema.SchemaOf.{schema_tree}
+use Rattle.rule_field_groups.specs.in_sets.in_schema.SchemaOf.{schema_tree}
 use Rattle.rule_field_groups.specs.in_meaning.MeantTree.{MeantSet, MeantOperation, MeantDocument}
 use Rattle.rule_field_groups.specs.in_definitions.in_schema_types.Addresses.{under}
 use Rattle.rule_field_groups.specs.in_sets.in_ground.in_typed_operations.DocumentView.{document_meant}

@@ -3,7 +3,7 @@ use Rattle.std.specs.Prelude.{◌≡◌, ◌≤◌, ◌↔◌, ◌++◌, ◌∷�
 use Rattle.std.specs.List.{sum, cons_option}
 use Rattle.std.specs.Option.{option_map}
 use Rattle.graphql_names.specs.Placed.{Place}
-use Rattle.rule_field_groups.specs.in_sets.in_ground.in_schema.SchemaOf.{schema_tree}
+use Rattle.rule_field_groups.specs.in_sets.in_schema.SchemaOf.{schema_tree}
 use Rattle.rule_field_groups.specs.in_meaning.MeantTree.{MeantOperation, MeantDocument}
 use Rattle.rule_field_groups.specs.in_sets.in_ground.in_typed_operations.DocumentView.{document_meant}
 use Rattle.rule_field_groups.specs.in_definitions.Judged.{Judged, judged}

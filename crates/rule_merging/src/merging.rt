@@ -4,7 +4,7 @@ ghost use Rattle.graphql_faults.specs.DetailsTree.{of_document};
 ghost use Rattle.graphql_faults.specs.DetailsView.{diagnostics_of, BeginsAs};
 ghost use Rattle.rule_field_groups.specs.in_sets.in_ground.Broken.{brokens_of};
 ghost use Rattle.rule_field_groups.specs.in_definitions.Judged.{judged};
-ghost use Rattle.rule_field_groups.specs.in_sets.in_ground.in_schema.SchemaOf.{schema_tree};
+ghost use Rattle.rule_field_groups.specs.in_sets.in_schema.SchemaOf.{schema_tree};
 ghost use Rattle.rule_field_groups.specs.in_sets.in_ground.in_typed_operations.DocumentView.{document_meant, operation_meant};
 ghost use Rattle.rule_merging.specs.Merged.{AreSettledIf, limit_told, conflicts_told};
 ghost use Rattle.rule_merging.specs.OfProgram.{AddsDetails};

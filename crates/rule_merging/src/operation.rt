@@ -1,6 +1,6 @@
 //! The examination of an operation, in both passes.
 ghost use Rattle.std.specs.Prelude.{◌≡◌, ◌||◌, List, IfOk, OnOk, IsTrue, []};
-ghost use Rattle.rule_field_groups.specs.in_sets.in_ground.in_schema.SchemaOf.{schema_tree};
+ghost use Rattle.rule_field_groups.specs.in_sets.in_schema.SchemaOf.{schema_tree};
 ghost use Rattle.rule_field_groups.specs.in_definitions.Judged.{judged};
 ghost use Rattle.graphql_names.specs.Placed.{Place};
 ghost use Rattle.rule_field_groups.specs.in_meaning.MeantTree.{MeantOperation, MeantDocument, meant_of_set};

@@ -11,9 +11,9 @@ use Rattle.schema_components.specs.Given.{Given}
 use Rattle.schema_types.specs.BuiltIn.{built_in}
 use Rattle.schema_types.specs.SchemaTree.{SchemaType, SchemaTree}
 use Rattle.schema_types.specs.Addresses.{FieldAt, ArgumentAt, TypeReferenceAt, under, place_of, or_nothing, type_at, field_at}
-use Rattle.rule_document_ground.specs.in_built_in.MetaFields.{typename_field, schema_field, type_field, meta_fields, meta_field_of}
-use Rattle.rule_document_ground.specs.in_schema.MetaField.{by_definition}
-use Rattle.rule_document_ground.specs.in_schema.LookUps.{is_composite_kind, is_query_root, explicit_field, meta_field, meta_field_on, field_named}
+use Rattle.graphql_schema.specs.in_built_in.MetaFields.{typename_field, schema_field, type_field, meta_fields, meta_field_of}
+use Rattle.graphql_schema.specs.MetaField.{by_definition}
+use Rattle.graphql_schema.specs.LookUps.{is_composite_kind, is_query_root, explicit_field, meta_field, meta_field_on, field_named}
 use Rattle.rule_document_definitions.specs.Told.{place_or_built_in}
 
 abbrev Defined : Type 0

@@ -17,8 +17,8 @@ use Rattle.schema_types.specs.SchemaTree.{SchemaTree}
 use Rattle.schema_types.specs.Addresses.{FieldAt, ArgumentAt, TypeReferenceAt}
 use Rattle.schema_types.specs.Plain.{plain}
 use Rattle.document_typing.specs.Meanings.{meanings}
-use Rattle.rule_document_ground.specs.in_schema.LookUps.{field_named}
-use Rattle.rule_document_ground.proofs.in_schema.FieldLooks.{fields_plain}
+use Rattle.graphql_schema.specs.LookUps.{field_named}
+use Rattle.graphql_schema.proofs.FieldLooks.{fields_plain}
 use Rattle.document_typed_selections.specs.declared.selection.Field.{Field}
 use Rattle.rule_document_definitions.specs.Selections.{field_taker}
 use Rattle.rule_document_definitions.specs.Told.{place_or_built_in, places_in}

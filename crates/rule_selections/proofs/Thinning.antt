@@ -1,6 +1,5 @@
 -- How what is left of a set is put together, and what then replaces a fragment.
 use Rattle.std.proofs.Common.{◌≡◌, ◌∙◌, ℕ, true, false, List, [], ◌∷◌, ◌++◌, map, refl, sym, ap, subst, inl, inr, None, Contains, true≢false}
-use Rattle.std.proofs.lemmas.List.Elements.{Contains-append_right}
 use Rattle.std.specs.Option.{option_map}
 use Rattle.graphql_names.specs.Node.{content, place}
 use Rattle.graphql_names.specs.Placed.{Place, Text, name_tree}
@@ -20,13 +19,15 @@ use Rattle.document_typed_operations.specs.TypedDocument.{TypedFragment}
 use Rattle.document_meaning.specs.MeantTree.{MeantSelection, MeantField, MeantInline, MeantSet, meant_set, MeantSelections, no_meant, meant_then, members, meant, meant_of_set, meant_of_all}
 use Rattle.rule_document_ground.specs.in_typed_operations.DocumentView.{meant_by_fragment}
 use Rattle.rule_definitions.specs.Told.{PlacedFault}
-use Rattle.rule_definitions.proofs.Listing.{Gains}
+use Rattle.rule_definitions.proofs.Room.{room_begins, room_silent}
+use Rattle.rule_definitions.proofs.Adding.{Gains}
 use Rattle.rule_selections.specs.Steps.{selects_none}
 use Rattle.rule_selections.specs.Settled.{filled, with_left, IsSettled, Thins, Leaves, LeavesOfTyped, KeepsUnlessSettled, StandsInFor}
 
 -- where nothing was told, nothing breaks
 pub nothing_breaks : {R : PlacedFault → Type 0} (old new : List PlacedFault) → Gains old new R → new ≡ [] → (f : PlacedFault) → R f → ⊥
-nothing_breaks old new (added, (is, lists)) empty f r = not_in_nil f (subst (λ l. Contains l f) (sym is ∙ empty) (Contains-append_right old added f ((lists f).1 r)))
+nothing_breaks [] new (added, (is, lists)) empty f r = not_in_nil f (subst (λ l. Contains l f) (room_silent added (sym is ∙ empty)) ((lists f).1 r))
+nothing_breaks (x ∷ old) new (added, (is, lists)) empty f r = let none = sym (room_begins (x ∷ old) added).1 ∙ sym is ∙ empty in cc
 
 -- ---- a selection with another set
 

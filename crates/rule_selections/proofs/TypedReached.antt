@@ -1,5 +1,5 @@
 -- What is reached in a typed document, or in a typed field set, is typed by its place.
-use Rattle.std.proofs.Common.{◌≡◌, ◌∙◌, ℕ, suc, List, map, refl, sym, ap, subst, inl, inr, Option, Some, None, Contains, true≢false, is_some}
+use Rattle.std.proofs.Common.{◌≡◌, ℕ, suc, List, map, refl, sym, ap, subst, inl, inr, Option, Some, None, Contains, true≢false, is_some}
 use Rattle.std.specs.List.{cons_option}
 use Rattle.std.proofs.lemmas.Option.{same_Some}
 use Rattle.schema_components.proofs.Places.{not_in_nil, only, Contains-cons}

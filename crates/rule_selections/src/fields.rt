@@ -4,7 +4,7 @@ ghost use Rattle.std.specs.Option.{option_map};
 ghost use Rattle.graphql_names.specs.Node.{content};
 ghost use Rattle.schema_types.specs.SchemaTree.{is_leaf_kind, is_output_kind};
 ghost use Rattle.schema_types.specs.Addresses.{type_at};
-ghost use Rattle.rule_document_ground.specs.in_schema.SchemaOf.{schema_tree};
+ghost use Rattle.graphql_schema.specs.SchemaOf.{schema_tree};
 ghost use Rattle.fault_data.specs.FaultView.{fault_of};
 ghost use Rattle.fault_data.specs.Adds.{Adds};
 ghost use Rattle.rule_definitions.specs.Judged.{judged};

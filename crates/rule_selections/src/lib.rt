@@ -1,9 +1,9 @@
 //! Rules on each selection that an operation reaches (sections 5.3.3, 5.4, 5.6, 5.7 and 5.8): fields of composite types select
 //! some of their fields, and arguments and directives keep the rules on uses.
 //!
-//! For the layers above: each check adds exactly the faults by which the rules of its name break, over what the operation
-//! reaches in a document: `SelectionsBreak` under a schema, `GivenInBreaks` without one. What is reached in a typed document, or
-//! in a typed field set, is typed (`proofs/TypedReached.antt`).
+//! For the layers above: each check adds exactly the faults by which the rules of its name break, where there is room for them
+//! (`fault_data`), over what the operation reaches in a document: `SelectionsBreak` under a schema, `GivenInBreaks` without one.
+//! What is reached in a typed document, or in a typed field set, is typed (`proofs/TypedReached.antt`).
 //!
 //! What operations share is judged once: `settled_fragments` gives what replaces the fragments of a document (`StandIn` of
 //! `specs/Settled.antt`), each without those of its selections, at any depth, of which nothing is told, whatever the variables.

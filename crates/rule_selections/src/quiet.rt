@@ -1,6 +1,6 @@
 //! Whether of a selection by itself nothing is told, whatever the variables of an operation.
 ghost use Rattle.std.specs.Prelude.{◌≡◌, ◌↔◌, [], IfOk, IsTrue};
-ghost use Rattle.rule_document_ground.specs.in_schema.SchemaOf.{schema_tree};
+ghost use Rattle.graphql_schema.specs.SchemaOf.{schema_tree};
 ghost use Rattle.document_typed_selections.specs.TypedTree.{typed_selection_tree};
 ghost use Rattle.document_meaning.specs.MeantTree.{meant};
 ghost use Rattle.fault_data.specs.FaultView.{faults_of};

@@ -3,7 +3,7 @@ ghost use Rattle.std.specs.Prelude.{◌≡◌, OnOk};
 ghost use Rattle.graphql_names.specs.Node.{content};
 ghost use Rattle.graphql_names.specs.Placed.{Place, node_tree};
 ghost use Rattle.schema_types.specs.Plain.{plain};
-ghost use Rattle.rule_document_ground.specs.in_schema.SchemaOf.{schema_tree};
+ghost use Rattle.graphql_schema.specs.SchemaOf.{schema_tree};
 ghost use Rattle.fault_data.specs.Adds.{Adds};
 ghost use Rattle.rule_definitions.specs.Judged.{judged};
 ghost use Rattle.rule_uses.specs.in_rule_values.Wanting.{variables_of};

@@ -1,6 +1,6 @@
 //! What replaces the fragments of a document, so that what its operations share is judged once.
 ghost use Rattle.std.specs.Prelude.{IfOk, OnOk, unwrap_or};
-ghost use Rattle.rule_document_ground.specs.in_schema.SchemaOf.{schema_tree};
+ghost use Rattle.graphql_schema.specs.SchemaOf.{schema_tree};
 ghost use Rattle.rule_document_ground.specs.in_typed_operations.DocumentView.{document_meant};
 ghost use Rattle.rule_document_ground.specs.Reach.{meant_fragments};
 ghost use Rattle.rule_selections.specs.Settled.{fragment_meant, StandsInFor, StandIn};

@@ -2,7 +2,7 @@
 //! without recursion, so it takes the same stack at any depth.
 ghost use Rattle.std.specs.Prelude.{◌≡◌, IfOk, IsTrue, OnOk, None};
 ghost use Rattle.graphql_names.specs.Placed.{name_tree};
-ghost use Rattle.rule_document_ground.specs.in_schema.SchemaOf.{schema_tree};
+ghost use Rattle.graphql_schema.specs.SchemaOf.{schema_tree};
 ghost use Rattle.document_typed_selections.specs.TypedTree.{typed_selection_tree, typed_set_tree};
 ghost use Rattle.document_typed_selections.specs.TypedParts.{bare_inline, typed_field_node, typed_inline_node};
 ghost use Rattle.document_meaning.specs.MeantTree.{meant, meant_of_set};

@@ -1,5 +1,5 @@
 -- The rules of this crate, place by place: what a walk over a schema tells at each.
-use Rattle.std.proofs.Common.{◌≡◌, ◌≢◌, ℕ, ◌⊎◌, ◌↔◌, inl, inr, false, List, codes, refl, Option, None, Some}
+use Rattle.std.proofs.Common.{◌≡◌, ◌≢◌, ℕ, ◌⊎◌, inl, inr, false, List, codes, None, Some}
 use Rattle.tree_directives.specs.DirectiveTree.{InputValueTree, InputValues, DirectiveDefinitionTree}
 use Rattle.tree_directives.specs.declared.operation_type.OperationType.{OperationType}
 use Rattle.tree_type_members.specs.TypeSystemTree.{FieldDefinitionTree, EnumValueTree}

@@ -1,5 +1,5 @@
 -- All that is told of a schema tells the rules on interfaces.
-use Rattle.std.proofs.Common.{◌≡◌, ℕ, ◌↔◌, List, ◌++◌, map, sym, ap, ◌∙◌, Contains}
+use Rattle.std.proofs.Common.{◌≡◌, ℕ, ◌↔◌, List, map, sym, ap, ◌∙◌, Contains}
 use Rattle.std.specs.List.{flat_map}
 use Rattle.std.proofs.lemmas.List.Folds.{flat_map-map}
 use Rattle.graphql_names.specs.NameValue.{NameValue}
@@ -11,6 +11,7 @@ use Rattle.schema_components.specs.declared.component.Component.{Component}
 use Rattle.schema_types.specs.SchemaTree.{SchemaType, SchemaTree}
 use Rattle.schema_types.specs.TypeView.{name_text, extended_type}
 use Rattle.schema_types.specs.declared.extended_type.ExtendedType.{ExtendedType}
+use Rattle.fault_data.specs.Room.{◌⊕◌}
 use Rattle.fault_data.specs.in_rule_definitions.Judged.{judged}
 use Rattle.fault_data.specs.in_rule_definitions.Rules.{InterfacesBreak}
 use Rattle.fault_data.specs.in_rule_definitions.Told.{PlacedFault, Told}
@@ -43,5 +44,5 @@ module _ (s : SchemaTree Place) where
 
 -- what is told behind other faults
 pub told_behind : (s : SchemaTree Place) → AreAllDistinct s → (types : List (NameValue × ExtendedType)) → s.types ≡ map (λ e. (name_text e.0, extended_type e.1)) types
-    → (old new : List PlacedFault) → new ≡ old ++ types_faults s types → (added : List PlacedFault) × ((new ≡ old ++ added) × ((f : PlacedFault) → Contains added f ↔ Told s InterfacesBreak f))
+    → (old new : List PlacedFault) → new ≡ old ⊕ types_faults s types → (added : List PlacedFault) × ((new ≡ old ⊕ added) × ((f : PlacedFault) → Contains added f ↔ Told s InterfacesBreak f))
 told_behind s distinct types are old new is = (types_faults s types, (is, says_all s distinct types are))

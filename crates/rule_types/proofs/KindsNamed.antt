@@ -1,5 +1,5 @@
 -- The kinds of types by name, as rules read them and as lists of faults have them.
-use Rattle.std.proofs.Common.{◌≡◌, ℕ, ◌↔◌, List, sym, ap, subst, ◌∙◌, Option, None, Some}
+use Rattle.std.proofs.Common.{◌≡◌, ℕ, ◌↔◌, List, sym, ap, subst, ◌∙◌, None}
 use Rattle.std.specs.Option.{option_map}
 use Rattle.graphql_names.specs.Placed.{Place}
 use Rattle.schema_types.specs.SchemaTree.{SchemaType, SchemaTree}

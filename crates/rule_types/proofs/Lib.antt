@@ -17,3 +17,5 @@ pub mod Standing
 pub mod Listed
 pub mod InterfacesSays
 pub mod InterfacesWhole
+pub mod Telling
+pub mod RoomSteps

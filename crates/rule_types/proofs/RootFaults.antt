@@ -1,10 +1,10 @@
 -- The rules on roots.
-use Rattle.std.proofs.Common.{◌≡◌, ℕ, ◌⊎◌, ◌↔◌, Bool, true, false, List, [], ◌∷◌, ◌++◌, map, refl, sym, ap, subst, ◌∙◌, inl, inr, Option, None, Some, Contains, slice_get, option_to_list, if◌then◌else◌}
+use Rattle.std.proofs.Common.{◌≡◌, ℕ, ◌⊎◌, ◌↔◌, Bool, true, false, List, [], ◌∷◌, ◌++◌, map, refl, sym, ap, subst, ◌∙◌, inl, inr, Option, None, Some, Contains, option_to_list, if◌then◌else◌}
 use Rattle.std.specs.List.{flat_map, find}
 use Rattle.std.proofs.lemmas.List.Elements.{Contains-append_cases}
 use Rattle.std.specs.Option.{option_map, option_map_or}
 use Rattle.std.specs.Str.{bytes_eq}
-use Rattle.graphql_names.specs.Placed.{Placed, Place, Text}
+use Rattle.graphql_names.specs.Placed.{Place, Text}
 use Rattle.schema_components.specs.Lists.{each_place}
 use Rattle.schema_components.specs.Given.{Given, given_name}
 use Rattle.schema_types.specs.SchemaTree.{SchemaTree}
@@ -15,13 +15,12 @@ use Rattle.fault_data.specs.in_rule_definitions.Diagnostics.{QueryRootOperationT
 use Rattle.fault_data.specs.in_rule_definitions.Faults.{SchemaFault, wrong, told}
 use Rattle.fault_data.specs.in_rule_definitions.Judged.{judged}
 use Rattle.fault_data.specs.in_rule_definitions.Words.{Repeats}
-use Rattle.fault_data.specs.in_rule_definitions.RootTypes.{root_types_in}
 use Rattle.fault_data.specs.in_rule_definitions.Roots.{QueryRootOperationTypeAt, DuplicateRootOperationTypeAt}
 use Rattle.fault_data.specs.in_rule_definitions.Told.{PlacedFault}
 use Rattle.rule_types.specs.FaultLists.{query_root_operation_type, same_root, or_else, subscription_again, root_faults, roots_faults}
-use Rattle.fault_data.proofs.in_rule_definitions.Lists.{not_in_nil, only, found_in, index_given}
+use Rattle.fault_data.proofs.in_rule_definitions.Lists.{not_in_nil, only, index_given}
 use Rattle.rule_types.proofs.ByPlace.{RootBreaks, RootsBreak}
-use Rattle.fault_data.proofs.in_rule_definitions.Tells.{Tells, Says, tells_same, tells_list, tells_both, tells_one, tells_no, tells_repeats}
+use Rattle.fault_data.proofs.in_rule_definitions.Tells.{Tells, tells_same, tells_list, tells_both, tells_one, tells_no, tells_repeats}
 use Rattle.rule_types.proofs.Says.{Is, says, says_root}
 
 abbrev Root : Type 0

@@ -1,20 +1,19 @@
 -- The lists of faults tell the rules, one lemma for each rule and place.
-use Rattle.std.proofs.Common.{◌≡◌, ◌≢◌, ℕ, ◌⊎◌, ◌↔◌, Bool, true, false, not, ◌||◌, List, [], ◌∷◌, ◌++◌, map, refl, sym, ap, subst, ◌∙◌, inl, inr, Option, None, Some, Contains, codes, slice_get, if◌then◌else◌, true≢false}
-use Rattle.std.specs.List.{flat_map, find, IsDistinct}
+use Rattle.std.proofs.Common.{◌≡◌, ◌≢◌, ℕ, ◌⊎◌, ◌↔◌, Bool, true, false, ◌||◌, List, [], ◌∷◌, ◌++◌, map, refl, sym, ap, subst, ◌∙◌, inl, inr, Option, None, Some, Contains, codes, slice_get, if◌then◌else◌, true≢false}
+use Rattle.std.specs.List.{flat_map, find}
 use Rattle.std.specs.Option.{option_map, option_map_or}
 use Rattle.std.specs.Str.{bytes_eq}
 use Rattle.graphql_names.specs.Places.{is_built_in}
 use Rattle.graphql_names.specs.Placed.{Placed, Place, Text, unplaced_node}
 use Rattle.tree_literals.specs.TypeTree.{TypeTree, unplaced_type}
 use Rattle.tree_literals.specs.TypeQueries.{inner_name}
-use Rattle.tree_directives.specs.DirectiveTree.{InputValueTree, InputValues, DirectiveDefinitionTree, unplaced_input_value, unplaced_directive_definition}
+use Rattle.tree_directives.specs.DirectiveTree.{InputValueTree, InputValues, DirectiveDefinitionTree, unplaced_input_value}
 use Rattle.tree_type_members.specs.TypeSystemTree.{FieldDefinitionTree, EnumValueTree, unplaced_field_definition, unplaced_enum_value}
 use Rattle.schema_components.specs.Lists.{is_among, each_place}
 use Rattle.schema_components.specs.Given.{Given, given_name, plain_given}
 use Rattle.schema_types.specs.SchemaTree.{SchemaType, SchemaTree, kind_words, same_kind, is_input_kind, is_output_kind}
 use Rattle.schema_types.specs.Plain.{plain_directive_definition}
-use Rattle.schema_types.specs.Looks.{TypeLooks}
-use Rattle.schema_types.specs.Addresses.{Address, RootAt, TypeAt, MemberAt, FieldAt, ValueAt, InputAt, DirectiveDefinitionAt, ArgumentAt, NameAt, TypeNameAt, TypeReferenceAt, under, or_nothing, place_of, inner_name_place, type_at, root_at, field_at, value_at, input_at, directive_definition_at, arguments_at, place_at, name_place, is_marked}
+use Rattle.schema_types.specs.Addresses.{Address, RootAt, TypeAt, MemberAt, FieldAt, ValueAt, InputAt, DirectiveDefinitionAt, ArgumentAt, NameAt, TypeNameAt, TypeReferenceAt, under, or_nothing, place_of, inner_name_place, root_at, field_at, value_at, input_at, arguments_at, place_at, name_place, is_marked}
 use Rattle.schema_types.specs.declared.type_kind.TypeKind.{TypeKind}
 use Rattle.schema_types.specs.declared.type_kind.TypeKind.TheVariants as kind
 use Rattle.tree_directives.specs.declared.operation_type.OperationType.{OperationType}
@@ -23,7 +22,7 @@ use Rattle.fault_data.specs.in_rule_definitions.Spots.{At, spot_place}
 use Rattle.fault_data.specs.in_rule_definitions.Faults.{SchemaFault, wrong, told}
 use Rattle.fault_data.specs.in_rule_definitions.Judged.{judged}
 use Rattle.fault_data.specs.in_rule_definitions.RootTypes.{root_type_of}
-use Rattle.fault_data.specs.in_rule_definitions.Names.{is_reserved, scalar_names, named_in}
+use Rattle.fault_data.specs.in_rule_definitions.Names.{is_reserved, scalar_names}
 use Rattle.fault_data.specs.in_rule_definitions.ReservedNames.{IsReservedAt}
 use Rattle.fault_data.specs.in_rule_definitions.Rules.{IsToldAs, extension_places, extension_places_at}
 use Rattle.fault_data.specs.in_rule_definitions.TypesUsed.{IsUndefinedAt}
@@ -33,7 +32,7 @@ use Rattle.schema_types.specs.Distinct.{ArePartsDistinct}
 use Rattle.rule_types.specs.FaultLists.{if_none, kind_named, reserved_name, undefined_name, undefined_type, output_type, input_type, union_member_object_type, root_operation_object_type, empty_field_set, empty_member_set, empty_value_set, empty_input_value_set, unique_input_value, value_faults, input_value_faults, argument_faults, arguments_faults, field_faults, member_faults, input_faults, directive_faults, root_faults}
 use Rattle.fault_data.proofs.in_rule_definitions.Lists.{mapped_none}
 use Rattle.fault_data.proofs.in_rule_definitions.Lookups.{text_found, text_given, no_names, no_entries}
-use Rattle.fault_data.proofs.Judgings.{type_seen, type_look, field_look, value_look, input_look, member_look, named_unplaced, inner_place, field_there, value_there, input_there, listed_there}
+use Rattle.fault_data.proofs.Judgings.{type_seen, field_look, value_look, input_look, member_look, named_unplaced, inner_place, field_there, value_there, input_there, listed_there}
 use Rattle.rule_types.proofs.KindsNamed.{missing_kind, present_kind}
 use Rattle.rule_types.proofs.ByPlace.{IsMissingAt, IsNoObjectRootAt, IsNoObjectMemberAt, IsNoOutputAt, IsNoInputAt, HasNoField, HasNoMember, HasNoValue, HasNoInput, InputValueBreaks, ArgumentBreaks, ArgumentsBreak, FieldBreaks, MemberBreaks, ValueBreaks, InputBreaks, FieldsBreak, MembersBreak, ValuesBreak, InputsBreak, PartsBreak, TypeBreaks, DirectiveBreaks, RootBreaks}
 use Rattle.fault_data.proofs.in_rule_definitions.Tells.{Tells, Says, tells_same, tells_both, tells_nothing, tells_one, tells_no, tells_when, tells_unless, tells_present, tells_entries, tells_index, tells_names, tells_repeats}

@@ -1,5 +1,5 @@
 -- All that is told of a schema tells the rules of this crate.
-use Rattle.std.proofs.Common.{◌≡◌, ℕ, ◌⊎◌, ◌↔◌, List, [], ◌∷◌, ◌++◌, map, refl, sym, ap, subst, ◌∙◌, inl, inr, Contains}
+use Rattle.std.proofs.Common.{◌≡◌, ℕ, ◌↔◌, List, [], ◌∷◌, ◌++◌, map, refl, sym, ap, ◌∙◌, Contains}
 use Rattle.std.specs.List.{flat_map}
 use Rattle.std.proofs.lemmas.List.{append-nil}
 use Rattle.std.proofs.lemmas.List.Folds.{flat_map-map}
@@ -16,12 +16,12 @@ use Rattle.tree_type_members.specs.declared.enum_value.EnumValueDefinition.{Enum
 use Rattle.schema_components.specs.Given.{Given, component_tree}
 use Rattle.schema_components.specs.declared.component.Component.{Component}
 use Rattle.graphql_names.specs.Places.{is_built_in}
-use Rattle.schema_components.specs.Names.{Entries}
 use Rattle.schema_types.specs.SchemaTree.{SchemaType, SchemaTree, kind_words}
 use Rattle.schema_types.specs.Plain.{plain_directive_definition}
 use Rattle.schema_types.specs.TypeView.{name_text, extended_type}
 use Rattle.schema_types.specs.declared.extended_type.ExtendedType.{ExtendedType}
 use Rattle.schema_types.specs.declared.extended_type.ExtendedType.TheVariants as rust
+use Rattle.fault_data.specs.Room.{◌⊕◌}
 use Rattle.fault_data.specs.in_rule_definitions.Diagnostics.{Diagnostic, EmptyFieldSet, EmptyValueSet, EmptyInputValueSet}
 use Rattle.fault_data.specs.in_rule_definitions.Faults.{wrong}
 use Rattle.fault_data.specs.in_rule_definitions.Judged.{judged}
@@ -108,5 +108,5 @@ module _ (s : SchemaTree Place) where
 -- what is told behind other faults
 pub told_behind : (s : SchemaTree Place) → AreAllDistinct s → (types : List (NameValue × ExtendedType)) → s.types ≡ map (λ e. (name_text e.0, extended_type e.1)) types
     → (directives : List (NameValue × Node DirectiveDefinition)) → s.directives ≡ map (λ e. (name_text e.0, node_tree directive_definition_tree e.1)) directives
-    → (old new : List PlacedFault) → new ≡ old ++ all_faults s types directives → (added : List PlacedFault) × ((new ≡ old ++ added) × ((f : PlacedFault) → Contains added f ↔ Told s TypesBreak f))
+    → (old new : List PlacedFault) → new ≡ old ⊕ all_faults s types directives → (added : List PlacedFault) × ((new ≡ old ⊕ added) × ((f : PlacedFault) → Contains added f ↔ Told s TypesBreak f))
 told_behind s distinct types are directives are' old new is = (all_faults s types directives, (is, says_all s distinct types are directives are'))

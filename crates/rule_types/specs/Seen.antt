@@ -1,5 +1,5 @@
 -- Private: leads to `UniqueArgumentDefinitionAt`. What the check of repeated names has noted.
-use Rattle.std.specs.Prelude.{◌≡◌, Option}
+use Rattle.std.specs.Prelude.{◌≡◌}
 use Rattle.std.specs.Option.{option_map}
 use Rattle.indexmap.specs.IndexMap.{IndexMap, get}
 use Rattle.graphql_names.specs.NameValue.{NameValue}

@@ -18,6 +18,7 @@ use std::alloc::AllocError;
 use tree_directives::InputValueDefinition;
 
 /// Tells the faults of the argument definitions of a field or directive.
+#[tactic(auto, using(crate::proofs::RoomSteps::room_steps))]
 pub(crate) fn check_arguments(
     judging: &Judging<'_>,
     arguments: &[Node<InputValueDefinition>],
@@ -56,6 +57,7 @@ fn check_argument(
 }
 
 /// Tells the faults of an argument definition or input field of that name.
+#[tactic(auto, using(crate::proofs::RoomSteps::room_steps))]
 pub(crate) fn check_input_value(
     judging: &Judging<'_>,
     name: &Name,

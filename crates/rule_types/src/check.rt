@@ -21,8 +21,8 @@ use schema_types::ExtendedType;
 use std::alloc::{AllocError, Global};
 use tree_directives::DirectiveDefinition;
 
-/// Tells each fault of the rules on roots, names, the types that are named, and what a type must have. It fails only
-/// where memory is refused; then some may be told.
+/// Tells each fault of the rules on roots, names, the types that are named, and what a type must have, as far as there is
+/// room. It fails only where memory is refused; then some may be told.
 pub fn check_types(
     alloc: Global,
     schema: &Schema,
@@ -36,6 +36,7 @@ pub fn check_types(
 }
 
 /// Tells the faults of the roots, then those of each type, then those of each directive definition.
+#[tactic(auto, using(crate::proofs::RoomSteps::room_steps))]
 fn check_all(judging: &Judging<'_>, faults: &mut Vec<Fault>) -> Result<(), AllocError>
     ensures { OnOk result (AddsThese faults.old faults.new (faults_in judging.now.schema.now)) }
 {
@@ -45,6 +46,7 @@ fn check_all(judging: &Judging<'_>, faults: &mut Vec<Fault>) -> Result<(), Alloc
 }
 
 /// Tells the faults of each type.
+#[tactic(auto, using(crate::proofs::RoomSteps::room_steps))]
 fn check_each_type(judging: &Judging<'_>, faults: &mut Vec<Fault>) -> Result<(), AllocError>
     ensures { OnOk result (AddsThese faults.old faults.new (types_faults (schema_of judging.now) judging.now.schema.now.types.entries)) }
 {
@@ -55,6 +57,7 @@ fn check_each_type(judging: &Judging<'_>, faults: &mut Vec<Fault>) -> Result<(),
 }
 
 /// Tells the faults of a type.
+#[tactic(auto, using(crate::proofs::RoomSteps::room_steps))]
 fn check_type(
     judging: &Judging<'_>,
     name: &Name,
@@ -96,6 +99,7 @@ fn check_parts(
 }
 
 /// Tells the faults of each directive definition.
+#[tactic(auto, using(crate::proofs::RoomSteps::room_steps))]
 fn check_each_directive(judging: &Judging<'_>, faults: &mut Vec<Fault>) -> Result<(), AllocError>
     ensures { OnOk result (AddsThese faults.old faults.new (directives_faults (schema_of judging.now) judging.now.schema.now.directive_definitions.entries)) }
 {
@@ -106,6 +110,7 @@ fn check_each_directive(judging: &Judging<'_>, faults: &mut Vec<Fault>) -> Resul
 }
 
 /// Tells the faults of a directive definition.
+#[tactic(auto, using(crate::proofs::RoomSteps::room_steps))]
 fn check_directive(
     judging: &Judging<'_>,
     name: &Name,

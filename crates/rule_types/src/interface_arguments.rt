@@ -28,6 +28,7 @@ use tree_literals::Type;
 type Firsts = IndexMap<Name, Node<InputValueDefinition>>;
 
 /// Tells the faults of a field's arguments, which are `own`, over those of an interface's field.
+#[tactic(auto, using(crate::proofs::RoomSteps::room_steps))]
 pub(crate) fn check_arguments(
     judging: &InterfaceJudging<'_>,
     implementation: &Implementation<'_>,

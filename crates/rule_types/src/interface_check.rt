@@ -16,15 +16,15 @@ use crate::interface_fields::check_each_field;
 use crate::interface_judging::InterfaceJudging;
 use crate::interface_look_ups::interfaces_of;
 use crate::interfaces::{check_transitive, recursive_interface_definition, undefined_interface};
-use fault_data::Fault;
+use fault_data::{Fault, is_full};
 use graphql_names::{Name, Node};
 use graphql_schema::Schema;
 use schema_inputs::SchemaInputs;
 use schema_types::{ExtendedType, InterfaceType};
 use std::alloc::{AllocError, Global};
 
-/// Tells each fault of the rules on interfaces. `inputs` has what the schema defines of many input values. It fails only where
-/// memory is refused; then some may be told.
+/// Tells each fault of the rules on interfaces, as far as there is room. `inputs` has what the schema defines of many input
+/// values. It fails only where memory is refused; then some may be told.
 pub fn check_interfaces(
     alloc: Global,
     schema: &Schema,
@@ -44,6 +44,7 @@ pub fn check_interfaces(
 }
 
 /// Tells the faults of each type.
+#[tactic(auto, using(crate::proofs::RoomSteps::room_steps))]
 fn check_each_type(
     judging: &InterfaceJudging<'_>,
     faults: &mut Vec<Fault>,
@@ -53,6 +54,11 @@ fn check_each_type(
     ensures { OnOk result (AddsThese faults.old faults.new (types_faults (schema_of judging.now) judging.now.schema.now.types.entries)) }
 {
     for (name, ty) in &judging.schema.types {
+        // A full list stays as it is. To go on would take a turn for each field of each interface of each type: millions for
+        // a short text.
+        if is_full(faults) {
+            return Ok(());
+        }
         check_type(judging, name, ty, faults)?;
     }
     Ok(())
@@ -80,6 +86,7 @@ fn check_type(
 }
 
 /// Tells the faults of a type over one of its interfaces.
+#[tactic(auto, using(crate::proofs::RoomSteps::room_steps))]
 fn check_interface(
     judging: &InterfaceJudging<'_>,
     implementer: &Implementer<'_>,

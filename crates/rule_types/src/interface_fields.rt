@@ -10,7 +10,7 @@ use crate::interface_arguments::check_arguments;
 use crate::interface_judging::InterfaceJudging;
 use crate::interface_look_ups::{own_arguments, own_field};
 use crate::valid_types::is_valid_implementation_field_type;
-use fault_data::{DiagnosticData, Fault, tell};
+use fault_data::{DiagnosticData, Fault, is_full, tell};
 use graphql_names::{Name, Node};
 use indexmap::IndexMap;
 use schema_components::Component;
@@ -19,6 +19,7 @@ use std::alloc::AllocError;
 use tree_type_members::FieldDefinition;
 
 /// Tells the faults of a type over each of these fields of an interface.
+#[tactic(auto, using(crate::proofs::RoomSteps::room_steps))]
 pub(crate) fn check_each_field(
     judging: &InterfaceJudging<'_>,
     implementer: &Implementer<'_>,
@@ -35,6 +36,7 @@ pub(crate) fn check_each_field(
 }
 
 /// Tells the faults of a type over a field of an interface.
+#[tactic(auto, using(crate::proofs::RoomSteps::full_steps))]
 fn check_field(
     judging: &InterfaceJudging<'_>,
     implementer: &Implementer<'_>,
@@ -45,6 +47,11 @@ fn check_field(
     requires { Stands judging.now implementer.now }
     ensures { OnOk result (AddsThese faults.old faults.new (of_field (field_faults (schema_of judging.now)) implementer.now field_name.now wanted.now)) }
 {
+    // To go on with a full list would look at all arguments of the type's field again for each interface that has the
+    // field, and at all members of the union that it gives.
+    if is_full(faults) {
+        return Ok(());
+    }
     match own_field(implementer.ty, field_name) {
         None => missing_interface_field(implementer, field_name, wanted, faults),
         Some(field) => {
@@ -62,6 +69,7 @@ fn check_field(
 }
 
 /// Tells the faults of a field, whose arguments are `own`, over an interface's field of that name.
+#[tactic(auto, using(crate::proofs::RoomSteps::room_steps))]
 fn check_implementation(
     judging: &InterfaceJudging<'_>,
     implementation: &Implementation<'_>,

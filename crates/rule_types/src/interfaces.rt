@@ -60,6 +60,7 @@ pub(crate) fn recursive_interface_definition(
 }
 
 /// Tells each of these interfaces, which an interface lists, that a type that lists it does not.
+#[tactic(auto, using(crate::proofs::RoomSteps::room_steps))]
 pub(crate) fn check_transitive(
     implementer: &Implementer<'_>,
     listed: &[ComponentName],

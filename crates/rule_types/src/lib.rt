@@ -2,9 +2,9 @@
 //! on types that implement interfaces.
 //!
 //! For the layer above: `check_interfaces` tells each fault of the rules on types that implement interfaces, `check_types`
-//! each fault of the others, with its place and data, and nothing else. Each rule is a function named after the variant of
-//! the fault that it tells; `rule_definitions` says what they mean, and `specs/FaultLists.antt` and
-//! `specs/InterfaceFaults.antt` what each tells of one place.
+//! each fault of the others, with its place and data, and nothing else, as far as the list has room. Each rule is a function
+//! named after the variant of the fault that it tells; `rule_definitions` says what they mean, and `specs/FaultLists.antt`
+//! and `specs/InterfaceFaults.antt` what each tells of one place.
 //!
 //! Begin with `check.rt`, and for interfaces with `interface_check.rt`.
 #![tactic(auto)]

@@ -23,6 +23,7 @@ use tree_directives::InputValueDefinition;
 use tree_type_members::{EnumValueDefinition, FieldDefinition};
 
 /// Tells the faults of the fields of an object or interface.
+#[tactic(auto, using(crate::proofs::RoomSteps::room_steps))]
 pub(crate) fn check_fields(
     judging: &Judging<'_>,
     name: &Name,
@@ -53,6 +54,7 @@ fn check_field(
 }
 
 /// Tells the faults of the name and the type of a field.
+#[tactic(auto, using(crate::proofs::RoomSteps::room_steps))]
 fn check_field_type(
     judging: &Judging<'_>,
     name: &Name,
@@ -76,6 +78,7 @@ fn check_field_type(
 }
 
 /// Tells the faults of the members of a union.
+#[tactic(auto, using(crate::proofs::RoomSteps::room_steps))]
 pub(crate) fn check_members(
     judging: &Judging<'_>,
     name: &Name,
@@ -93,6 +96,7 @@ pub(crate) fn check_members(
 }
 
 /// Tells the faults of a member of a union.
+#[tactic(auto, using(crate::proofs::RoomSteps::room_steps))]
 fn check_member(
     judging: &Judging<'_>,
     member: &Name,
@@ -106,6 +110,7 @@ fn check_member(
 }
 
 /// Tells the faults of the values of an enum.
+#[tactic(auto, using(crate::proofs::RoomSteps::room_steps))]
 pub(crate) fn check_values(
     judging: &Judging<'_>,
     name: &Name,
@@ -141,6 +146,7 @@ fn check_value(
 }
 
 /// Tells the faults of the fields of an input object.
+#[tactic(auto, using(crate::proofs::RoomSteps::room_steps))]
 pub(crate) fn check_input_fields(
     judging: &Judging<'_>,
     name: &Name,
@@ -155,6 +161,7 @@ pub(crate) fn check_input_fields(
 }
 
 /// Tells the faults of each field of an input object.
+#[tactic(auto, using(crate::proofs::RoomSteps::room_steps))]
 fn check_each_input_field(
     judging: &Judging<'_>,
     fields: &IndexMap<Name, Component<InputValueDefinition>>,

@@ -17,6 +17,7 @@ use std::alloc::AllocError;
 use tree_operations::OperationType;
 
 /// Tells the faults of the roots.
+#[tactic(auto, using(crate::proofs::RoomSteps::room_steps))]
 pub(crate) fn check_roots(judging: &Judging<'_>, faults: &mut Vec<Fault>) -> Result<(), AllocError>
     ensures { OnOk result (AddsThese faults.old faults.new (roots_faults (schema_of judging.now))) }
 {
@@ -30,6 +31,7 @@ pub(crate) fn check_roots(judging: &Judging<'_>, faults: &mut Vec<Fault>) -> Res
 }
 
 /// Tells the faults of a root, if it is there.
+#[tactic(auto, using(crate::proofs::RoomSteps::room_steps))]
 fn check_root(
     judging: &Judging<'_>,
     root: &Option<ComponentName>,
@@ -48,6 +50,7 @@ fn check_root(
 }
 
 /// Tells each root of which an earlier one is the same type.
+#[tactic(auto, using(crate::proofs::RoomSteps::room_steps))]
 fn check_repeats(
     definition: &Node<SchemaDefinition>,
     faults: &mut Vec<Fault>,

@@ -21,7 +21,7 @@ use Rattle.rule_values.proofs.in_inputs.Noted.{number_first, number_here, as_lon
 use Rattle.rule_uses.specs.Trees.{arguments_of}
 use Rattle.rule_uses.specs.Steps.{DefinedArgumentBreaks, FirstGivenBreaks}
 use Rattle.rule_uses.specs.Telling.{IsNamedAt}
-use Rattle.rule_values.proofs.in_rule_definitions.Listing.{Gains, gains_same, gains_nothing}
+use Rattle.rule_values.proofs.in_fault_data.Adding.{Gains, gains_same, gains_nothing}
 
 mapped : {A B : Type 0} (f : A → B) (xs : List A) (i : ℕ) (x : A) → slice_get xs i ≡ Some x → slice_get (map f xs) i ≡ Some (f x)
 mapped f [] i x e = absurd (true≢false (sym (ap is_some e)))

@@ -1,11 +1,12 @@
 //! Arguments that are given, defined or not.
-ghost use Rattle.std.specs.Prelude.{◌≡◌, ◌++◌, ◌⊎◌, [], find, IfOk, IfSome, OnOk};
+ghost use Rattle.std.specs.Prelude.{◌≡◌, ◌⊎◌, [], find, IfOk, IfSome, OnOk};
 ghost use Rattle.std.specs.Option.{option_map};
 ghost use Rattle.graphql_names.specs.Placed.{node_tree};
 ghost use Rattle.tree_directives.specs.DirectiveTree.{argument_tree};
 ghost use Rattle.tree_directives.specs.DirectiveQueries.{argument_has_name};
 ghost use Rattle.schema_components.specs.Lists.{each_place};
 ghost use Rattle.rule_values.specs.in_fault_data.FaultView.{faults_of};
+ghost use Rattle.rule_values.specs.in_fault_data.Room.{◌⊕◌};
 ghost use Rattle.rule_values.specs.in_rule_definitions.Names.{argument_name};
 ghost use Rattle.rule_values.specs.in_fault_data.Adds.{Adds};
 ghost use Rattle.rule_values.specs.Firsts.{AreFirsts, AreNumbers};
@@ -127,7 +128,7 @@ fn tell_repeated_arguments(
     given: &[Node<Argument>],
     faults: &mut Vec<Fault>,
 ) -> Result<(), AllocError>
-    ensures { OnOk result (faults_of faults.new ≡ faults_of faults.old ++ each_place repeated_argument (arguments_of given.now)) }
+    ensures { OnOk result (faults_of faults.new ≡ faults_of faults.old ⊕ each_place repeated_argument (arguments_of given.now)) }
 {
     if given.len() < 2 {
         return Ok(());
@@ -143,7 +144,7 @@ fn tell_arguments_again(
     faults: &mut Vec<Fault>,
 ) -> Result<(), AllocError>
     requires { AreFirsts argument_name (λ i a. a.place) places.old (arguments_of []) }
-    ensures { OnOk result (faults_of faults.new ≡ faults_of faults.old ++ each_place repeated_argument (arguments_of given.now)) }
+    ensures { OnOk result (faults_of faults.new ≡ faults_of faults.old ⊕ each_place repeated_argument (arguments_of given.now)) }
 {
     for argument in given {
         let name = &argument.content().name;

@@ -1,9 +1,9 @@
 //! Rules on the use of directives and arguments (sections 5.4, 5.7 and 5.8.5).
 //!
-//! For the layers above: each check adds exactly the faults by which the rules of its name break, which are predicates of
-//! `rule_definitions` (`specs/Uses.antt`) on the trees of what is used. What they tell of a schema's directives where
-//! they stand is what they tell of them by their addresses (`specs/Laws.antt`). What holds without a schema and without
-//! variables is in `specs/Alone.antt`.
+//! For the layers above: each check adds exactly the faults by which the rules of its name break, as far as the list of
+//! faults has room for them (`fault_data::MOST_TOLD`). The rules are predicates of `rule_definitions` (`specs/Uses.antt`)
+//! on the trees of what is used. What they tell of a schema's directives where they stand is what they tell of them by
+//! their addresses (`specs/Laws.antt`). What holds without a schema and without variables is in `specs/Alone.antt`.
 //!
 //! Begin with `directives.rt` and `taken.rt`.
 #![tactic(auto)]

@@ -28,7 +28,7 @@ use graphql_names::{Name, Node};
 use indexmap::IndexMap;
 use rule_values::{
     DefinedArguments, DefinedVariables, DiagnosticData, Fault, IndexedSchema, definition_numbers,
-    tell, type_breaks,
+    is_full, tell, type_breaks,
 };
 use std::alloc::AllocError;
 use tree_directives::{Argument, InputValueDefinition};
@@ -169,6 +169,10 @@ fn tell_required_arguments(
     requires { IfSome given (λ numbers. AreNumbers argument_name numbers.now (arguments_of taker.now.given.now)) }
     ensures { OnOk result (Tells faults.old faults.new (required_arguments_of taker.now)) }
 {
+    // A short text can have many uses that lack many arguments each.
+    if is_full(faults) {
+        return Ok(());
+    }
     let definitions = taker.definitions.with_required();
     for definition in definitions {
         required_argument(taker, given, definition, faults)?;

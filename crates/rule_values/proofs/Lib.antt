@@ -6,6 +6,7 @@ pub mod VariablesTold
 pub mod KeysTold
 pub mod FormsTold
 pub mod TypesTold
+pub mod RoomSteps
 pub mod Adding
 pub mod Looping
 pub mod KnownFields

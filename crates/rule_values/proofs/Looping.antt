@@ -1,5 +1,5 @@
 -- What loops over entries give in all.
-use Rattle.std.proofs.Common.{◌≡◌, ℕ, ◌+◌, ◌<◌, false, ◌||◌, List, [], ◌∷◌, ◌++◌, length, get_or, drop, map, flat_map, refl, sym, ap, ◌∙◌, if◌then◌else◌, append_assoc}
+use Rattle.std.proofs.Common.{◌≡◌, ℕ, ◌+◌, ◌<◌, false, ◌||◌, List, [], ◌∷◌, ◌++◌, length, get_or, drop, map, flat_map, refl, sym, ap, ◌∙◌, if◌then◌else◌}
 use Rattle.std.specs.List.{IsDistinct, AllByRecursion}
 use Rattle.std.specs.Map.{keys_of}
 use Rattle.std.proofs.lemmas.List.{drop_more}
@@ -13,8 +13,10 @@ use Rattle.tree_literals.specs.declared.value.Value.{Value}
 use Rattle.schema_components.specs.Names.{same_text}
 use Rattle.graphql_schema.specs.in_schema_types.SchemaTree.{SchemaTree}
 use Rattle.graphql_schema.specs.in_schema_types.TypeView.{name_text}
+use Rattle.fault_data.specs.Room.{◌⊕◌}
 use Rattle.fault_data.specs.in_rule_definitions.GivenValues.{Variables}
 use Rattle.fault_data.specs.in_rule_definitions.Told.{PlacedFault}
+use Rattle.fault_data.proofs.Room.{room_both}
 use Rattle.rule_values.specs.ValueFaults.{is_key, each_first, item_faults, type_faults}
 
 -- ---- entries of a map: where names differ each is the first of its name
@@ -52,9 +54,9 @@ module _ (s : SchemaTree Place) (variables : Variables Place) (ty : TypeTree Pla
       ap (λ l. item_faults s variables ty q (item_trees value_tree l)) (drop_more xs i x inside)
       ∙ ap (λ (y : Node Value). type_faults s variables ty q (place y) (value_tree (content y)) ++ item_faults s variables ty q (item_trees value_tree (drop (i + 1) xs))) (sym is)
 
-  pub items_more : (all before after : List PlacedFault) → after ≡ before ++ type_faults s variables ty q (place x) (value_tree (content x))
-      → all ≡ before ++ item_faults s variables ty q (item_trees value_tree (drop i xs)) → all ≡ after ++ item_faults s variables ty q (item_trees value_tree (drop (i + 1) xs))
+  pub items_more : (all before after : List PlacedFault) → after ≡ before ⊕ type_faults s variables ty q (place x) (value_tree (content x))
+      → all ≡ before ⊕ item_faults s variables ty q (item_trees value_tree (drop i xs)) → all ≡ after ⊕ item_faults s variables ty q (item_trees value_tree (drop (i + 1) xs))
   items_more all before after told so_far =
       let rest = item_faults s variables ty q (item_trees value_tree (drop (i + 1) xs)) in
-      so_far ∙ ap (λ l. before ++ l) items_on ∙ sym (append_assoc before (type_faults s variables ty q (place x) (value_tree (content x))) rest)
-      ∙ ap (λ l. l ++ rest) (sym told)
+      so_far ∙ ap (λ l. before ⊕ l) items_on ∙ sym (room_both before (type_faults s variables ty q (place x) (value_tree (content x))) rest)
+      ∙ ap (λ l. l ⊕ rest) (sym told)

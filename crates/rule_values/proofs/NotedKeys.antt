@@ -1,5 +1,5 @@
 -- What is told of the entries of an object where their keys are noted.
-use Rattle.std.proofs.Common.{◌≡◌, ℕ, ◌+◌, ◌<◌, Bool, true, false, ◌||◌, List, [], ◌∷◌, ◌++◌, take, drop, length, get_or, map, find, bytes_eq, Option, None, Some, is_some, refl, sym, ap, ◌∙◌, if◌then◌else◌, append_assoc}
+use Rattle.std.proofs.Common.{◌≡◌, ℕ, ◌+◌, ◌<◌, Bool, true, false, ◌||◌, List, [], ◌∷◌, ◌++◌, take, drop, length, get_or, map, find, bytes_eq, Option, None, Some, is_some, refl, sym, ap, ◌∙◌, if◌then◌else◌}
 use Rattle.std.specs.Option.{option_map, option_map_or}
 use Rattle.std.proofs.lemmas.List.{drop_more, take_more, map-append}
 use Rattle.graphql_names.specs.Node.{content, place}
@@ -10,10 +10,12 @@ use Rattle.tree_literals.specs.ValueTree.{value_tree, entry_trees}
 use Rattle.tree_literals.specs.ValueQueries.{is_null_value}
 use Rattle.tree_literals.specs.declared.value.Value.{Value}
 use Rattle.graphql_schema.specs.in_schema_types.SchemaTree.{SchemaType, SchemaTree}
+use Rattle.fault_data.specs.Room.{◌⊕◌}
 use Rattle.fault_data.specs.in_rule_definitions.Diagnostics.{UniqueInputValue}
 use Rattle.fault_data.specs.in_rule_definitions.Faults.{wrong}
 use Rattle.fault_data.specs.in_rule_definitions.GivenValues.{Variables}
 use Rattle.fault_data.specs.in_rule_definitions.Told.{PlacedFault}
+use Rattle.fault_data.proofs.Room.{room_both}
 use Rattle.schema_inputs.specs.Firsts.{first_told}
 use Rattle.rule_values.specs.KeyFaults.{key_again, repeated_key, repeated_keys}
 use Rattle.rule_values.specs.ValueFaults.{is_key, given_entry, is_missing_entry, field_faults, entry_faults}
@@ -43,16 +45,16 @@ module _ (xs : List Entry) (i : ℕ) (x : Entry) (inside : i < length xs) (is : 
   keys_next : {Y : Type 0} (f : Entry → Y) → map f (take i xs) ++ f x ∷ [] ≡ map f (take (i + 1) xs)
   keys_next f = sym (ap (map f) (take_more xs i x inside) ∙ map-append f (take i xs) (get_or xs i x ∷ []) ∙ ap (λ y. map f (take i xs) ++ f y ∷ []) (sym is))
 
-  pub keys_more : (all before after : List PlacedFault) (first : Option Place) → first ≡ first_place (keys_of_entries (take i xs)) x.0.text → after ≡ before ++ key_again first (name_tree x.0)
-      → all ≡ before ++ repeated_keys (keys_of_entries (take i xs)) (entry_trees value_tree (drop i xs)) → all ≡ after ++ repeated_keys (keys_of_entries (take (i + 1) xs)) (entry_trees value_tree (drop (i + 1) xs))
+  pub keys_more : (all before after : List PlacedFault) (first : Option Place) → first ≡ first_place (keys_of_entries (take i xs)) x.0.text → after ≡ before ⊕ key_again first (name_tree x.0)
+      → all ≡ before ⊕ repeated_keys (keys_of_entries (take i xs)) (entry_trees value_tree (drop i xs)) → all ≡ after ⊕ repeated_keys (keys_of_entries (take (i + 1) xs)) (entry_trees value_tree (drop (i + 1) xs))
   keys_more all before after first found told so_far =
       let keys = keys_of_entries (take i xs) in
       let rest = repeated_keys (keys_of_entries (take (i + 1) xs)) (entry_trees value_tree (drop (i + 1) xs)) in
       so_far
-      ∙ ap (λ es. before ++ repeated_keys keys es) left
-      ∙ (λ k. before ++ (sym (again_is keys (name_tree x.0) first found) k ++ repeated_keys (keys_next (λ e. name_tree e.0) k) (entry_trees value_tree (drop (i + 1) xs))))
-      ∙ sym (append_assoc before (key_again first (name_tree x.0)) rest)
-      ∙ ap (λ l. l ++ rest) (sym told)
+      ∙ ap (λ es. before ⊕ repeated_keys keys es) left
+      ∙ (λ k. before ⊕ (sym (again_is keys (name_tree x.0) first found) k ++ repeated_keys (keys_next (λ e. name_tree e.0) k) (entry_trees value_tree (drop (i + 1) xs))))
+      ∙ sym (room_both before (key_again first (name_tree x.0)) rest)
+      ∙ ap (λ l. l ⊕ rest) (sym told)
 
 -- ---- the first entry of each key
 
@@ -83,16 +85,16 @@ module _ (s : SchemaTree Place) (variables : Variables Place) (t : SchemaType Pl
       ap (entry_faults s variables t (texts i)) (left xs i x inside is)
       ∙ ap (λ ns. (if is_key x.0.text (texts i) then [] else own) ++ entry_faults s variables t ns (entry_trees value_tree (drop (i + 1) xs))) (keys_next xs i x inside is (λ e. e.0.text))
 
-  module _ (all before after : List PlacedFault) (so_far : all ≡ before ++ left_over i) (first : Option Place) (found : first ≡ first_place (keys_of_entries (take i xs)) x.0.text) where
+  module _ (all before after : List PlacedFault) (so_far : all ≡ before ⊕ left_over i) (first : Option Place) (found : first ≡ first_place (keys_of_entries (take i xs)) x.0.text) where
     -- an entry of which the key is there before
-    pub entry_again : is_some first ≡ true → all ≡ before ++ left_over (i + 1)
-    entry_again there = so_far ∙ ap (λ l. before ++ l) (entries_on ∙ ap (λ b. (if b then [] else own) ++ left_over (i + 1)) (key_there (take i xs) x.0.text ∙ ap is_some (sym found) ∙ there))
+    pub entry_again : is_some first ≡ true → all ≡ before ⊕ left_over (i + 1)
+    entry_again there = so_far ∙ ap (λ l. before ⊕ l) (entries_on ∙ ap (λ b. (if b then [] else own) ++ left_over (i + 1)) (key_there (take i xs) x.0.text ∙ ap is_some (sym found) ∙ there))
 
     -- the first of its key
-    pub entry_first : is_some first ≡ false → after ≡ before ++ own → all ≡ after ++ left_over (i + 1)
+    pub entry_first : is_some first ≡ false → after ≡ before ⊕ own → all ≡ after ⊕ left_over (i + 1)
     entry_first new told =
-        so_far ∙ ap (λ l. before ++ l) (entries_on ∙ ap (λ b. (if b then [] else own) ++ left_over (i + 1)) (key_there (take i xs) x.0.text ∙ ap is_some (sym found) ∙ new))
-        ∙ sym (append_assoc before own (left_over (i + 1))) ∙ ap (λ l. l ++ left_over (i + 1)) (sym told)
+        so_far ∙ ap (λ l. before ⊕ l) (entries_on ∙ ap (λ b. (if b then [] else own) ++ left_over (i + 1)) (key_there (take i xs) x.0.text ∙ ap is_some (sym found) ∙ new))
+        ∙ sym (room_both before own (left_over (i + 1))) ∙ ap (λ l. l ⊕ left_over (i + 1)) (sym told)
 
 -- ---- whether what is given is null
 

@@ -1,5 +1,5 @@
 -- Private: leads to `TypeBreaks` and `UndefinedVariableIn`. What is told of values, types and entries as the program has them.
-use Rattle.std.specs.Prelude.{◌≡◌, ◌++◌, ◌∷◌, [], List, Vec, find, bytes_eq, Option, IfSome}
+use Rattle.std.specs.Prelude.{◌≡◌, ◌∷◌, [], List, Vec, find, bytes_eq, Option, IfSome}
 use Rattle.std.specs.declared.alloc.Global.{Global}
 use Rattle.indexmap.specs.IndexMap.{IndexMap}
 use Rattle.graphql_names.specs.Placed.{Placed, Place}
@@ -23,6 +23,7 @@ use Rattle.graphql_schema.specs.declared.schema.Schema.{Schema}
 use Rattle.graphql_schema.specs.in_schema_types.TypeView.{extended_type, name_text}
 use Rattle.graphql_schema.specs.in_schema_types.declared.extended_type.ExtendedType.{ExtendedType}
 use Rattle.fault_data.specs.FaultView.{faults_of}
+use Rattle.fault_data.specs.Room.{◌⊕◌}
 use Rattle.fault_data.specs.declared.fault.Fault.{Fault}
 use Rattle.fault_data.specs.in_rule_definitions.Diagnostics.{UndefinedInputValue}
 use Rattle.fault_data.specs.in_rule_definitions.Faults.{wrong}
@@ -37,9 +38,9 @@ use Rattle.rule_values.specs.declared.objects.InputFields.{InputFields}
 use Rattle.schema_inputs.specs.Inputs.{AreRequired}
 use Rattle.rule_values.specs.declared.wanted.Wanted.{Wanted}
 
--- the faults that were there, and after them these
+-- the faults that were there, and after them these, as far as there is room
 abbrev pub Tells : Vec Fault Global → Vec Fault Global → List PlacedFault → Type 0
-Tells old new told = faults_of new ≡ faults_of old ++ told
+Tells old new told = faults_of new ≡ faults_of old ⊕ told
 
 abbrev Definitions : Type 0
 Definitions = List (Node VariableDefinition)

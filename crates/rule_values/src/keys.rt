@@ -1,9 +1,10 @@
 //! Keys of objects.
-ghost use Rattle.std.specs.Prelude.{◌≡◌, ◌++◌, [], OnOk};
+ghost use Rattle.std.specs.Prelude.{◌≡◌, [], OnOk};
 ghost use Rattle.graphql_names.specs.Node.{content};
 ghost use Rattle.graphql_names.specs.Placed.{name_tree};
 ghost use Rattle.tree_literals.specs.ValueTree.{value_tree, item_trees, entry_trees};
 ghost use Rattle.fault_data.specs.FaultView.{faults_of};
+ghost use Rattle.fault_data.specs.Room.{◌⊕◌};
 ghost use Rattle.rule_values.specs.KeyFaults.{key_again, repeated_keys, key_faults, key_faults_items, key_faults_object, key_faults_entries};
 
 use fault_data::{DiagnosticData, Fault, tell};
@@ -20,7 +21,7 @@ fn unique_input_value(
     key: &Name,
     faults: &mut Vec<Fault>,
 ) -> Result<(), AllocError>
-    ensures { OnOk result (faults_of faults.new ≡ faults_of faults.old ++ key_again first (name_tree key.now)) }
+    ensures { OnOk result (faults_of faults.new ≡ faults_of faults.old ⊕ key_again first (name_tree key.now)) }
 {
     let Some(original_definition) = first else {
         return Ok(());
@@ -41,7 +42,7 @@ fn tell_repeated_keys(
     entries: &[(Name, Node<Value>)],
     faults: &mut Vec<Fault>,
 ) -> Result<(), AllocError>
-    ensures { OnOk result (faults_of faults.new ≡ faults_of faults.old ++ repeated_keys [] (entry_trees value_tree entries.now)) }
+    ensures { OnOk result (faults_of faults.new ≡ faults_of faults.old ⊕ repeated_keys [] (entry_trees value_tree entries.now)) }
 {
     let mut places = IndexMap::new(*faults.allocator());
     for entry in entries {
@@ -56,7 +57,7 @@ pub(crate) fn tell_key_faults(
     value: &Node<Value>,
     faults: &mut Vec<Fault>,
 ) -> Result<(), AllocError>
-    ensures { OnOk result (faults_of faults.new ≡ faults_of faults.old ++ key_faults (value_tree (content value.now))) }
+    ensures { OnOk result (faults_of faults.new ≡ faults_of faults.old ⊕ key_faults (value_tree (content value.now))) }
 {
     tell_keys(value.content(), faults)
 }
@@ -65,7 +66,7 @@ pub(crate) fn tell_key_faults(
 #[cycle(keys)]
 #[tactic(auto, using(tree_literals::proofs::Trees::value_tree_rules))]
 fn tell_keys(value: &Value, faults: &mut Vec<Fault>) -> Result<(), AllocError>
-    ensures { OnOk result (faults_of faults.new ≡ faults_of faults.old ++ key_faults (value_tree value.now)) }
+    ensures { OnOk result (faults_of faults.new ≡ faults_of faults.old ⊕ key_faults (value_tree value.now)) }
 {
     match value {
         Value::List(items) => tell_keys_of_items(items, faults),
@@ -81,8 +82,9 @@ fn tell_keys(value: &Value, faults: &mut Vec<Fault>) -> Result<(), AllocError>
 }
 
 #[cycle(keys)]
+#[tactic(auto, using(crate::proofs::RoomSteps::room_steps))]
 fn tell_keys_of_items(items: &[Node<Value>], faults: &mut Vec<Fault>) -> Result<(), AllocError>
-    ensures { OnOk result (faults_of faults.new ≡ faults_of faults.old ++ key_faults_items (item_trees value_tree items.now)) }
+    ensures { OnOk result (faults_of faults.new ≡ faults_of faults.old ⊕ key_faults_items (item_trees value_tree items.now)) }
 {
     for item in items {
         tell_keys(item.content(), faults)?;
@@ -91,22 +93,24 @@ fn tell_keys_of_items(items: &[Node<Value>], faults: &mut Vec<Fault>) -> Result<
 }
 
 #[cycle(keys)]
+#[tactic(auto, using(crate::proofs::RoomSteps::room_steps))]
 fn tell_keys_of_object(
     entries: &[(Name, Node<Value>)],
     faults: &mut Vec<Fault>,
 ) -> Result<(), AllocError>
-    ensures { OnOk result (faults_of faults.new ≡ faults_of faults.old ++ key_faults_object (entry_trees value_tree entries.now)) }
+    ensures { OnOk result (faults_of faults.new ≡ faults_of faults.old ⊕ key_faults_object (entry_trees value_tree entries.now)) }
 {
     tell_repeated_keys(entries, faults)?;
     tell_keys_of_entries(entries, faults)
 }
 
 #[cycle(keys)]
+#[tactic(auto, using(crate::proofs::RoomSteps::room_steps))]
 fn tell_keys_of_entries(
     entries: &[(Name, Node<Value>)],
     faults: &mut Vec<Fault>,
 ) -> Result<(), AllocError>
-    ensures { OnOk result (faults_of faults.new ≡ faults_of faults.old ++ key_faults_entries (entry_trees value_tree entries.now)) }
+    ensures { OnOk result (faults_of faults.new ≡ faults_of faults.old ⊕ key_faults_entries (entry_trees value_tree entries.now)) }
 {
     for entry in entries {
         tell_keys(entry.1.content(), faults)?;

@@ -1,8 +1,8 @@
 //! Rules on values: a value fits the type that it is given for, the variables in it are defined, and the keys of its objects
 //! differ (sections 3.5 to 3.10, 5.6 and 5.8.3).
 //!
-//! For the layers above: each check adds exactly the faults by which the rules of its name break, which are predicates of
-//! `rule_definitions` (`specs/Values.antt`) on the value's tree.
+//! For the layers above: each check adds exactly the faults by which the rules of its name break, as far as there is room for
+//! them; the rules are predicates of `rule_definitions` (`specs/Values.antt`) on the value's tree.
 //!
 //! The schema is given as an `IndexedSchema`: with `SchemaInputs`, which are found once, a use of many arguments or input fields
 //! costs what it gives.
@@ -26,7 +26,7 @@ pub use checks::{check_value, type_breaks, undefined_variables, unique_input_val
 pub use defined::DefinedVariables;
 pub use fault_data::{
     DiagnosticData, DirectiveArgumentCoordinate, DirectiveCoordinate, Fault,
-    FieldArgumentCoordinate, SchemaCoordinate, TypeAttributeCoordinate, tell,
+    FieldArgumentCoordinate, SchemaCoordinate, TypeAttributeCoordinate, is_full, tell,
 };
 pub use graphql_schema::Schema;
 pub use indexed::IndexedSchema;

@@ -10,7 +10,7 @@ ghost use Rattle.rule_values.specs.Wanting.{is_not_provided, nulls_of};
 ghost use Rattle.rule_values.specs.Telling.{Tells, undefined_key_of, told_key, required_fields_of, required_among_entries, required_of_given, required_by_given, AreRequiredIfKnown};
 
 use crate::find::find_input;
-use fault_data::{DiagnosticData, Fault, TypeAttributeCoordinate, tell};
+use fault_data::{DiagnosticData, Fault, TypeAttributeCoordinate, is_full, tell};
 use graphql_names::{Name, Node, SourceSpan};
 use indexmap::IndexMap;
 use schema_components::Component;
@@ -194,6 +194,10 @@ fn tell_required(
     if fields.all.len() == 0 {
         return Ok(());
     }
+    // A short text can have many objects that lack many fields each.
+    if is_full(faults) {
+        return Ok(());
+    }
     let nulls = nulls_by_key(*faults.allocator(), entries)?;
     let given = GivenObject {
         name,
@@ -219,6 +223,7 @@ fn tell_required_of(
 }
 
 /// Adds the faults of the required ones of these fields that `given` does not have.
+#[tactic(auto, using(crate::proofs::RoomSteps::room_steps))]
 fn tell_each_listed(
     given: &GivenObject<'_>,
     fields: &[(Name, Component<InputValueDefinition>)],
@@ -233,6 +238,7 @@ fn tell_each_listed(
 }
 
 /// Adds the faults of the required ones of these fields that `given` does not have.
+#[tactic(auto, using(crate::proofs::RoomSteps::room_steps))]
 fn tell_each_required(
     given: &GivenObject<'_>,
     fields: &IndexMap<Name, Component<InputValueDefinition>>,

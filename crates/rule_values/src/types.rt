@@ -41,6 +41,7 @@ pub(crate) fn tell_type_faults(
 /// is inside a list or an object.
 // It is not inlined, so that the faults that it makes take no stack at each level of a value.
 #[inline(never)]
+#[tactic(auto, using(crate::proofs::RoomSteps::room_steps))]
 fn tell_form(
     wanted: &Wanted<'_>,
     found: &FoundType<'_>,
@@ -63,6 +64,7 @@ fn tell_form(
 
 /// Adds the faults of a value against the type that is wanted. A type that is not there takes every value.
 #[cycle(types)]
+#[tactic(auto, using(crate::proofs::RoomSteps::room_steps))]
 fn tell_type(
     judging: &Judging<'_>,
     value: &Node<Value>,

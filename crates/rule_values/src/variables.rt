@@ -1,9 +1,10 @@
 //! Variables in values. What tells of one is not inlined, so that it takes no stack at each level of a value.
-ghost use Rattle.std.specs.Prelude.{◌≡◌, ◌++◌, OnOk};
+ghost use Rattle.std.specs.Prelude.{◌≡◌, OnOk};
 ghost use Rattle.std.specs.List.{list_any};
 ghost use Rattle.graphql_names.specs.Placed.{name_tree};
 ghost use Rattle.tree_literals.specs.ValueTree.{value_tree, item_trees};
 ghost use Rattle.fault_data.specs.FaultView.{faults_of};
+ghost use Rattle.fault_data.specs.Room.{◌⊕◌};
 ghost use Rattle.rule_values.specs.Wanting.{variables_of};
 ghost use Rattle.rule_values.specs.VariableFaults.{undefined_variable, variable_faults, variable_faults_items};
 ghost use Rattle.rule_values.specs.Telling.{Tells, variable_faults_of, variable_faults_among};
@@ -22,7 +23,7 @@ fn undefined_variable(
     variables: &DefinedVariables<'_>,
     faults: &mut Vec<Fault>,
 ) -> Result<(), AllocError>
-    ensures { OnOk result (faults_of faults.new ≡ faults_of faults.old ++ undefined_variable (variables_of variables.now) location (name_tree name.now)) }
+    ensures { OnOk result (faults_of faults.new ≡ faults_of faults.old ⊕ undefined_variable (variables_of variables.now) location (name_tree name.now)) }
 {
     match variables.get(name) {
         Some(_) => Ok(()),
@@ -54,7 +55,7 @@ fn tell_variables(
     variables: &DefinedVariables<'_>,
     faults: &mut Vec<Fault>,
 ) -> Result<(), AllocError>
-    ensures { OnOk result (faults_of faults.new ≡ faults_of faults.old ++ variable_faults (variables_of variables.now) location (value_tree value.now)) }
+    ensures { OnOk result (faults_of faults.new ≡ faults_of faults.old ⊕ variable_faults (variables_of variables.now) location (value_tree value.now)) }
 {
     match value {
         Value::Variable(name) => undefined_variable(location, name, variables, faults),
@@ -70,12 +71,13 @@ fn tell_variables(
 }
 
 #[cycle(variables)]
+#[tactic(auto, using(crate::proofs::RoomSteps::room_steps))]
 fn tell_variables_of_items(
     items: &[Node<Value>],
     variables: &DefinedVariables<'_>,
     faults: &mut Vec<Fault>,
 ) -> Result<(), AllocError>
-    ensures { OnOk result (faults_of faults.new ≡ faults_of faults.old ++ variable_faults_items (variables_of variables.now) (item_trees value_tree items.now)) }
+    ensures { OnOk result (faults_of faults.new ≡ faults_of faults.old ⊕ variable_faults_items (variables_of variables.now) (item_trees value_tree items.now)) }
 {
     for item in items {
         tell_variables(item.content(), item.location(), variables, faults)?;
@@ -84,6 +86,7 @@ fn tell_variables_of_items(
 }
 
 #[cycle(variables)]
+#[tactic(auto, using(crate::proofs::RoomSteps::room_steps))]
 fn tell_variables_of_entries(
     entries: &[(Name, Node<Value>)],
     variables: &DefinedVariables<'_>,

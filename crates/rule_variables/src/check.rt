@@ -3,7 +3,7 @@ ghost use Rattle.std.specs.Prelude.{◌≡◌, OnOk};
 ghost use Rattle.graphql_names.specs.Placed.{Place, node_tree};
 ghost use Rattle.document_typed_operations.specs.TypedDocument.{typed_operation_tree};
 ghost use Rattle.rule_document_ground.specs.in_typed_operations.DocumentView.{meant_by_operation};
-ghost use Rattle.rule_document_ground.specs.in_schema.SchemaOf.{schema_tree};
+ghost use Rattle.graphql_schema.specs.SchemaOf.{schema_tree};
 ghost use Rattle.rule_uses.specs.in_fault_data.Adds.{Adds};
 ghost use Rattle.rule_uses.specs.in_rule_values.Wanting.{variables_of};
 ghost use Rattle.schema_types.specs.Addresses.{Address};

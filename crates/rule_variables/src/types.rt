@@ -3,7 +3,7 @@ ghost use Rattle.std.specs.Prelude.{◌≡◌, IfOk, OnOk};
 ghost use Rattle.graphql_names.specs.Placed.{node_tree};
 ghost use Rattle.tree_operations.specs.OperationTree.{variable_definition_tree};
 ghost use Rattle.rule_definitions.specs.Words.{AtSomeIndex};
-ghost use Rattle.rule_document_ground.specs.in_schema.SchemaOf.{schema_tree};
+ghost use Rattle.graphql_schema.specs.SchemaOf.{schema_tree};
 ghost use Rattle.rule_uses.specs.in_fault_data.FaultView.{fault_of};
 ghost use Rattle.rule_uses.specs.in_fault_data.Adds.{Adds};
 ghost use Rattle.rule_uses.specs.in_rule_values.Telling.{Tells};

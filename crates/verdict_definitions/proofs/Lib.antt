@@ -1,3 +1,4 @@
+pub mod ToldUnlessFull
 pub mod RowReading
 pub mod RowTrees
 pub mod RowJudging

@@ -1,5 +1,5 @@
 -- Documents that are refused with one fault: it is so, and no fault of typing is left out. The bytes of such answers.
-use Rattle.std.proofs.Common.{◌≡◌, [], ◌∷◌, codes, None, refl, sym, ap, subst, inr, arith}
+use Rattle.std.proofs.Common.{◌≡◌, [], ◌∷◌, codes, None, refl, sym, ap, subst, inl, inr, arith}
 use Rattle.std.specs.Fmt.{digits}
 use Rattle.graphql_names.specs.Placed.{Place}
 use Rattle.schema_built_in.specs.Table.{built_in_definitions}
@@ -37,7 +37,7 @@ module _ (schema : SchemaTree Place) (document : SourceText) (tree : Tree) (read
         subst (λ m. TypingFails m tree f) (sym (same_meanings schema)) (subst (λ t. TypingFailsOver schema t f) (one_tree 2 document tree other reads read) fails)));
     rules = λ inside other read typed f fails.
         let same = one_tree 2 document tree other reads read in
-        is_only fault (of_document f) (alone (λ g broken. typed g (subst (λ t. TypingFailsOver schema t g) (sym same) broken)) f (subst (λ t. DocumentRuleFailsBeside schema t f) same fails));
+        inl (is_only fault (of_document f) (alone (λ g broken. typed g (subst (λ t. TypingFailsOver schema t g) (sym same) broken)) f (subst (λ t. DocumentRuleFailsBeside schema t f) same fails)));
   }
 
 -- S `type Query { field: Int }`, D `{ missing }`

@@ -1,5 +1,5 @@
 -- What may be answered of texts: lists of faults, and bytes.
-use Rattle.std.specs.Prelude.{◌≡◌, ◌≢◌, ℕ, ◌+◌, List, [], ◌∷◌, ◌++◌, flat_map, Contains, codes, None, Some, if◌then◌else◌, ◌⊎◌}
+use Rattle.std.specs.Prelude.{◌≡◌, ◌≢◌, ℕ, ◌+◌, ◌≤◌, List, [], ◌∷◌, ◌++◌, length, flat_map, Contains, codes, None, Some, if◌then◌else◌, ◌⊎◌}
 use Rattle.std.specs.Fmt.{decimal}
 use Rattle.graphql_names.specs.Places.{is_built_in}
 use Rattle.graphql_names.specs.Placed.{Place}
@@ -7,6 +7,7 @@ use Rattle.schema_fold.specs.BuildErrors as folding
 use Rattle.schema_types.specs.SchemaTree.{SchemaTree}
 use Rattle.document_typing.specs.in_schema_building.Numbers.{HaveNumbers}
 use Rattle.rule_definitions.specs.Told.{PlacedFault}
+use Rattle.rule_definitions.specs.Room.{most_told}
 use Rattle.graphql_faults.specs.in_document_rule_definitions.Told.{PlacedDocumentFault}
 use Rattle.document_typing.specs.TypingFaults as typing
 use Rattle.graphql_faults.specs.DetailsMessages.{details_message}
@@ -31,9 +32,14 @@ UnreadFaults nesting first (text ∷ texts) faults =
 abbrev pub AllSay : (AnyFault → Type 0) → List AnyFault → Type 0
 AllSay says faults = (fault : AnyFault) → Contains faults fault → says fault
 
+-- the fault is told, or as many are told as one call tells
+abbrev pub IsToldUnlessFull : List AnyFault → AnyFault → Type 0
+IsToldUnlessFull faults fault = Contains faults fault ⊎ (most_told ≤ length faults)
+
 -- The schema texts are refused with these faults: there are some, and each is so. Those of unread texts stand alone, one for
 -- each; or each text is read. Then that no number is left for an extension stands alone (`spent`); each breach of a folding rule
--- is among them where there are numbers; and where folding rules hold, each of a rule on schemas, of those on cycles some (`rules`).
+-- is among them where there are numbers; and where folding rules hold, each of a rule on schemas, of those on cycles some
+-- (`rules`), unless as many are told as one call tells.
 pub record RefusesSchemas (terms : Terms) (schemas : List SourceText) (faults : List AnyFault) : Type 0 where
   pub some : faults ≢ []
   pub says : AllSay (SaysSchema terms schemas) faults
@@ -42,7 +48,7 @@ pub record RefusesSchemas (terms : Terms) (schemas : List SourceText) (faults : 
       → (faults ≡ spent ∷ []) ⊎ ((fault : folding.BuildFault) → FoldingFails terms trees fault → Contains faults (of_folding fault))
   pub rules : AreWithin terms.nesting terms.first_text schemas → (trees : List Tree) → ReadsAll terms.first_text schemas trees
       → HaveNumbers terms.first_extension (all_definitions trees) → ((fault : folding.BuildFault) → FoldingFails terms trees fault → ⊥)
-      → (fault : PlacedFault) → SchemaRuleFailsBesideCycles terms trees fault → Contains faults (of_rule fault)
+      → (fault : PlacedFault) → SchemaRuleFailsBesideCycles terms trees fault → IsToldUnlessFull faults (of_rule fault)
   pub spent : AreWithin terms.nesting terms.first_text schemas → (trees : List Tree) → ReadsAll terms.first_text schemas trees
       → (HaveNumbers terms.first_extension (all_definitions trees) → ⊥) → faults ≡ spent ∷ []
 
@@ -52,7 +58,8 @@ UnreadAlone nesting number document faults = (fault : AnyFault) × ((faults ≡ 
 
 -- The document, which has this number, is refused over the schema with these faults: there are some, and each is so. That it
 -- is unread stands alone; of a read one each breach of a rule of typing is among them; and where none is, each of a rule on
--- documents, of those on fragments that reach themselves, on subscriptions and on merging some (`rules`).
+-- documents, of those on fragments that reach themselves, on subscriptions and on merging some (`rules`), unless as many are told
+-- as one call tells.
 pub record RefusesDocument (schema : SchemaTree Place) (nesting number : ℕ) (document : SourceText) (faults : List AnyFault) : Type 0 where
   pub some : faults ≢ []
   pub says : AllSay (SaysDocument schema nesting number document) faults
@@ -61,7 +68,7 @@ pub record RefusesDocument (schema : SchemaTree Place) (nesting number : ℕ) (d
       → (fault : typing.TypingFault Place) → TypingFailsOver schema tree fault → Contains faults (of_typing fault)
   pub rules : IsWithin nesting number document → (tree : Tree) → ReadsText number document tree
       → ((fault : typing.TypingFault Place) → TypingFailsOver schema tree fault → ⊥)
-      → (fault : PlacedDocumentFault) → DocumentRuleFailsBeside schema tree fault → Contains faults (of_document fault)
+      → (fault : PlacedDocumentFault) → DocumentRuleFailsBeside schema tree fault → IsToldUnlessFull faults (of_document fault)
 
 -- The pair is refused with these faults: the schema texts are, or they are accepted and the document is.
 abbrev pub Refuses : Terms → List SourceText → SourceText → List AnyFault → Type 0

@@ -25,5 +25,5 @@ returns-then-not-is_empty-clause-refused c =
     let faults = diagnostics_of c.tell_lasting_faults.new.list in
     subst (λ (v : CheckedSchemaParts). TypesDocument (schema_tree v.schema) tree document found → RefusesTyping (schema_tree v.schema) tree faults) c.schema.view_is
     (λ types. let told = subst (λ (x : Schema). TypedLastingTold (schema_tree x) document found faults) c.new-over.ensures c.in_ok-tell_lasting_faults.ensures.told types.typed in
-    refuses_typing (schema_tree c.schema.inside.schema) tree document found faults types (λ e. let h = c.if-not-is_empty.ensures.1 e in absurd cc) told.0 told.1.0 told.1.1)
+    refuses_typing (schema_tree c.schema.inside.schema) tree document found faults types (λ e. let h = c.if-not-is_empty.ensures.1 e in absurd cc) told.0 told.1.0 told.1.1.0 told.1.1.1)
     c.in_ok-document.ensures.types

@@ -3,12 +3,13 @@ use Rattle.std.proofs.lemmas.Result.{on_ok_weaker}
 use Rattle.fault_data.specs.FaultView.{fault_of, faults_of}
 use Rattle.rule_uses.specs.Alone.{ArgumentsBreak}
 use Rattle.rule_uses.specs.Trees.{arguments_of}
-use Rattle.graphql_rules.proofs.GivenFacts.{only_added}
+use Rattle.graphql_faults.specs.DetailsView.{diagnostics_of}
+use Rattle.graphql_rules.proofs.Appended.{appends_first}
 use Rattle.graphql_rules.proofs.given.validate_arguments.Goals as goal
 
 pub returns-clause-told : goal.returns-clause-told
 returns-clause-told c =
-    let told = faults_of c.check_arguments_alone.new.faults in
     on_ok_weaker c.append_faults.result
-    (λ added. (told, (added, only_added (faults_of c.new-faults.result) told (ArgumentsBreak (arguments_of c.args.arguments.now)) (ap (λ l. map fault_of l) c.new-faults.ensures.items) c.in_ok-check_arguments_alone.ensures)))
+    (appends_first (diagnostics_of c.args.list.now) (diagnostics_of c.append_faults.new.self) (faults_of c.new-faults.result) (faults_of c.check_arguments_alone.new.faults)
+    (ArgumentsBreak (arguments_of c.args.arguments.now)) (ap (λ l. map fault_of l) c.new-faults.ensures.items) c.in_ok-check_arguments_alone.ensures)
     c.append_faults.ensures.added

@@ -10,8 +10,9 @@ use Rattle.fault_data.specs.FaultView.{fault_of, faults_of}
 use Rattle.fault_data.specs.Adds.{Adds}
 use Rattle.rule_uses.specs.in_rule_values.Wanting.{variables_of}
 use Rattle.rule_uses.specs.Trees.{directives_of, tree_of}
+use Rattle.graphql_faults.specs.DetailsView.{diagnostics_of}
 use Rattle.graphql_rules.specs.Given.{Each, LeadsToDirective}
-use Rattle.graphql_rules.proofs.GivenFacts.{only_added}
+use Rattle.graphql_rules.proofs.Appended.{appends_first}
 use Rattle.graphql_rules.proofs.given.validate_directives.Goals as goal
 
 pub returns-clause-told : goal.returns-clause-told
@@ -32,7 +33,8 @@ returns-clause-told g c =
               directives_of c.deref.result.now,
               (
                 subst (λ (l : List (Node Directive)). Each (LeadsToDirective g.D.Deref.deref_gives) given.1.1.0 (directives_of l)) (sym c.deref.ensures.value) given.1.1.1.1,
-                (faults_of c.check_directives.new.faults, (added, only_added (faults_of c.new-faults.result) (faults_of c.check_directives.new.faults) _ (ap (λ l. map fault_of l) c.new-faults.ensures.items) checked)),
+                appends_first (diagnostics_of c.args.list.now) (diagnostics_of c.append_faults.new.self) (faults_of c.new-faults.result) (faults_of c.check_directives.new.faults) _
+                    (ap (λ l. map fault_of l) c.new-faults.ensures.items) checked added,
               ),
             ),
           ),

@@ -6,7 +6,7 @@ use Rattle.rule_definitions.specs.Rules.{SchemaUsesBreak}
 use Rattle.rule_definitions.specs.Told.{Told}
 use Rattle.fault_data.specs.Adds.{Adds}
 use Rattle.fault_data.specs.FaultView.{fault_of, faults_of}
-use Rattle.graphql_rules.proofs.Whole.{tells_schema}
+use Rattle.graphql_rules.proofs.Whole.{all_told, first_told, tells_schema}
 use Rattle.graphql_rules.proofs.schema.schema_faults.Goals as goal
 
 pub check_schema_directives-requires : goal.check_schema_directives-requires
@@ -14,6 +14,17 @@ check_schema_directives-requires c = subst (λ (x : Schema). AreAllDistinct (sch
 
 pub returns : goal.returns
 returns c =
-    let uses = subst (λ (x : Schema). Adds c.check_cycles.new.faults c.check_schema_directives.new.faults (Told (schema_tree x) SchemaUsesBreak)) c.new-indexed.ensures c.in_ok-check_schema_directives.ensures in
-    tells_schema (schema_tree c.args.schema.now) (faults_of c.new-faults.result) (faults_of c.check_types.new.faults) (faults_of c.check_interfaces.new.faults) (faults_of c.check_cycles.new.faults) (faults_of c.check_schema_directives.new.faults)
-    (ap (λ l. map fault_of l) c.new-faults.ensures.items) c.in_ok-check_types.ensures c.in_ok-check_interfaces.ensures c.in_ok-check_cycles.ensures uses
+    let s = schema_tree c.args.schema.now in
+    let none = faults_of c.new-faults.result in
+    let types = faults_of c.check_types.new.faults in
+    let interfaces = faults_of c.check_interfaces.new.faults in
+    let cycles = faults_of c.check_cycles.new.faults in
+    let uses = faults_of c.check_schema_directives.new.faults in
+    let is_none = ap (λ l. map fault_of l) c.new-faults.ensures.items in
+    let uses_added = subst (λ (x : Schema). Adds c.check_cycles.new.faults c.check_schema_directives.new.faults (Told (schema_tree x) SchemaUsesBreak)) c.new-indexed.ensures c.in_ok-check_schema_directives.ensures in (
+      all_told s none types interfaces cycles uses is_none c.in_ok-check_types.ensures c.in_ok-check_interfaces.ensures c.in_ok-check_cycles.ensures uses_added,
+      (
+        first_told s none types interfaces cycles uses is_none c.in_ok-check_types.ensures c.in_ok-check_interfaces.ensures c.in_ok-check_cycles.ensures uses_added,
+        tells_schema s none types interfaces cycles uses is_none c.in_ok-check_types.ensures c.in_ok-check_interfaces.ensures c.in_ok-check_cycles.ensures uses_added,
+      ),
+    )

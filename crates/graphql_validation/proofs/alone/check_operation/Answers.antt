@@ -6,7 +6,7 @@ use Rattle.document_typed_operations.specs.declared.operation.Operation.{Operati
 use Rattle.rule_fragments.specs.in_typed_operations.DocumentView.{document_meant, operation_meant}
 use Rattle.rule_document_definitions.specs.Told.{places_alone}
 use Rattle.rule_fragments.specs.in_ground.NotedNames.{noted_names}
-use Rattle.rule_definitions.proofs.Listing.{gains_both, gains_same}
+use Rattle.rule_definitions.proofs.Adding.{gains_both, gains_same}
 use Rattle.rule_fragments.specs.in_ground.Reach.{reached_members, reached_fragments_of}
 use Rattle.rule_fragments.proofs.in_ground.OfDocuments.{ReachesFrom, operation_reaches}
 use Rattle.graphql_validation.proofs.Noting.{fragments_noted}

@@ -10,8 +10,9 @@ use Rattle.rule_fragments.specs.in_schema.declared.schema.Schema.{Schema}
 use Rattle.graphql_validation.specs.Steps.{TellsMerging, AllMerge}
 use Rattle.graphql_validation.specs.Operations.{all_told}
 use Rattle.graphql_validation.specs.TellsDocument.{IsTypedUnder, TellsDocument}
-use Rattle.rule_merging.proofs.Behind.{nothing_told, told_nothing, begins_same, refused_so}
-use Rattle.graphql_validation.proofs.WholeDocuments.{own_names, reaches_typed, tells_document, tells_merging, silent_is_valid, valid_is_silent, all_none, only_none}
+use Rattle.rule_merging.proofs.Behind.{begins_same, refused_so}
+use Rattle.graphql_validation.proofs.FirstTold.{none_told}
+use Rattle.graphql_validation.proofs.WholeDocuments.{own_names, document_told, nothing_beside, tells_merging, silent_is_valid, valid_is_silent, only_none}
 use Rattle.graphql_validation.proofs.document.validate_with_possible_types.Goals as goal
 
 pub returns-in_err-faults-clause-begins : goal.returns-in_err-faults-clause-begins
@@ -30,9 +31,8 @@ returns-then-is_nothing-clause-told c =
     let bs = brokens_of c.in_ok-breaches.breaches in
     let p = c.passes_path_bound-is_passed.result in
     let bound = c.passes_path_bound-is_passed.ensures in
-    let none : IsTypedUnder s d → TellsDocument s d [] = λ typed. subst (TellsDocument s d) (all_none fs bs p (c.is_nothing.ensures.0 c.if-is_nothing.true))
-    (tells_document s d fs bs p (c.in_ok-faults.ensures (reaches_typed s d typed) (own_names s d typed)) (c.in_ok-breaches.ensures (own_names s d typed)) bound.right bound.found) in
-    on_ok_weaker c.merge_operations.result (λ h typed. (h.0, (h.1.0, tells_merging s d (none typed) h.0 h.1.1))) (subst (λ (y : Schema). OnOk c.merge_operations.result (TellsMerging (schema_tree y) (document_meant c.args.document.now) c.args.list.now c.merge_operations.new.list)) c.schema.ensures c.merge_operations.ensures.told)
+    let none : IsTypedUnder s d → TellsDocument s d [] = λ typed. nothing_beside s d typed fs bs p c.in_ok-faults.ensures c.in_ok-breaches.ensures bound.right bound.found (c.is_nothing.ensures.0 c.if-is_nothing.true) in
+    on_ok_weaker c.merge_operations.result (λ h typed. (h.0, (h.1.0, tells_merging s d (none typed) h.0 h.1.1))) (subst (λ (y : Schema). OnOk c.merge_operations.result (TellsMerging (schema_tree y) d c.args.list.now c.merge_operations.new.list)) c.schema.ensures c.merge_operations.ensures.told)
 
 pub returns-then-is_nothing-clause-silent : goal.returns-then-is_nothing-clause-silent
 returns-then-is_nothing-clause-silent c =
@@ -42,25 +42,17 @@ returns-then-is_nothing-clause-silent c =
     let bs = brokens_of c.in_ok-breaches.breaches in
     let p = c.passes_path_bound-is_passed.result in
     let bound = c.passes_path_bound-is_passed.ensures in
-    let none : IsTypedUnder s d → TellsDocument s d [] = λ typed. subst (TellsDocument s d) (all_none fs bs p (c.is_nothing.ensures.0 c.if-is_nothing.true))
-    (tells_document s d fs bs p (c.in_ok-faults.ensures (reaches_typed s d typed) (own_names s d typed)) (c.in_ok-breaches.ensures (own_names s d typed)) bound.right bound.found) in
+    let none : IsTypedUnder s d → TellsDocument s d [] = λ typed. nothing_beside s d typed fs bs p c.in_ok-faults.ensures c.in_ok-breaches.ensures bound.right bound.found (c.is_nothing.ensures.0 c.if-is_nothing.true) in
     on_ok_weaker c.merge_operations.result
-    (λ merged typed same. silent_is_valid s d (named_if_own d c.fragments_differ.ensures (own_names s d typed)) (none typed) (merged same)) (subst (λ (y : Schema). OnOk c.merge_operations.result (diagnostics_of c.merge_operations.new.list ≡ diagnostics_of c.args.list.now → AllMerge (schema_tree y) (document_meant c.args.document.now))) c.schema.ensures c.merge_operations.ensures.merged)
+    (λ merged typed same. silent_is_valid s d (named_if_own d c.fragments_differ.ensures (own_names s d typed)) (none typed) (merged same)) (subst (λ (y : Schema). OnOk c.merge_operations.result (diagnostics_of c.merge_operations.new.list ≡ diagnostics_of c.args.list.now → AllMerge (schema_tree y) d)) c.schema.ensures c.merge_operations.ensures.merged)
 
 pub returns-then-is_nothing-clause-accepts : goal.returns-then-is_nothing-clause-accepts
 returns-then-is_nothing-clause-accepts c =
     let s = schema_tree c.args.schema.now in
     let d = document_meant c.args.document.now in
-    let fs = faults_of c.in_ok-faults.faults in
-    let bs = brokens_of c.in_ok-breaches.breaches in
-    let p = c.passes_path_bound-is_passed.result in
-    let bound = c.passes_path_bound-is_passed.ensures in
-    let none : IsTypedUnder s d → TellsDocument s d [] = λ typed. subst (TellsDocument s d) (all_none fs bs p (c.is_nothing.ensures.0 c.if-is_nothing.true))
-    (tells_document s d fs bs p (c.in_ok-faults.ensures (reaches_typed s d typed) (own_names s d typed)) (c.in_ok-breaches.ensures (own_names s d typed)) bound.right bound.found) in
     on_ok_weaker c.merge_operations.result
-    (λ h typed valid within. told_nothing (diagnostics_of c.args.list.now) (diagnostics_of c.merge_operations.new.list) h.0 h.1.0
-    (valid_is_silent s d (named_if_own d c.fragments_differ.ensures (own_names s d typed)) h.0 (tells_merging s d (none typed) h.0 h.1.1) valid within))
-    (subst (λ (y : Schema). OnOk c.merge_operations.result (TellsMerging (schema_tree y) (document_meant c.args.document.now) c.args.list.now c.merge_operations.new.list)) c.schema.ensures c.merge_operations.ensures.told)
+    (λ told typed valid within. valid_is_silent s d (named_if_own d c.fragments_differ.ensures (own_names s d typed)) (diagnostics_of c.args.list.now) (diagnostics_of c.merge_operations.new.list) (told typed) valid within)
+    (returns-then-is_nothing-clause-told c)
 
 -- ---- where something is told
 
@@ -73,13 +65,7 @@ returns-clause-told c =
     let p = c.passes_path_bound-is_passed.result in
     let bound = c.passes_path_bound-is_passed.ensures in
     on_ok_weaker c.append_all.result
-    (λ h typed. (
-      all_told fs bs p,
-      (
-        h,
-        tells_document s d fs bs p (c.in_ok-faults.ensures (reaches_typed s d typed) (own_names s d typed)) (c.in_ok-breaches.ensures (own_names s d typed)) bound.right bound.found,
-      ),
-    ))
+    (λ h typed. document_told s d typed fs bs p c.in_ok-faults.ensures c.in_ok-breaches.ensures bound.right bound.found (diagnostics_of c.args.list.now) (diagnostics_of c.append_all.new.list) h)
     c.append_all.ensures.added
 
 pub returns-clause-silent : goal.returns-clause-silent
@@ -89,7 +75,7 @@ returns-clause-silent c =
     let p = c.passes_path_bound-is_passed.result in
     on_ok_weaker c.append_all.result
     (λ h typed same. absurd (true≢false (
-    sym (c.is_nothing.ensures.1 (only_none fs bs p (nothing_told (diagnostics_of c.args.list.now) (diagnostics_of c.append_all.new.list) (all_told fs bs p) h same)))
+    sym (c.is_nothing.ensures.1 (only_none fs bs p (none_told (diagnostics_of c.args.list.now) (diagnostics_of c.append_all.new.list) (all_told fs bs p) h same)))
     ∙ c.if-is_nothing.false)))
     c.append_all.ensures.added
 
@@ -97,12 +83,6 @@ pub returns-clause-accepts : goal.returns-clause-accepts
 returns-clause-accepts c =
     let s = schema_tree c.args.schema.now in
     let d = document_meant c.args.document.now in
-    let fs = faults_of c.in_ok-faults.faults in
-    let bs = brokens_of c.in_ok-breaches.breaches in
-    let p = c.passes_path_bound-is_passed.result in
-    let bound = c.passes_path_bound-is_passed.ensures in
     on_ok_weaker c.append_all.result
-    (λ h typed valid within. told_nothing (diagnostics_of c.args.list.now) (diagnostics_of c.append_all.new.list) (all_told fs bs p) h
-    (valid_is_silent s d (named_if_own d c.fragments_differ.ensures (own_names s d typed)) (all_told fs bs p)
-    (tells_document s d fs bs p (c.in_ok-faults.ensures (reaches_typed s d typed) (own_names s d typed)) (c.in_ok-breaches.ensures (own_names s d typed)) bound.right bound.found) valid within))
-    c.append_all.ensures.added
+    (λ told typed valid within. valid_is_silent s d (named_if_own d c.fragments_differ.ensures (own_names s d typed)) (diagnostics_of c.args.list.now) (diagnostics_of c.append_all.new.list) (told typed) valid within)
+    (returns-clause-told c)

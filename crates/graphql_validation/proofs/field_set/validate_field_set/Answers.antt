@@ -7,10 +7,9 @@ use Rattle.rule_fragments.specs.in_ground.Broken.{broken_of, brokens_of}
 use Rattle.rule_fragments.specs.in_schema.SchemaOf.{schema_tree}
 use Rattle.rule_fragments.specs.in_schema.declared.schema.Schema.{Schema}
 use Rattle.graphql_validation.specs.Steps.{TellsUnder}
-use Rattle.graphql_validation.specs.Operations.{all_told}
-use Rattle.graphql_validation.specs.Told.{set_meant, TellsFieldSet}
+use Rattle.graphql_validation.specs.Told.{set_meant}
 use Rattle.graphql_validation.proofs.FieldSets.{told_of_set, silent_set, valid_set}
-use Rattle.rule_merging.proofs.Behind.{nothing_told, told_nothing, begins_same, refused_so}
+use Rattle.rule_merging.proofs.Behind.{begins_same, refused_so}
 use Rattle.graphql_validation.proofs.field_set.validate_field_set.Goals as goal
 
 pub returns-in_err-document-clause-begins : goal.returns-in_err-document-clause-begins
@@ -25,40 +24,28 @@ returns-in_err-faults-clause-begins c = refused_so _ (begins_same (diagnostics_o
 pub returns-clause-told : goal.returns-clause-told
 returns-clause-told c =
     let s = schema_tree c.args.schema.now in
-    let set = set_meant c.args.field_set.now in
     let d = document_meant c.in_ok-document.document in
     let fs = faults_of c.in_ok-faults.faults in
     let bs = brokens_of c.new-2.result in
     let p = c.passes_path_bound-is_passed.result in
+    let bound = c.passes_path_bound-is_passed.ensures in
+    let parts = subst (λ (y : Schema). TellsUnder (schema_tree y) d fs) c.new-schema.ensures c.in_ok-faults.ensures in
     on_ok_weaker c.append_all.result
-    (λ h typed. (all_told fs bs p, (h, told_of_set s set d fs bs p c.in_ok-document.ensures (ap (map broken_of) c.new-2.ensures.items) (subst (λ (y : Schema). TellsUnder (schema_tree y) d fs) c.new-schema.ensures c.in_ok-faults.ensures) c.passes_path_bound-is_passed.ensures.right c.passes_path_bound-is_passed.ensures.found typed)))
+    (λ h. told_of_set s (set_meant c.args.field_set.now) (diagnostics_of c.args.list.now) (diagnostics_of c.append_all.new.list) d fs bs p c.in_ok-document.ensures (ap (map broken_of) c.new-2.ensures.items) parts bound.right bound.found h)
     c.append_all.ensures.added
 
 pub returns-clause-silent : goal.returns-clause-silent
 returns-clause-silent c =
     let s = schema_tree c.args.schema.now in
     let set = set_meant c.args.field_set.now in
-    let d = document_meant c.in_ok-document.document in
-    let fs = faults_of c.in_ok-faults.faults in
-    let bs = brokens_of c.new-2.result in
-    let p = c.passes_path_bound-is_passed.result in
     on_ok_weaker c.append_all.result
-    (λ h typed same. silent_set s set
-    (subst (λ told. TellsFieldSet s set told) (nothing_told (diagnostics_of c.args.list.now) (diagnostics_of c.append_all.new.list) (all_told fs bs p) h same)
-    (told_of_set s set d fs bs p c.in_ok-document.ensures (ap (map broken_of) c.new-2.ensures.items) (subst (λ (y : Schema). TellsUnder (schema_tree y) d fs) c.new-schema.ensures c.in_ok-faults.ensures) c.passes_path_bound-is_passed.ensures.right c.passes_path_bound-is_passed.ensures.found typed)))
-    c.append_all.ensures.added
+    (λ told typed same. silent_set s set (diagnostics_of c.args.list.now) (diagnostics_of c.append_all.new.list) (told typed) same)
+    (returns-clause-told c)
 
 pub returns-clause-accepts : goal.returns-clause-accepts
 returns-clause-accepts c =
     let s = schema_tree c.args.schema.now in
     let set = set_meant c.args.field_set.now in
-    let d = document_meant c.in_ok-document.document in
-    let fs = faults_of c.in_ok-faults.faults in
-    let bs = brokens_of c.new-2.result in
-    let p = c.passes_path_bound-is_passed.result in
     on_ok_weaker c.append_all.result
-    (λ h typed valid within. told_nothing (diagnostics_of c.args.list.now) (diagnostics_of c.append_all.new.list) (all_told fs bs p) h
-    (valid_set s set (all_told fs bs p)
-    (told_of_set s set d fs bs p c.in_ok-document.ensures (ap (map broken_of) c.new-2.ensures.items) (subst (λ (y : Schema). TellsUnder (schema_tree y) d fs) c.new-schema.ensures c.in_ok-faults.ensures) c.passes_path_bound-is_passed.ensures.right c.passes_path_bound-is_passed.ensures.found typed)
-    valid within))
-    c.append_all.ensures.added
+    (λ told typed valid within. valid_set s set (diagnostics_of c.args.list.now) (diagnostics_of c.append_all.new.list) (told typed) valid within)
+    (returns-clause-told c)

@@ -1,14 +1,11 @@
-use Rattle.std.proofs.Common.{subst}
 use Rattle.std.proofs.lemmas.Result.{on_ok_weaker}
 use Rattle.rule_fragments.specs.in_typed_operations.DocumentView.{document_meant}
 use Rattle.fault_data.specs.FaultView.{faults_of}
 use Rattle.rule_merging.specs.in_faults.DetailsView.{diagnostics_of}
 use Rattle.rule_document_definitions.proofs.UnplacedFragments.{named_if_own}
 use Rattle.rule_fragments.specs.in_ground.Broken.{brokens_of}
-use Rattle.graphql_validation.specs.Operations.{all_told}
-use Rattle.graphql_validation.specs.Told.{TellsAlone}
-use Rattle.rule_merging.proofs.Behind.{nothing_told, told_nothing, begins_same, refused_so}
-use Rattle.graphql_validation.proofs.WholeAlone.{tells_alone, silent_is_valid, valid_is_silent}
+use Rattle.rule_merging.proofs.Behind.{begins_same, refused_so}
+use Rattle.graphql_validation.proofs.WholeAlone.{alone_told, silent_is_valid, valid_is_silent}
 use Rattle.graphql_validation.proofs.standalone.validate_standalone_executable.Goals as goal
 
 pub returns-in_err-faults-clause-begins : goal.returns-in_err-faults-clause-begins
@@ -22,31 +19,25 @@ returns-clause-told c =
     let d = document_meant c.args.document.now in
     let fs = faults_of c.in_ok-faults.faults in
     let bs = brokens_of c.in_ok-breaches.breaches in
-    let p = c.passes_path_bound-is_passed.result in
+    let bound = c.passes_path_bound-is_passed.ensures in
     on_ok_weaker c.append_all.result
-    (λ h own. (all_told fs bs p, (h, tells_alone d fs bs p (c.in_ok-faults.ensures own) c.in_ok-breaches.ensures c.passes_path_bound-is_passed.ensures.right c.passes_path_bound-is_passed.ensures.found)))
+    (λ h own. alone_told d (diagnostics_of c.args.list.now) (diagnostics_of c.append_all.new.list) fs bs c.passes_path_bound-is_passed.result (c.in_ok-faults.ensures own) c.in_ok-breaches.ensures bound.right bound.found h)
     c.append_all.ensures.added
 
 pub returns-clause-silent : goal.returns-clause-silent
 returns-clause-silent c =
     let d = document_meant c.args.document.now in
-    let fs = faults_of c.in_ok-faults.faults in
-    let bs = brokens_of c.in_ok-breaches.breaches in
-    let p = c.passes_path_bound-is_passed.result in
+    let old = diagnostics_of c.args.list.now in
+    let new = diagnostics_of c.append_all.new.list in
     on_ok_weaker c.append_all.result
-    (λ h own same. silent_is_valid d (named_if_own d c.fragments_differ.ensures own)
-    (subst (TellsAlone d) (nothing_told (diagnostics_of c.args.list.now) (diagnostics_of c.append_all.new.list) (all_told fs bs p) h same)
-    (tells_alone d fs bs p (c.in_ok-faults.ensures own) c.in_ok-breaches.ensures c.passes_path_bound-is_passed.ensures.right c.passes_path_bound-is_passed.ensures.found)))
-    c.append_all.ensures.added
+    (λ told own same. silent_is_valid d (named_if_own d c.fragments_differ.ensures own) old new (told own) same)
+    (returns-clause-told c)
 
 pub returns-clause-accepts : goal.returns-clause-accepts
 returns-clause-accepts c =
     let d = document_meant c.args.document.now in
-    let fs = faults_of c.in_ok-faults.faults in
-    let bs = brokens_of c.in_ok-breaches.breaches in
-    let p = c.passes_path_bound-is_passed.result in
+    let old = diagnostics_of c.args.list.now in
+    let new = diagnostics_of c.append_all.new.list in
     on_ok_weaker c.append_all.result
-    (λ h own valid within. told_nothing (diagnostics_of c.args.list.now) (diagnostics_of c.append_all.new.list) (all_told fs bs p) h
-    (valid_is_silent d (named_if_own d c.fragments_differ.ensures own) (all_told fs bs p)
-    (tells_alone d fs bs p (c.in_ok-faults.ensures own) c.in_ok-breaches.ensures c.passes_path_bound-is_passed.ensures.right c.passes_path_bound-is_passed.ensures.found) valid within))
-    c.append_all.ensures.added
+    (λ told own valid within. valid_is_silent d (named_if_own d c.fragments_differ.ensures own) old new (told own) valid within)
+    (returns-clause-told c)

@@ -12,7 +12,7 @@ use Rattle.rule_definitions.specs.Judged.{judged}
 use Rattle.rule_fragments.specs.Possible.{ArePossibleIfFound}
 use Rattle.rule_fragments.specs.in_schema.declared.schema.Schema.{Schema}
 use Rattle.rule_fragments.specs.in_ground.NotedNames.{noted_names}
-use Rattle.rule_definitions.proofs.Listing.{gains_both, gains_same}
+use Rattle.rule_definitions.proofs.Adding.{gains_both, gains_same}
 use Rattle.rule_fragments.specs.in_ground.Reach.{IsReachOf, meant_fragments, reached_members, reached_fragments_of}
 use Rattle.graphql_validation.proofs.Noting.{fragments_noted, notes_same}
 use Rattle.graphql_validation.proofs.Settled.{instead_of, reached_instead, told_instead, named_instead, typed_instead}

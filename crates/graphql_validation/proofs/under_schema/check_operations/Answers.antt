@@ -9,7 +9,7 @@ use Rattle.rule_fragments.specs.in_typed_operations.DocumentView.{document_meant
 use Rattle.rule_definitions.specs.Words.{AtSomeIndex}
 use Rattle.rule_document_definitions.specs.Selected.{operations}
 use Rattle.rule_fragments.specs.in_ground.NotedNames.{noted_names}
-use Rattle.rule_definitions.proofs.Listing.{gains_none, gains_more, gains_same}
+use Rattle.rule_definitions.proofs.Adding.{gains_none, gains_more, gains_same}
 use Rattle.rule_fragments.proofs.in_ground.AtReaches.{some_index}
 use Rattle.graphql_validation.specs.Operations.{OperationFails, ReachesNamed, NotesNames}
 use Rattle.graphql_validation.proofs.Noting.{notes_none, notes_more, notes_same}

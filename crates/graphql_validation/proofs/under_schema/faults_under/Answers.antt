@@ -1,7 +1,8 @@
-use Rattle.std.proofs.Common.{◌↔◌, ◌∙◌, ◌++◌, map, sym, ap, subst, Contains}
+use Rattle.std.proofs.Common.{◌∙◌, map, sym, ap, subst}
 use Rattle.std.proofs.lemmas.Result.{IfOk-weaker}
 use Rattle.rule_fragments.specs.in_typed_operations.DocumentView.{document_meant}
 use Rattle.fault_data.specs.FaultView.{fault_of, faults_of}
+use Rattle.rule_definitions.specs.Room.{◌⊕◌}
 use Rattle.rule_definitions.specs.Judged.{judged}
 use Rattle.rule_fragments.specs.Possible.{ArePossibleIfFound}
 use Rattle.rule_fragments.specs.in_schema.SchemaOf.{schema_tree}
@@ -26,7 +27,7 @@ returns c =
     IfOk-weaker c.check_fragments.result _ _
     (λ r h typed own.
     let t = c.in_ok-check_operations.ensures.told in' typed right in
-    let is = t.1.0 ∙ ap (λ l. map fault_of l ++ t.0) c.new-found.ensures.faults in
+    let is = t.1.0 ∙ ap (λ l. map fault_of l ⊕ t.0) c.new-found.ensures.faults in
     tells_data d (AllUnder s d) (λ o. OperationFails d o s) (λ o f. all_under d o f s) (λ o f. recursive_under d o f s) (faults_of new.faults) (faults_of r)
-    (λ f. subst (λ l. Contains l f ↔ AtOperation d (λ o. OperationFails d o s f)) (sym is) (t.1.1 f)) (h own used))
+    t.0 is t.1.1 (h own used))
     c.check_fragments.ensures

@@ -1,12 +1,10 @@
 use Rattle.std.proofs.Common.{◌≡◌, List, [], ◌∷◌, map, reverse, refl, sym, ap, subst, ◌∙◌}
 use Rattle.std.specs.Option.{option_map}
-use Rattle.std.proofs.lemmas.List.{append-nil}
 use Rattle.std.proofs.lemmas.Result.{on_ok_weaker}
 use Rattle.std.proofs.lemmas.Simd.{map-map}
 use Rattle.graphql_names.specs.Placed.{node_tree}
 use Rattle.tree_directives.specs.DirectiveTree.{directive_tree, directive_definition_tree}
 use Rattle.schema_types.specs.TypeView.{name_text}
-use Rattle.fault_data.specs.FaultView.{faults_of}
 use Rattle.fault_data.specs.in_rule_definitions.Diagnostics.{RecursiveDirectiveDefinition}
 use Rattle.fault_data.specs.in_rule_definitions.Faults.{wrong}
 use Rattle.fault_data.specs.in_rule_definitions.Told.{PlacedFault}
@@ -23,7 +21,7 @@ returns-in-None c =
     let seen =
     seen_entry (node_tree directive_definition_tree) c.args.judging.now.schema.now.directive_definitions c.args.root c.get_index.result c.get_index.ensures.entry
     ∙ ap (option_map (λ p. (name_text p.0.now, node_tree directive_definition_tree p.1.now))) c.in-None.is in
-    ([], (subst (λ o. AtHead o (recursive_directive s c.args.root c.args.path.now) []) (sym seen) refl, sym (append-nil (faults_of c.args.faults.now))))
+    ([], (subst (λ o. AtHead o (recursive_directive s c.args.root c.args.path.now) []) (sym seen) refl, refl))
 
 pub returns-in_ok-name-in-Some : goal.returns-in_ok-name-in-Some
 returns-in_ok-name-in-Some c =

@@ -2,7 +2,7 @@ use Rattle.std.proofs.Common.{◌<◌, ◌++◌, [], List, map, take, length, ap
 use Rattle.std.specs.List.{sum}
 use Rattle.std.proofs.lemmas.List.{take_all}
 use Rattle.std.proofs.lemmas.Simd.{map-map}
-use Rattle.rule_field_sets.specs.in_ground.in_schema.SchemaOf.{schema_tree}
+use Rattle.rule_field_sets.specs.in_schema.SchemaOf.{schema_tree}
 use Rattle.rule_same_values.specs.in_definitions.Judged.{judged}
 use Rattle.rule_field_groups.specs.Members.{fields_of}
 use Rattle.rule_field_sets.specs.declared.member.Member.{Member}

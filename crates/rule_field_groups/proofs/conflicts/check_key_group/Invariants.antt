@@ -1,6 +1,6 @@
 use Rattle.std.proofs.Common.{◌≤◌, ◌+◌, map, take, drop}
 use Rattle.std.specs.List.{sum}
-use Rattle.rule_field_sets.specs.in_ground.in_schema.SchemaOf.{schema_tree}
+use Rattle.rule_field_sets.specs.in_schema.SchemaOf.{schema_tree}
 use Rattle.rule_same_values.specs.in_definitions.Judged.{judged}
 use Rattle.rule_field_groups.specs.Members.{fields_of}
 use Rattle.rule_field_groups.specs.Compared.{compared}

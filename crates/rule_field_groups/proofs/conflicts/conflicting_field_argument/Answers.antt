@@ -26,4 +26,4 @@ returns-in_ok-conflict-in-Some c =
     let others : arguments_of c.as_slice.result.now ≡ g.head.arguments = ap arguments_of c.as_slice.ensures.value ∙ ap (λ (x : Field). arguments_of x.arguments.items) c.content-2.ensures in
     let differs = MatchOption-at_some _ _ c.in-Some.name c.in-Some.is c.in_ok-differing.ensures.differs in
     let never = subst (λ l. SameGiven (plain_given n l) (plain_given n g.head.arguments) → ⊥) given (subst (λ l. SameGiven (plain_given n (arguments_of c.as_slice-given.result.now)) (plain_given n l) → ⊥) others differs) in
-    on_ok_weaker c.tell_breach.result (λ adds. (Some _, (adds, (n, (never, c.in_ok-conflict-in-Some.ensures))))) c.tell_breach.ensures.told
+    on_ok_weaker c.push_breach.result (λ adds. (Some _, (adds, (n, (never, c.in_ok-conflict-in-Some.ensures))))) c.push_breach.ensures.told

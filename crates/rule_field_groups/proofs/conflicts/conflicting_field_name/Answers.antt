@@ -8,6 +8,6 @@ returns-then-have_one_name c = (None, (sym (append-nil (brokens_of c.args.breach
 
 pub returns : goal.returns
 returns c =
-    on_ok_weaker c.tell_breach.result
+    on_ok_weaker c.push_breach.result
     (λ adds. (Some _, (adds, (λ same. absurd (true≢false (sym (c.have_one_name.ensures.1 same) ∙ c.if-have_one_name.false)), c.in_ok-conflict.ensures))))
-    c.tell_breach.ensures.told
+    c.push_breach.ensures.told

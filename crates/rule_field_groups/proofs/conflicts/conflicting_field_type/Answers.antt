@@ -1,6 +1,6 @@
 use Rattle.std.proofs.Common.{None, Some, sym, append-nil, ◌∙◌, true≢false}
 use Rattle.std.proofs.lemmas.Result.{on_ok_weaker}
-use Rattle.rule_field_sets.specs.in_ground.in_schema.SchemaOf.{schema_tree}
+use Rattle.rule_field_sets.specs.in_schema.SchemaOf.{schema_tree}
 use Rattle.rule_same_values.specs.in_definitions.Judged.{judged}
 use Rattle.rule_field_sets.specs.in_ground.Broken.{brokens_of}
 use Rattle.rule_field_groups.proofs.ShapesTold.{shapes_told}
@@ -16,6 +16,6 @@ pub returns-clause-told : goal.returns-clause-told
 returns-clause-told c =
     let told = shapes_told (judged (schema_tree c.args.schema.now)) c.args.first c.args.other c.content.result.now c.content-2.result.now c.ty.result.now c.ty-2.result.now
     c.content.ensures c.ty.ensures c.content-2.ensures c.ty-2.ensures c.same_type.result c.same_type.ensures in
-    on_ok_weaker c.tell_breach.result
+    on_ok_weaker c.push_breach.result
     (λ adds. (Some _, (adds, (λ same. absurd (true≢false (sym (told.1 same) ∙ c.if-same_type.false)), c.in_ok-conflict.ensures))))
-    c.tell_breach.ensures.told
+    c.push_breach.ensures.told

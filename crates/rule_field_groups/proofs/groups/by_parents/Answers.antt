@@ -1,6 +1,6 @@
 use Rattle.std.proofs.Common.{◌∙◌, not, filter, map, length, ap, sym, subst, List}
 use Rattle.std.specs.List.{sum}
-use Rattle.rule_field_sets.specs.in_ground.in_schema.SchemaOf.{schema_tree}
+use Rattle.rule_field_sets.specs.in_schema.SchemaOf.{schema_tree}
 use Rattle.rule_same_values.specs.in_definitions.Judged.{judged}
 use Rattle.rule_field_sets.specs.declared.member.Member.{Member}
 use Rattle.rule_field_groups.specs.declared.groups.OwnFields.{OwnFields}

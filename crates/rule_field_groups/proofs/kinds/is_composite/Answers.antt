@@ -2,7 +2,7 @@ use Rattle.std.proofs.Common.{Bool, ◌&&◌, not, None, Some, ap, sym, ◌∙�
 use Rattle.schema_types.specs.SchemaTree.{is_leaf_kind, is_output_kind}
 use Rattle.schema_types.specs.TypeView.{extended_type}
 use Rattle.schema_types.specs.declared.type_kind.TypeKind.{TypeKind}
-use Rattle.rule_field_sets.specs.in_ground.in_schema.SchemaOf.{schema_tree}
+use Rattle.rule_field_sets.specs.in_schema.SchemaOf.{schema_tree}
 use Rattle.rule_field_groups.proofs.Shaped.{kind_seen}
 use Rattle.rule_field_groups.proofs.kinds.is_composite.Goals as goal
 

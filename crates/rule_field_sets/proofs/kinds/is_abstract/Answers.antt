@@ -1,6 +1,6 @@
 use Rattle.std.proofs.Common.{None, Some, ap, ◌∙◌}
 use Rattle.schema_types.specs.TypeView.{extended_type}
-use Rattle.rule_document_ground.specs.in_schema.SchemaOf.{schema_tree}
+use Rattle.graphql_schema.specs.SchemaOf.{schema_tree}
 use Rattle.rule_field_sets.specs.Kinds.{is_abstract_kind}
 use Rattle.rule_field_sets.proofs.Abstract.{kind_seen}
 use Rattle.rule_field_sets.proofs.kinds.is_abstract.Goals as goal

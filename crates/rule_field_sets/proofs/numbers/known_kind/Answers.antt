@@ -1,7 +1,7 @@
 use Rattle.std.proofs.Common.{ap, ◌∙◌}
 use Rattle.std.specs.Prelude.{unwrap_or}
 use Rattle.rule_definitions.specs.Judged.{judged}
-use Rattle.rule_document_ground.specs.in_schema.SchemaOf.{schema_tree}
+use Rattle.graphql_schema.specs.SchemaOf.{schema_tree}
 use Rattle.rule_field_sets.specs.Kinds.{is_abstract}
 use Rattle.rule_field_sets.proofs.numbers.known_kind.Goals as goal
 

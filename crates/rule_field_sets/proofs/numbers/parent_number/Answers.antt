@@ -3,7 +3,7 @@ use Rattle.std.specs.Prelude.{unwrap_or, slice_get}
 use Rattle.std.specs.Map.{lookup}
 use Rattle.indexmap.specs.IndexMap.{insert_entry}
 use Rattle.rule_definitions.specs.Judged.{judged}
-use Rattle.rule_document_ground.specs.in_schema.SchemaOf.{schema_tree}
+use Rattle.graphql_schema.specs.SchemaOf.{schema_tree}
 use Rattle.rule_field_sets.specs.Kinds.{is_abstract}
 use Rattle.rule_field_sets.specs.Tables.{Enters, AreJudged}
 use Rattle.rule_field_sets.specs.Numbered.{parents_of}

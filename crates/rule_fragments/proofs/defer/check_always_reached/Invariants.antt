@@ -1,10 +1,11 @@
-use Rattle.std.proofs.Common.{◌≡◌, ◌++◌, take, map}
+use Rattle.std.proofs.Common.{◌≡◌, take, map}
 use Rattle.std.specs.List.{flat_map}
 use Rattle.graphql_names.specs.Placed.{node_tree}
 use Rattle.tree_directives.specs.DirectiveTree.{directive_tree}
+use Rattle.rule_definitions.specs.Room.{◌⊕◌}
 use Rattle.rule_fragments.specs.Broken.{brokens_of}
 use Rattle.rule_fragments.specs.ListedBreaches.{deferred_always}
 use Rattle.rule_fragments.proofs.defer.check_always_reached.Given as goal
 
 abbrev pub invariant-loop-directive : goal.invariant-loop-directive
-invariant-loop-directive l = brokens_of l.breaches ≡ brokens_of l.initial.breaches ++ flat_map deferred_always (map (node_tree directive_tree) (take l.directive-index l.directives))
+invariant-loop-directive l = brokens_of l.breaches ≡ brokens_of l.initial.breaches ⊕ flat_map deferred_always (map (node_tree directive_tree) (take l.directive-index l.directives))

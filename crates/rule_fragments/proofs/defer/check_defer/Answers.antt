@@ -1,8 +1,10 @@
-use Rattle.std.proofs.Common.{◌≡◌, ◌++◌, sym, ap, subst, ◌∙◌, append_assoc, true≢false, rules}
+use Rattle.std.proofs.Common.{◌≡◌, ◌++◌, sym, ap, subst, ◌∙◌, true≢false, rules}
 use Rattle.std.specs.List.{flat_map}
 use Rattle.std.proofs.lemmas.Result.{on_ok_weaker}
 use Rattle.tree_directives.specs.declared.operation_type.OperationType.TheVariants as operation
 use Rattle.document_typed_operations.specs.declared.operation.Operation.{Operation}
+use Rattle.rule_definitions.specs.Room.{◌⊕◌}
+use Rattle.rule_definitions.proofs.Room.{room_both}
 use Rattle.rule_always.specs.in_ground.in_typed_operations.DocumentView.{document_meant, operation_meant}
 use Rattle.rule_fragments.specs.Broken.{brokens_of}
 use Rattle.rule_always.specs.Always.{AreAlways}
@@ -37,7 +39,7 @@ returns c =
     (λ told. (
       flat_map (fragment_deferred o) ss ++ flat_map always_deferred ts,
       (
-        told ∙ ap (λ l. l ++ flat_map always_deferred ts) before ∙ append_assoc (brokens_of c.args.breaches.now) (flat_map (fragment_deferred o) ss) (flat_map always_deferred ts),
+        told ∙ ap (λ l. l ⊕ flat_map always_deferred ts) before ∙ room_both (brokens_of c.args.breaches.now) (flat_map (fragment_deferred o) ss) (flat_map always_deferred ts),
         of_subscription d o ss ts roots found other kind,
       ),
     )) c.check_all_always_reached.ensures

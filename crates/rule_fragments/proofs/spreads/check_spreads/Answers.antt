@@ -1,7 +1,8 @@
-use Rattle.std.proofs.Common.{◌<◌, ◌++◌, map, length, ap, ◌∙◌, arith}
+use Rattle.std.proofs.Common.{◌<◌, map, length, ap, ◌∙◌, arith}
 use Rattle.std.specs.List.{flat_map}
 use Rattle.graphql_names.specs.Placed.{Place}
 use Rattle.fault_data.specs.FaultView.{faults_of}
+use Rattle.rule_definitions.specs.Room.{◌⊕◌}
 use Rattle.rule_document_ground.specs.Reach.{Member, member_of, meant_fragments, reached_members, reached_fragments_of}
 use Rattle.rule_fragments.specs.Listed.{undefined_fragment}
 use Rattle.rule_fragments.proofs.Telling.{told_more, told_all}
@@ -25,7 +26,7 @@ returns c = λ d o reach same.
       flat_map tells (reached_members r),
       (
         told_all member_of tells (faults_of c.args.faults.now) (faults_of c.loop-selection.faults) c.deref-selection-items.result.now c.loop-selection.selection-index c.loop-selection-test.false c.loop-selection.invariant
-            ∙ ap (λ l. faults_of c.args.faults.now ++ flat_map tells (map member_of l)) c.deref-selection-items.ensures.value,
+            ∙ ap (λ l. faults_of c.args.faults.now ⊕ flat_map tells (map member_of l)) c.deref-selection-items.ensures.value,
         lists_undefined d o (reached_members r) (reached_fragments_of r) reach fs same,
       ),
     )

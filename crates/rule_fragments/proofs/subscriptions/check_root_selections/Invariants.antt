@@ -1,5 +1,6 @@
-use Rattle.std.proofs.Common.{◌≡◌, ◌++◌, take}
+use Rattle.std.proofs.Common.{◌≡◌, take}
 use Rattle.std.specs.List.{flat_map}
+use Rattle.rule_definitions.specs.Room.{◌⊕◌}
 use Rattle.rule_always.specs.in_ground.in_typed_operations.DocumentView.{operation_meant}
 use Rattle.rule_fragments.specs.Broken.{brokens_of}
 use Rattle.rule_fragments.specs.ListedBreaches.{at_root}
@@ -7,4 +8,4 @@ use Rattle.rule_always.specs.Lent.{lent_all}
 use Rattle.rule_fragments.proofs.subscriptions.check_root_selections.Given as goal
 
 abbrev pub invariant-loop-selection : goal.invariant-loop-selection
-invariant-loop-selection l = brokens_of l.breaches ≡ brokens_of l.fn.breaches ++ flat_map (at_root (operation_meant l.operation)) (lent_all (take l.selection-index l.roots))
+invariant-loop-selection l = brokens_of l.breaches ≡ brokens_of l.fn.breaches ⊕ flat_map (at_root (operation_meant l.operation)) (lent_all (take l.selection-index l.roots))

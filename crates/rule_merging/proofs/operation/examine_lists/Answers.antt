@@ -1,4 +1,4 @@
-use Rattle.rule_field_groups.specs.in_sets.in_ground.in_schema.SchemaOf.{schema_tree}
+use Rattle.rule_field_groups.specs.in_sets.in_schema.SchemaOf.{schema_tree}
 use Rattle.rule_field_groups.specs.in_sets.in_ground.in_typed_operations.DocumentView.{document_meant, operation_meant}
 use Rattle.rule_field_groups.specs.in_definitions.Judged.{judged}
 use Rattle.rule_field_groups.specs.in_sets.in_ground.Broken.{brokens_of}

@@ -6,7 +6,8 @@ use Rattle.fault_data.specs.FaultView.{faults_of}
 use Rattle.fault_data.specs.Adds.{Adds}
 use Rattle.rule_definitions.specs.Words.{AtSomeIndex}
 use Rattle.rule_uses.specs.Alone.{DirectivesAloneBreak}
-use Rattle.rule_definitions.proofs.Listing.{gains_none, gains_more, mapped_more}
+use Rattle.rule_definitions.proofs.Listing.{mapped_more}
+use Rattle.rule_definitions.proofs.Adding.{gains_none, gains_more}
 use Rattle.rule_document_ground.specs.Reach.{fragment_of}
 use Rattle.rule_selections.proofs.alone.check_fragments_alone.Goals as goal
 

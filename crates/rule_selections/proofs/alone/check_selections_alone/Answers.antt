@@ -12,7 +12,7 @@ use Rattle.rule_definitions.specs.GivenValues.{Variables}
 use Rattle.rule_uses.specs.in_rule_values.Wanting.{variables_of}
 use Rattle.rule_uses.specs.Alone.{DirectivesAloneBreak}
 use Rattle.rule_uses.specs.Trees.{directives_of}
-use Rattle.rule_definitions.proofs.Listing.{gains_both, gains_same}
+use Rattle.rule_definitions.proofs.Adding.{gains_both, gains_same}
 use Rattle.rule_document_ground.specs.Reach.{reached_members, reached_fragments_of}
 use Rattle.rule_selections.proofs.Selecting.{given_in_breaks}
 use Rattle.rule_selections.proofs.alone.check_selections_alone.Goals as goal

@@ -10,7 +10,8 @@ use Rattle.rule_definitions.specs.Words.{AtSomeIndex}
 use Rattle.rule_uses.specs.in_rule_values.Wanting.{variables_of}
 use Rattle.rule_uses.specs.Alone.{DirectivesAloneBreak}
 use Rattle.rule_uses.specs.Trees.{directives_of}
-use Rattle.rule_definitions.proofs.Listing.{gains_none, gains_more, mapped_more}
+use Rattle.rule_definitions.proofs.Listing.{mapped_more}
+use Rattle.rule_definitions.proofs.Adding.{gains_none, gains_more}
 use Rattle.rule_selections.proofs.alone.check_variables_alone.Goals as goal
 
 pub loop-variable-init : goal.loop-variable-init

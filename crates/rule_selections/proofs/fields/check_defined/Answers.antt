@@ -2,8 +2,8 @@ use Rattle.std.proofs.Common.{List, map, ◌∙◌, refl, ap, sym, subst, true�
 use Rattle.std.proofs.lemmas.Result.{on_ok_weaker}
 use Rattle.graphql_names.specs.Placed.{Place}
 use Rattle.tree_directives.specs.DirectiveTree.{input_value_trees}
-use Rattle.rule_document_ground.specs.in_schema.SchemaOf.{schema_tree}
-use Rattle.rule_document_ground.specs.in_schema.LookUps.{IsFieldNamed, FieldIsMissing}
+use Rattle.graphql_schema.specs.SchemaOf.{schema_tree}
+use Rattle.graphql_schema.specs.LookUps.{IsFieldNamed, FieldIsMissing}
 use Rattle.schema_components.specs.Given.{component_tree}
 use Rattle.document_typed_selections.specs.declared.selection.Field.{Field}
 use Rattle.schema_types.specs.Plain.{plain}
@@ -27,7 +27,7 @@ use Rattle.rule_document_definitions.specs.Selections.{field_taker}
 use Rattle.rule_document_definitions.specs.Told.{places_in}
 use Rattle.rule_uses.specs.Trees.{plain_inputs}
 use Rattle.rule_selections.specs.Steps.{standing_field}
-use Rattle.rule_definitions.proofs.Listing.{gains_nothing}
+use Rattle.rule_definitions.proofs.Adding.{gains_nothing}
 use Rattle.rule_selections.proofs.NoArguments.{none_break}
 use Rattle.rule_selections.proofs.Takers.{same_taker, tells_places}
 use Rattle.rule_selections.proofs.fields.check_defined.Goals as goal

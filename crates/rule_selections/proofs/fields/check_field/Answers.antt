@@ -1,17 +1,18 @@
-use Rattle.std.proofs.Common.{◌∙◌, ◌++◌, ap, subst}
+use Rattle.std.proofs.Common.{◌∙◌, ap, subst}
 use Rattle.std.proofs.lemmas.Result.{on_ok_weaker}
 use Rattle.graphql_names.specs.Placed.{Place}
 use Rattle.tree_directives.specs.DirectiveTree.{Arguments}
-use Rattle.rule_document_ground.specs.in_schema.SchemaOf.{schema_tree}
+use Rattle.graphql_schema.specs.SchemaOf.{schema_tree}
 use Rattle.document_typed_selections.specs.declared.selection.Field.{Field}
 use Rattle.fault_data.specs.FaultView.{faults_of}
 use Rattle.fault_data.specs.Adds.{Adds}
+use Rattle.rule_definitions.specs.Room.{◌⊕◌}
 use Rattle.rule_definitions.specs.Judged.{judged}
 use Rattle.rule_definitions.specs.Uses.{GivenBreaks}
 use Rattle.rule_uses.specs.in_rule_values.Wanting.{variables_of}
 use Rattle.rule_document_definitions.specs.Told.{place_or_built_in}
 use Rattle.rule_uses.specs.Trees.{arguments_of}
-use Rattle.rule_definitions.proofs.Listing.{gains_both, gains_list}
+use Rattle.rule_definitions.proofs.Adding.{gains_both, gains_list}
 use Rattle.rule_selections.specs.Steps.{standing_field, missing_subselection}
 use Rattle.rule_selections.proofs.FieldKinds.{lists_missing}
 use Rattle.rule_selections.proofs.fields.check_field.Goals as goal
@@ -28,7 +29,7 @@ returns c =
     let given = ap arguments_of c.deref.ensures.value ∙ ap (λ (f : Field). arguments_of f.arguments.items) c.content.ensures in
     on_ok_weaker c.check_defined.result
     (λ h defined. gains_both a b e
-    (gains_list a b (missing_subselection (judged s) x) (c.in_ok-missing_subselection.ensures ∙ ap (λ y. a ++ missing_subselection (judged (schema_tree y)) x) c.schema.ensures) (lists_missing s x))
+    (gains_list a b (missing_subselection (judged s) x) (c.in_ok-missing_subselection.ensures ∙ ap (λ y. a ⊕ missing_subselection (judged (schema_tree y)) x) c.schema.ensures) (lists_missing s x))
     (gains_both b d e
     (subst (λ (l : Arguments Place). Adds c.missing_subselection.new.faults c.check_given.new.faults (GivenBreaks (place_or_built_in s) (judged s) vs l)) given (c.in_ok-check_given.ensures (place_or_built_in s) (judged s)))
     (h defined)))

@@ -1,12 +1,13 @@
-use Rattle.std.proofs.Common.{◌∙◌, ◌++◌, ◌∷◌, [], ap, sym, append-nil}
+use Rattle.std.proofs.Common.{◌∙◌, ◌∷◌, [], ap, sym}
 use Rattle.std.proofs.lemmas.Result.{IfOk-equal}
-use Rattle.rule_document_ground.specs.in_schema.SchemaOf.{schema_tree}
+use Rattle.graphql_schema.specs.SchemaOf.{schema_tree}
 use Rattle.schema_types.specs.Addresses.{type_at}
 use Rattle.std.specs.Option.{option_map}
 use Rattle.graphql_names.specs.Node.{content}
 use Rattle.document_typed_selections.specs.TypedTree.{typed_set_tree, holds_none}
 use Rattle.document_typed_selections.specs.declared.selection.Field.{Field}
 use Rattle.fault_data.specs.FaultView.{faults_of}
+use Rattle.rule_definitions.specs.Room.{◌⊕◌}
 use Rattle.rule_selections.specs.Steps.{standing_field}
 use Rattle.rule_selections.proofs.FieldKinds.{none_meant, output_name, missing_none, missing_told, missing_fine}
 use Rattle.rule_selections.proofs.fields.missing_subselection.Goals as goal
@@ -20,7 +21,7 @@ returns-in_ok-told_missing-in-Some c =
     let named = output_name c.args.field.now c.content-selected.result.now c.ty.result.now c.inner_named_type.result.now is c.ty.ensures c.inner_named_type.ensures in
     let kind = c.kind_named.ensures ∙ ap (λ n. option_map (λ t. t.kind) (type_at s n)) named in
     IfOk-equal c.tell.result _ _ _ c.tell.ensures.told
-    (ap (λ l. faults_of c.args.faults.now ++ l)
+    (ap (λ l. faults_of c.args.faults.now ⊕ l)
     (ap (λ f. f ∷ []) c.in_ok-told_missing-in-Some.ensures
     ∙ missing_told s x none c.kind_named.result kind c.in-Some.kind c.in-Some.is (sym c.is_composite.ensures ∙ c.if-is_composite.true)))
 
@@ -32,8 +33,7 @@ returns-in_default c =
     let none = none_meant (typed_set_tree (content c.args.field.now).selection_set) ∙ sym (ap (λ (f : Field). holds_none (typed_set_tree f.selection_set)) is) ∙ sym c.is_empty.ensures ∙ c.if-not-is_empty.false in
     let named = output_name c.args.field.now c.content-selected.result.now c.ty.result.now c.inner_named_type.result.now is c.ty.ensures c.inner_named_type.ensures in
     let kind = c.kind_named.ensures ∙ ap (λ n. option_map (λ t. t.kind) (type_at s n)) named in
-    let old = faults_of c.args.faults.now in
-    sym (append-nil old) ∙ ap (λ l. old ++ l) (missing_fine s x none c.kind_named.result kind c.in-Some.kind c.in-Some.is (sym c.is_composite.ensures ∙ c.if-is_composite.false))
+    ap (λ l. faults_of c.args.faults.now ⊕ l) (missing_fine s x none c.kind_named.result kind c.in-Some.kind c.in-Some.is (sym c.is_composite.ensures ∙ c.if-is_composite.false))
 
 pub returns-in_default-2 : goal.returns-in_default-2
 returns-in_default-2 c =
@@ -43,5 +43,4 @@ returns-in_default-2 c =
     let none = none_meant (typed_set_tree (content c.args.field.now).selection_set) ∙ sym (ap (λ (f : Field). holds_none (typed_set_tree f.selection_set)) is) ∙ sym c.is_empty.ensures ∙ c.if-not-is_empty.false in
     let named = output_name c.args.field.now c.content-selected.result.now c.ty.result.now c.inner_named_type.result.now is c.ty.ensures c.inner_named_type.ensures in
     let kind = c.kind_named.ensures ∙ ap (λ n. option_map (λ t. t.kind) (type_at s n)) named in
-    let old = faults_of c.args.faults.now in
-    sym (append-nil old) ∙ ap (λ l. old ++ l) (missing_none s x none c.kind_named.result kind c.in_default.is)
+    ap (λ l. faults_of c.args.faults.now ⊕ l) (missing_none s x none c.kind_named.result kind c.in_default.is)

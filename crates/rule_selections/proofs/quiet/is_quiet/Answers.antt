@@ -4,7 +4,7 @@ use Rattle.fault_data.specs.FaultView.{faults_of}
 use Rattle.graphql_names.specs.declared.node.Node.{Node}
 use Rattle.tree_operations.specs.declared.operation.VariableDefinition.{VariableDefinition}
 use Rattle.rule_uses.specs.in_rule_values.Wanting.{variables_of}
-use Rattle.rule_document_ground.specs.in_schema.SchemaOf.{schema_tree}
+use Rattle.graphql_schema.specs.SchemaOf.{schema_tree}
 use Rattle.rule_selections.specs.Steps.{SelectionBreaks}
 use Rattle.rule_selections.specs.Telling.{member_there}
 use Rattle.rule_selections.proofs.Thinning.{nothing_breaks}

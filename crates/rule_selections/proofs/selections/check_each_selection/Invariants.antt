@@ -1,7 +1,7 @@
 use Rattle.std.proofs.Common.{map, take, Contains}
 use Rattle.graphql_names.specs.Placed.{Place}
 use Rattle.schema_types.specs.Plain.{plain}
-use Rattle.rule_document_ground.specs.in_schema.SchemaOf.{schema_tree}
+use Rattle.graphql_schema.specs.SchemaOf.{schema_tree}
 use Rattle.fault_data.specs.Adds.{Adds}
 use Rattle.rule_definitions.specs.Words.{AtSomeIndex}
 use Rattle.rule_uses.specs.in_rule_values.Wanting.{variables_of}

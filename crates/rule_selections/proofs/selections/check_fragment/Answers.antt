@@ -4,7 +4,7 @@ use Rattle.graphql_names.specs.Placed.{Place}
 use Rattle.tree_directives.specs.DirectiveTree.{Directives, directives_tree}
 use Rattle.tree_directives.specs.declared.directive_location.DirectiveLocation.TheVariants as location
 use Rattle.schema_types.specs.Addresses.{place_at}
-use Rattle.rule_document_ground.specs.in_schema.SchemaOf.{schema_tree}
+use Rattle.graphql_schema.specs.SchemaOf.{schema_tree}
 use Rattle.document_typed_operations.specs.declared.operation.Fragment.{Fragment}
 use Rattle.fault_data.specs.Adds.{Adds}
 use Rattle.rule_definitions.specs.Judged.{judged}

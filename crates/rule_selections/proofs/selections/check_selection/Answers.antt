@@ -1,7 +1,7 @@
 use Rattle.std.proofs.Common.{◌∙◌, ap, subst}
 use Rattle.std.proofs.lemmas.Result.{on_ok_weaker}
 use Rattle.schema_types.specs.Addresses.{place_at}
-use Rattle.rule_document_ground.specs.in_schema.SchemaOf.{schema_tree}
+use Rattle.graphql_schema.specs.SchemaOf.{schema_tree}
 use Rattle.document_typed_selections.specs.TypedTree.{typed_selection_tree}
 use Rattle.fault_data.specs.FaultView.{faults_of}
 use Rattle.fault_data.specs.Adds.{Adds}
@@ -9,7 +9,7 @@ use Rattle.rule_definitions.specs.Judged.{judged}
 use Rattle.rule_definitions.specs.Uses.{UsesBreak}
 use Rattle.rule_uses.specs.in_rule_values.Wanting.{variables_of}
 use Rattle.rule_uses.specs.Trees.{directives_of}
-use Rattle.rule_definitions.proofs.Listing.{gains_both, gains_same, gains_nothing}
+use Rattle.rule_definitions.proofs.Adding.{gains_both, gains_same, gains_nothing}
 use Rattle.rule_selections.specs.Steps.{FieldBreaks}
 use Rattle.rule_selections.proofs.Members.{directives_meant, no_field, one_field, typed_there}
 use Rattle.rule_selections.proofs.selections.check_selection.Goals as goal

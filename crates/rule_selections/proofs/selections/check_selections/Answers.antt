@@ -6,7 +6,7 @@ use Rattle.tree_directives.specs.OperationQueries.{location_of_operation}
 use Rattle.tree_directives.specs.declared.directive_location.DirectiveLocation.TheVariants as location
 use Rattle.schema_types.specs.Plain.{plain}
 use Rattle.schema_types.specs.Addresses.{place_at}
-use Rattle.rule_document_ground.specs.in_schema.SchemaOf.{schema_tree}
+use Rattle.graphql_schema.specs.SchemaOf.{schema_tree}
 use Rattle.document_typed_operations.specs.TypedDocument.{typed_operation_tree}
 use Rattle.document_typed_operations.specs.declared.operation.Operation.{Operation}
 use Rattle.rule_document_ground.specs.in_typed_operations.DocumentView.{meant_by_operation}
@@ -18,7 +18,7 @@ use Rattle.rule_definitions.specs.Judged.{judged}
 use Rattle.rule_definitions.specs.Uses.{UsesBreak}
 use Rattle.rule_uses.specs.in_rule_values.Wanting.{variables_of}
 use Rattle.rule_uses.specs.Trees.{directives_of}
-use Rattle.rule_definitions.proofs.Listing.{gains_both, gains_same}
+use Rattle.rule_definitions.proofs.Adding.{gains_both, gains_same}
 use Rattle.rule_document_ground.specs.Reach.{reached_members, reached_fragments_of}
 use Rattle.rule_selections.proofs.Typing.{member_typed}
 use Rattle.rule_selections.specs.Steps.{SelectionBreaks}

@@ -4,7 +4,7 @@ use Rattle.indexmap.specs.IndexMap.{insert_entry}
 use Rattle.schema_components.specs.Names.{same_text}
 use Rattle.schema_types.specs.TypeView.{name_text}
 use Rattle.schema_types.specs.Addresses.{under}
-use Rattle.rule_document_ground.specs.in_schema.SchemaOf.{schema_tree}
+use Rattle.graphql_schema.specs.SchemaOf.{schema_tree}
 use Rattle.rule_document_ground.specs.Reach.{meant_fragments}
 use Rattle.rule_document_ground.proofs.Found.{meant_node, found_under}
 use Rattle.rule_selections.specs.Settled.{fragment_meant}

@@ -1,4 +1,4 @@
-use Rattle.rule_document_ground.specs.in_schema.SchemaOf.{schema_tree}
+use Rattle.graphql_schema.specs.SchemaOf.{schema_tree}
 use Rattle.rule_document_ground.specs.in_typed_operations.DocumentView.{document_meant}
 use Rattle.rule_document_ground.specs.Reach.{meant_fragments}
 use Rattle.rule_selections.specs.Settled.{StandIn}

@@ -1,7 +1,7 @@
 use Rattle.std.proofs.Common.{ap, subst, sym, ◌∙◌}
 use Rattle.graphql_names.specs.Node.{content, place}
 use Rattle.graphql_names.specs.Placed.{Place, name_tree}
-use Rattle.rule_document_ground.specs.in_schema.SchemaOf.{schema_tree}
+use Rattle.graphql_schema.specs.SchemaOf.{schema_tree}
 use Rattle.tree_directives.specs.DirectiveTree.{directives_tree}
 use Rattle.document_typed_selections.specs.TypedTree.{TypedSet, typed_set_tree}
 use Rattle.document_typed_operations.specs.TypedDocument.{typed_fragment_tree}

@@ -1,6 +1,6 @@
 use Rattle.std.proofs.Common.{◌∙◌, Bool, IsTrue, sym}
 use Rattle.std.proofs.lemmas.Result.{IfOk-weaker}
-use Rattle.rule_document_ground.specs.in_schema.SchemaOf.{schema_tree}
+use Rattle.graphql_schema.specs.SchemaOf.{schema_tree}
 use Rattle.document_typed_selections.specs.TypedTree.{typed_selection_tree, typed_set_tree}
 use Rattle.document_meaning.specs.MeantTree.{meant, meant_of_set}
 use Rattle.rule_selections.specs.Settled.{IsQuiet}

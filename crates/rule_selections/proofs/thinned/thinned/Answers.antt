@@ -1,4 +1,4 @@
-use Rattle.rule_document_ground.specs.in_schema.SchemaOf.{schema_tree}
+use Rattle.graphql_schema.specs.SchemaOf.{schema_tree}
 use Rattle.document_typed_selections.specs.TypedTree.{typed_set_tree}
 use Rattle.rule_selections.proofs.SetsWithin.{whole_thinned, copy_left}
 use Rattle.rule_selections.proofs.thinned.thinned.Goals as goal

@@ -1,4 +1,4 @@
-use Rattle.rule_document_ground.specs.in_schema.SchemaOf.{schema_tree}
+use Rattle.graphql_schema.specs.SchemaOf.{schema_tree}
 use Rattle.rule_selections.proofs.SetsWithin.{IsTaken}
 use Rattle.rule_selections.proofs.thinned.thinned_set.Given as goal
 

@@ -1,5 +1,5 @@
 use Rattle.std.proofs.Common.{arith}
-use Rattle.rule_document_ground.specs.in_schema.SchemaOf.{schema_tree}
+use Rattle.graphql_schema.specs.SchemaOf.{schema_tree}
 use Rattle.rule_selections.proofs.SetsWithin.{none_thinned, next_thinned, all_thinned}
 use Rattle.rule_selections.proofs.thinned.thinned_sets.Goals as goal
 

@@ -1,5 +1,5 @@
 use Rattle.std.proofs.Common.{length}
-use Rattle.rule_document_ground.specs.in_schema.SchemaOf.{schema_tree}
+use Rattle.graphql_schema.specs.SchemaOf.{schema_tree}
 use Rattle.rule_selections.proofs.SetsWithin.{LastThinned}
 use Rattle.rule_selections.proofs.thinned.thinned_sets.Given as goal
 

@@ -1,4 +1,4 @@
-use Rattle.std.proofs.Common.{◌++◌, [], ◌∷◌, Some, ap, ◌∙◌}
+use Rattle.std.proofs.Common.{[], ◌∷◌, Some, ap, ◌∙◌}
 use Rattle.std.proofs.lemmas.Result.{on_ok_weaker}
 use Rattle.std.specs.Option.{option_map}
 use Rattle.graphql_names.specs.NameValue.{NameValue}
@@ -6,6 +6,7 @@ use Rattle.graphql_names.specs.Placed.{node_tree}
 use Rattle.tree_directives.specs.DirectiveTree.{input_value_tree}
 use Rattle.tree_directives.specs.declared.input_value.InputValueDefinition.{InputValueDefinition}
 use Rattle.fault_data.specs.FaultView.{faults_of}
+use Rattle.fault_data.specs.Room.{◌⊕◌}
 use Rattle.fault_data.specs.in_rule_definitions.Diagnostics.{UniqueInputValue}
 use Rattle.fault_data.specs.in_rule_definitions.Faults.{wrong}
 use Rattle.fault_data.specs.in_rule_definitions.Told.{PlacedFault}
@@ -21,4 +22,4 @@ returns-in_ok-clone-in-Some c = λ before are.
     (λ i. let fault : PlacedFault = wrong first (UniqueInputValue (named i) first (c.location.ensures i)) in fault ∷ [])
     ∙ told_seen before (node_tree input_value_tree c.args.argument.now) (Some first)
     (c.in-Some.ensures.value ∙ are c.content.result.now.name ∙ ap (λ (v : InputValueDefinition). option_map place (first_named before v.name.text)) c.content.ensures) in
-    on_ok_weaker c.tell.result (λ told. told ∙ ap (λ l. faults_of c.args.faults.now ++ l) fault) c.tell.ensures.told
+    on_ok_weaker c.tell.result (λ told. told ∙ ap (λ l. faults_of c.args.faults.now ⊕ l) fault) c.tell.ensures.told

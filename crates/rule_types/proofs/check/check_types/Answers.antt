@@ -1,9 +1,5 @@
 use Rattle.std.proofs.Common.{refl}
 use Rattle.std.proofs.lemmas.Result.{IfOk-weaker}
-use Rattle.graphql_names.specs.NameValue.{NameValue}
-use Rattle.graphql_names.specs.Placed.{node_tree}
-use Rattle.tree_directives.specs.DirectiveTree.{directive_definition_tree}
-use Rattle.schema_types.specs.SchemaTree.{SchemaType}
 use Rattle.graphql_schema.specs.SchemaOf.{schema_tree}
 use Rattle.fault_data.specs.FaultView.{faults_of}
 use Rattle.rule_types.proofs.Whole.{told_behind}

@@ -1,4 +1,4 @@
-use Rattle.std.proofs.Common.{◌≡◌, ◌++◌, Option, sym, ap, subst, ◌∙◌}
+use Rattle.std.proofs.Common.{ap, ◌∙◌}
 use Rattle.std.specs.Option.{option_map_or}
 use Rattle.std.proofs.lemmas.Result.{IfOk-equal}
 use Rattle.graphql_names.specs.Placed.{node_tree}
@@ -6,6 +6,7 @@ use Rattle.tree_directives.specs.DirectiveTree.{input_value_tree, input_value_tr
 use Rattle.tree_directives.specs.declared.input_value.InputValueDefinition.{InputValueDefinition}
 use Rattle.tree_type_members.specs.TypeSystemTree.{field_definition_tree}
 use Rattle.fault_data.specs.FaultView.{faults_of}
+use Rattle.fault_data.specs.Room.{◌⊕◌}
 use Rattle.rule_types.specs.FaultLists.{first_named}
 use Rattle.rule_types.specs.InterfaceFaults.{invalid_implementation_field_argument_type, missing_interface_field_argument}
 use Rattle.rule_types.proofs.interface_arguments.check_wanted_argument.Goals as goal
@@ -20,4 +21,4 @@ returns-in-None c =
     let w = node_tree input_value_tree c.args.argument.now in
     let lacking = missing_interface_field_argument n i m (node_tree field_definition_tree own.wanted.now) (node_tree field_definition_tree own.field.now) w in
     IfOk-equal c.missing_interface_field_argument.result _ _ _ c.missing_interface_field_argument.ensures
-    (ap (λ o. faults_of c.args.faults.now ++ option_map_or (λ v. invalid_implementation_field_argument_type n i m w v) o lacking) (c.in-None.ensures ∙ ap (λ (v : InputValueDefinition). first_named vs v.name.text) c.content.ensures))
+    (ap (λ o. faults_of c.args.faults.now ⊕ option_map_or (λ v. invalid_implementation_field_argument_type n i m w v) o lacking) (c.in-None.ensures ∙ ap (λ (v : InputValueDefinition). first_named vs v.name.text) c.content.ensures))

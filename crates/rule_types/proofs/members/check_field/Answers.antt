@@ -8,6 +8,8 @@ use Rattle.tree_directives.specs.DirectiveTree.{input_value_tree}
 use Rattle.tree_type_members.specs.TypeSystemTree.{field_definition_tree}
 use Rattle.tree_type_members.specs.declared.field_definition.FieldDefinition.{FieldDefinition}
 use Rattle.fault_data.specs.FaultView.{faults_of}
+use Rattle.fault_data.specs.Room.{◌⊕◌}
+use Rattle.fault_data.proofs.Room.{room_both}
 use Rattle.rule_types.specs.FaultLists.{kind_named, reserved_name, undefined_type, output_type, arguments_faults}
 use Rattle.rule_types.specs.Trees.{schema_of}
 use Rattle.rule_types.proofs.members.check_field.Goals as goal
@@ -26,6 +28,6 @@ returns c =
     let definition : c.deref.result.now ≡ (content c.args.field.now).arguments.items =
     c.deref.ensures.value ∙ ap (λ (d : FieldDefinition). d.arguments.items) c.content.ensures in
     IfOk-equal c.check_arguments.result _ _ _ c.check_arguments.ensures
-    ((λ i. c.in_ok-check_field_type.ensures i ++ arguments_faults s (map (node_tree input_value_tree) (definition i)))
-    ∙ append_assoc old (named ++ (undefined ++ output)) arguments
-    ∙ ap (λ l. old ++ l) (append_assoc named (undefined ++ output) arguments ∙ ap (λ l. named ++ l) (append_assoc undefined output arguments)))
+    ((λ i. c.in_ok-check_field_type.ensures i ⊕ arguments_faults s (map (node_tree input_value_tree) (definition i)))
+    ∙ room_both old (named ++ (undefined ++ output)) arguments
+    ∙ ap (λ l. old ⊕ l) (append_assoc named (undefined ++ output) arguments ∙ ap (λ l. named ++ l) (append_assoc undefined output arguments)))

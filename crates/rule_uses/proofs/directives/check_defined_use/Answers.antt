@@ -14,7 +14,7 @@ use Rattle.rule_values.specs.in_fault_data.Adds.{Adds}
 use Rattle.rule_values.specs.Wanting.{variables_of}
 use Rattle.rule_uses.specs.Trees.{arguments_of}
 use Rattle.rule_uses.specs.UseFaults.{unsupported_location}
-use Rattle.rule_values.proofs.in_rule_definitions.Listing.{gains_both, gains_list}
+use Rattle.rule_values.proofs.in_fault_data.Adding.{gains_both, gains_list}
 use Rattle.rule_values.proofs.in_fault_data.Judgings.{directive_look}
 use Rattle.rule_uses.proofs.Uses.{same_taker, stands_in, lists_unsupported_location}
 use Rattle.rule_uses.proofs.directives.check_defined_use.Goals as goal

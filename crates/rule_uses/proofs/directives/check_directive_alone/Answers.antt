@@ -8,7 +8,8 @@ use Rattle.rule_values.specs.in_fault_data.Adds.{Adds}
 use Rattle.rule_uses.specs.Trees.{arguments_of}
 use Rattle.rule_uses.specs.Alone.{ArgumentsBreak}
 use Rattle.rule_uses.specs.UseFaults.{undefined_directive}
-use Rattle.rule_values.proofs.in_rule_definitions.Listing.{gains_both, gains_list, lists_one}
+use Rattle.rule_values.proofs.in_rule_definitions.Listing.{lists_one}
+use Rattle.rule_values.proofs.in_fault_data.Adding.{gains_both, gains_list}
 use Rattle.rule_uses.proofs.directives.check_directive_alone.Goals as goal
 
 pub returns : goal.returns

@@ -6,7 +6,8 @@ use Rattle.rule_values.specs.in_fault_data.FaultView.{faults_of}
 use Rattle.rule_values.specs.in_fault_data.Adds.{Adds}
 use Rattle.rule_uses.specs.Trees.{directives_of}
 use Rattle.rule_uses.specs.Alone.{DirectiveAloneBreaks, DirectivesAloneBreak}
-use Rattle.rule_values.proofs.in_rule_definitions.Listing.{gains_none, gains_more, mapped_more}
+use Rattle.rule_values.proofs.in_rule_definitions.Listing.{mapped_more}
+use Rattle.rule_values.proofs.in_fault_data.Adding.{gains_none, gains_more}
 use Rattle.rule_uses.proofs.directives.check_directives_alone.Goals as goal
 
 pub loop-directive-init : goal.loop-directive-init

@@ -9,7 +9,7 @@ use Rattle.rule_values.specs.Wanting.{variables_of}
 use Rattle.rule_uses.specs.Trees.{arguments_of}
 use Rattle.rule_uses.specs.Steps.{VariablesGivenBreak}
 use Rattle.rule_uses.proofs.Alone.{use_apart}
-use Rattle.rule_values.proofs.in_rule_definitions.Listing.{gains_same, gains_both}
+use Rattle.rule_values.proofs.in_fault_data.Adding.{gains_same, gains_both}
 use Rattle.rule_uses.proofs.directives.check_undefined_use.Goals as goal
 
 pub returns : goal.returns

@@ -10,7 +10,8 @@ use Rattle.rule_values.specs.in_rule_definitions.Uses.{UseBreaks}
 use Rattle.rule_values.specs.in_fault_data.Adds.{Adds}
 use Rattle.rule_values.specs.Wanting.{variables_of}
 use Rattle.rule_uses.specs.Trees.{directives_of, no_schema_tree}
-use Rattle.rule_values.proofs.in_rule_definitions.Listing.{gains_none, gains_more, gains_same, mapped_more}
+use Rattle.rule_values.proofs.in_rule_definitions.Listing.{mapped_more}
+use Rattle.rule_values.proofs.in_fault_data.Adding.{gains_none, gains_more, gains_same}
 use Rattle.rule_values.proofs.in_fault_data.Judgings.{directive_look}
 use Rattle.rule_uses.proofs.Uses.{uses_undefined}
 use Rattle.rule_uses.proofs.directives.check_undefined_uses.Goals as goal

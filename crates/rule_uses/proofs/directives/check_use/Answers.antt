@@ -12,7 +12,8 @@ use Rattle.rule_values.specs.in_fault_data.Adds.{Adds}
 use Rattle.rule_values.specs.Wanting.{variables_of}
 use Rattle.rule_uses.specs.Trees.{arguments_of}
 use Rattle.rule_uses.specs.UseFaults.{undefined_directive}
-use Rattle.rule_values.proofs.in_rule_definitions.Listing.{gains_same, gains_both, gains_list, lists_one}
+use Rattle.rule_values.proofs.in_rule_definitions.Listing.{lists_one}
+use Rattle.rule_values.proofs.in_fault_data.Adding.{gains_same, gains_both, gains_list}
 use Rattle.rule_values.proofs.in_fault_data.Judgings.{directive_look}
 use Rattle.rule_uses.proofs.Uses.{use_undefined, use_found}
 use Rattle.rule_uses.proofs.directives.check_use.Goals as goal

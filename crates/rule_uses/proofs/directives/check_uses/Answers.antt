@@ -7,7 +7,7 @@ use Rattle.rule_values.specs.in_rule_definitions.Names.{directive_name}
 use Rattle.rule_values.specs.Wanting.{variables_of}
 use Rattle.rule_uses.specs.Trees.{directives_of}
 use Rattle.rule_uses.specs.UseFaults.{repeated_directive}
-use Rattle.rule_values.proofs.in_rule_definitions.Listing.{gains_both, gains_list}
+use Rattle.rule_values.proofs.in_fault_data.Adding.{gains_both, gains_list}
 use Rattle.rule_uses.proofs.Uses.{lists_repeated_directives}
 use Rattle.rule_values.proofs.in_fault_data.Judgings.{directive_look}
 use Rattle.rule_uses.proofs.directives.check_uses.Goals as goal

@@ -11,7 +11,7 @@ use Rattle.rule_values.proofs.in_inputs.Noted.{noted_next}
 use Rattle.rule_uses.specs.Trees.{directives_of}
 use Rattle.rule_uses.specs.UseFaults.{repeated_directive}
 use Rattle.rule_uses.proofs.Again.{directive_again_is}
-use Rattle.rule_values.proofs.in_rule_definitions.Listing.{places_more}
+use Rattle.rule_values.proofs.in_fault_data.Adding.{places_more}
 use Rattle.rule_uses.proofs.directives.tell_directives_again.Goals as goal
 
 pub loop-directive-preserved : goal.loop-directive-preserved

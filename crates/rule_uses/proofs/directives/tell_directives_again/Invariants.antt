@@ -1,6 +1,7 @@
-use Rattle.std.proofs.Common.{◌≡◌, ◌++◌, take}
+use Rattle.std.proofs.Common.{◌≡◌, take}
 use Rattle.schema_components.specs.Lists.{each_place}
 use Rattle.rule_values.specs.in_fault_data.FaultView.{faults_of}
+use Rattle.rule_values.specs.in_fault_data.Room.{◌⊕◌}
 use Rattle.rule_values.specs.in_rule_definitions.Names.{directive_name}
 use Rattle.rule_values.specs.Firsts.{AreFirsts}
 use Rattle.rule_uses.specs.Trees.{directives_of}
@@ -11,6 +12,6 @@ use Rattle.rule_uses.proofs.directives.tell_directives_again.Given as goal
 
 abbrev pub invariant-loop-directive : goal.invariant-loop-directive
 invariant-loop-directive l = record {
-  told : faults_of l.faults ≡ faults_of l.fn.faults ++ each_place (λ before d. repeated_directive (directive_definition_at (schema_tree l.schema) (directive_name d)) before d) (directives_of (take l.directive-index l.directives));
+  told : faults_of l.faults ≡ faults_of l.fn.faults ⊕ each_place (λ before d. repeated_directive (directive_definition_at (schema_tree l.schema) (directive_name d)) before d) (directives_of (take l.directive-index l.directives));
   noted : AreFirsts directive_name (λ i a. a.place) l.places (directives_of (take l.directive-index l.directives));
 }

@@ -1,4 +1,4 @@
-use Rattle.std.proofs.Common.{◌≡◌, ◌↔◌, List, [], ◌∷◌, ◌++◌, Contains, sym, ap, subst, ◌∙◌}
+use Rattle.std.proofs.Common.{◌≡◌, ◌↔◌, List, [], ◌∷◌, Contains, sym, ap, subst, ◌∙◌}
 use Rattle.std.specs.Prelude.{IsTrue}
 use Rattle.std.proofs.lemmas.Result.{on_ok_weaker}
 use Rattle.std.proofs.lemmas.List.Elements.{same_from_all_zip}
@@ -10,6 +10,7 @@ use Rattle.tree_directives.specs.declared.directive.Directive.{Directive}
 use Rattle.tree_directives.specs.declared.directive.DirectiveDefinition.{DirectiveDefinition}
 use Rattle.tree_directives.specs.declared.directive_location.DirectiveLocation.{DirectiveLocation}
 use Rattle.rule_values.specs.in_fault_data.FaultView.{faults_of}
+use Rattle.rule_values.specs.in_fault_data.Room.{◌⊕◌}
 use Rattle.rule_values.specs.in_rule_definitions.Diagnostics.{UnsupportedLocation}
 use Rattle.rule_values.specs.in_rule_definitions.Faults.{wrong}
 use Rattle.rule_values.specs.in_rule_definitions.Told.{PlacedFault}
@@ -29,7 +30,7 @@ returns c =
       may,
       (
         subst (λ (l : List DirectiveLocation). IsTrue may ↔ Contains l c.args.location) listed c.has_location.ensures,
-        told ∙ ap (λ (l : List PlacedFault). faults_of c.args.faults.now ++ l) (
+        told ∙ ap (λ (l : List PlacedFault). faults_of c.args.faults.now ⊕ l) (
             (λ i. wrong (c.location-place.ensures i) (UnsupportedLocation (text i) c.args.location (copied i) (c.location.ensures i)) ∷ [])
             ∙ ap (λ b. unsupported_location b e c.args.location d) (sym c.if-has_location.false)),
       ),

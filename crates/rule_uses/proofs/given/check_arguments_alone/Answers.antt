@@ -5,7 +5,7 @@ use Rattle.rule_values.specs.in_fault_data.FaultView.{faults_of}
 use Rattle.rule_values.specs.in_rule_definitions.Judged.{judged}
 use Rattle.rule_uses.specs.Trees.{arguments_of, no_schema_tree}
 use Rattle.rule_uses.specs.UseFaults.{repeated_argument}
-use Rattle.rule_values.proofs.in_rule_definitions.Listing.{gains_both, gains_list}
+use Rattle.rule_values.proofs.in_fault_data.Adding.{gains_both, gains_list}
 use Rattle.rule_uses.proofs.Uses.{lists_repeated_arguments}
 use Rattle.rule_uses.proofs.given.check_arguments_alone.Goals as goal
 

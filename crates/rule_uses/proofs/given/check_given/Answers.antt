@@ -2,7 +2,7 @@ use Rattle.std.proofs.lemmas.Result.{on_ok_weaker}
 use Rattle.rule_values.specs.in_fault_data.FaultView.{faults_of}
 use Rattle.rule_values.specs.Wanting.{variables_of}
 use Rattle.rule_uses.specs.Trees.{arguments_of}
-use Rattle.rule_values.proofs.in_rule_definitions.Listing.{gains_both, gains_same}
+use Rattle.rule_values.proofs.in_fault_data.Adding.{gains_both, gains_same}
 use Rattle.rule_uses.proofs.Alone.{given_apart}
 use Rattle.rule_uses.proofs.given.check_given.Goals as goal
 

@@ -10,7 +10,8 @@ use Rattle.rule_values.specs.in_fault_data.Adds.{Adds}
 use Rattle.rule_values.specs.in_rule_definitions.Values.{UniqueInputValueIn}
 use Rattle.rule_uses.specs.Trees.{arguments_of}
 use Rattle.rule_uses.specs.Alone.{KeysBreak}
-use Rattle.rule_values.proofs.in_rule_definitions.Listing.{gains_none, gains_more, mapped_more}
+use Rattle.rule_values.proofs.in_rule_definitions.Listing.{mapped_more}
+use Rattle.rule_values.proofs.in_fault_data.Adding.{gains_none, gains_more}
 use Rattle.rule_uses.proofs.given.check_keys_given.Goals as goal
 
 pub loop-argument-init : goal.loop-argument-init

@@ -11,7 +11,8 @@ use Rattle.rule_values.specs.in_rule_definitions.Values.{UndefinedVariableIn}
 use Rattle.rule_values.specs.Wanting.{variables_of}
 use Rattle.rule_uses.specs.Trees.{arguments_of}
 use Rattle.rule_uses.specs.Steps.{VariablesGivenBreak}
-use Rattle.rule_values.proofs.in_rule_definitions.Listing.{gains_none, gains_more, mapped_more}
+use Rattle.rule_values.proofs.in_rule_definitions.Listing.{mapped_more}
+use Rattle.rule_values.proofs.in_fault_data.Adding.{gains_none, gains_more}
 use Rattle.rule_uses.proofs.given.check_variables_given.Goals as goal
 
 pub loop-argument-init : goal.loop-argument-init

@@ -9,7 +9,7 @@ use Rattle.rule_values.proofs.in_inputs.Noted.{noted_next}
 use Rattle.rule_uses.specs.Trees.{arguments_of}
 use Rattle.rule_uses.specs.UseFaults.{repeated_argument}
 use Rattle.rule_uses.proofs.Again.{argument_again_is}
-use Rattle.rule_values.proofs.in_rule_definitions.Listing.{places_more}
+use Rattle.rule_values.proofs.in_fault_data.Adding.{places_more}
 use Rattle.rule_uses.proofs.given.tell_arguments_again.Goals as goal
 
 pub loop-argument-preserved : goal.loop-argument-preserved

@@ -9,7 +9,8 @@ use Rattle.rule_values.specs.in_schema.SchemaOf.{schema_tree}
 use Rattle.rule_values.specs.in_fault_data.Adds.{Adds}
 use Rattle.rule_uses.specs.Trees.{directives_of}
 use Rattle.rule_uses.specs.SchemaUses.{UsesAt, ArgumentUses}
-use Rattle.rule_values.proofs.in_rule_definitions.Listing.{gains_none, gains_more, mapped_more}
+use Rattle.rule_values.proofs.in_rule_definitions.Listing.{mapped_more}
+use Rattle.rule_values.proofs.in_fault_data.Adding.{gains_none, gains_more}
 use Rattle.rule_uses.proofs.schema_uses.check_arguments.Goals as goal
 
 pub loop-definition-init : goal.loop-definition-init

@@ -8,7 +8,7 @@ use Rattle.rule_values.specs.in_fault_data.FaultView.{faults_of}
 use Rattle.rule_values.specs.in_fault_data.Adds.{Adds}
 use Rattle.rule_uses.specs.Trees.{directives_of}
 use Rattle.rule_uses.specs.SchemaUses.{UsesAt, ArgumentUses}
-use Rattle.rule_values.proofs.in_rule_definitions.Listing.{gains_both}
+use Rattle.rule_values.proofs.in_fault_data.Adding.{gains_both}
 use Rattle.rule_uses.proofs.schema_uses.check_field.Goals as goal
 
 pub returns : goal.returns

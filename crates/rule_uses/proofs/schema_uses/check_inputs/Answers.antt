@@ -14,7 +14,7 @@ use Rattle.tree_directives.specs.declared.directive_location.DirectiveLocation.T
 use Rattle.tree_directives.specs.DirectiveTree.{Directives, InputValueTree, input_value_tree}
 use Rattle.rule_uses.specs.Trees.{directives_of}
 use Rattle.rule_uses.specs.SchemaUses.{UsesAt, InputsUses}
-use Rattle.rule_values.proofs.in_rule_definitions.Listing.{gains_none, gains_more}
+use Rattle.rule_values.proofs.in_fault_data.Adding.{gains_none, gains_more}
 use Rattle.rule_uses.proofs.SchemaSteps.{pairs_more}
 use Rattle.rule_uses.proofs.schema_uses.check_inputs.Goals as goal
 

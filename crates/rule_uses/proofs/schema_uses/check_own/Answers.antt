@@ -13,7 +13,7 @@ use Rattle.rule_values.specs.in_fault_data.FaultView.{faults_of}
 use Rattle.rule_values.specs.in_fault_data.Adds.{Adds}
 use Rattle.rule_values.specs.in_rule_definitions.Judged.{is_built_in_scalar, type_location}
 use Rattle.rule_uses.specs.SchemaUses.{UsesAt}
-use Rattle.rule_values.proofs.in_rule_definitions.Listing.{gains_same}
+use Rattle.rule_values.proofs.in_fault_data.Adding.{gains_same}
 use Rattle.rule_uses.proofs.SchemaSteps.{own_judged, first_fails, second_fails}
 use Rattle.rule_uses.proofs.schema_uses.check_own.Goals as goal
 use Rattle.rule_uses.proofs.schema_uses.check_own.Goals.{else-is_scalar-via-then-is_scalar+else-is_built_in, else-is_scalar-via-else-is_scalar}

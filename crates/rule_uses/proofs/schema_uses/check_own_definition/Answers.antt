@@ -9,7 +9,7 @@ use Rattle.rule_values.specs.in_fault_data.FaultView.{faults_of}
 use Rattle.rule_values.specs.in_fault_data.Adds.{Adds}
 use Rattle.rule_uses.specs.Trees.{directives_of}
 use Rattle.rule_uses.specs.SchemaUses.{UsesAt, OwnDefinitionUses}
-use Rattle.rule_values.proofs.in_rule_definitions.Listing.{gains_same, gains_nothing}
+use Rattle.rule_values.proofs.in_fault_data.Adding.{gains_same, gains_nothing}
 use Rattle.rule_uses.proofs.SchemaSteps.{definition_judged, definition_unjudged}
 use Rattle.rule_uses.proofs.schema_uses.check_own_definition.Goals as goal
 

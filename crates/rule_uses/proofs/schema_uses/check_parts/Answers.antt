@@ -22,7 +22,7 @@ use Rattle.rule_values.specs.in_schema.SchemaOf.{schema_tree}
 use Rattle.rule_values.specs.in_fault_data.FaultView.{faults_of}
 use Rattle.rule_values.specs.in_fault_data.Adds.{Adds}
 use Rattle.rule_uses.specs.SchemaUses.{FieldsUses, ValuesUses, InputsUses, PartsUses}
-use Rattle.rule_values.proofs.in_rule_definitions.Listing.{gains_same, gains_nothing}
+use Rattle.rule_values.proofs.in_fault_data.Adding.{gains_same, gains_nothing}
 use Rattle.rule_uses.proofs.SchemaSteps.{only_fields, only_values, only_inputs, no_parts}
 use Rattle.rule_uses.proofs.schema_uses.check_parts.Goals as goal
 

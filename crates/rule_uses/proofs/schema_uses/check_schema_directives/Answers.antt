@@ -9,7 +9,7 @@ use Rattle.rule_values.specs.in_fault_data.FaultView.{faults_of}
 use Rattle.rule_values.specs.in_fault_data.Adds.{Adds}
 use Rattle.rule_values.specs.in_schema.declared.schema.Schema.{Schema}
 use Rattle.rule_uses.specs.SchemaUses.{UsesAt, TypesUses, DefinitionsUses}
-use Rattle.rule_values.proofs.in_rule_definitions.Listing.{gains_both, gains_same}
+use Rattle.rule_values.proofs.in_fault_data.Adding.{gains_both, gains_same}
 use Rattle.rule_uses.proofs.SchemaTold.{schema_uses_told}
 use Rattle.rule_uses.proofs.schema_uses.check_schema_directives.Goals as goal
 

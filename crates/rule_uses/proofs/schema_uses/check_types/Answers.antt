@@ -10,7 +10,7 @@ use Rattle.rule_values.specs.in_schema.SchemaOf.{schema_tree}
 use Rattle.rule_values.specs.in_fault_data.FaultView.{faults_of}
 use Rattle.rule_values.specs.in_fault_data.Adds.{Adds}
 use Rattle.rule_uses.specs.SchemaUses.{TypeUses, TypesUses}
-use Rattle.rule_values.proofs.in_rule_definitions.Listing.{gains_none, gains_more, gains_both}
+use Rattle.rule_values.proofs.in_fault_data.Adding.{gains_none, gains_more, gains_both}
 use Rattle.rule_uses.proofs.SchemaSteps.{pairs_more}
 use Rattle.rule_uses.proofs.schema_uses.check_types.Goals as goal
 

@@ -9,7 +9,7 @@ use Rattle.rule_values.specs.in_schema.SchemaOf.{schema_tree}
 use Rattle.rule_values.specs.in_fault_data.Adds.{Adds}
 use Rattle.rule_values.specs.Wanting.{variables_of}
 use Rattle.rule_uses.specs.Steps.{DisallowedUsage, GivenArgumentBreaks}
-use Rattle.rule_values.proofs.in_rule_definitions.Listing.{gains_both}
+use Rattle.rule_values.proofs.in_fault_data.Adding.{gains_both}
 use Rattle.rule_uses.proofs.taken.check_argument.Goals as goal
 
 pub returns : goal.returns

@@ -14,7 +14,8 @@ use Rattle.rule_values.specs.in_fault_data.Adds.{Adds}
 use Rattle.rule_values.specs.Wanting.{variables_of}
 use Rattle.rule_uses.specs.Trees.{arguments_of}
 use Rattle.rule_uses.specs.Steps.{DefinedArgumentBreaks, FirstGivenBreaks}
-use Rattle.rule_values.proofs.in_rule_definitions.Listing.{Gains, gains_none, gains_more, mapped_more}
+use Rattle.rule_values.proofs.in_rule_definitions.Listing.{mapped_more}
+use Rattle.rule_values.proofs.in_fault_data.Adding.{Gains, gains_none, gains_more}
 use Rattle.rule_values.proofs.in_inputs.Noted.{there}
 use Rattle.rule_uses.proofs.Numbered.{first_gains, later_gains}
 use Rattle.rule_uses.proofs.taken.check_arguments.Goals as goal

@@ -8,7 +8,7 @@ use Rattle.rule_values.specs.in_fault_data.FaultView.{faults_of}
 use Rattle.rule_values.specs.in_schema.SchemaOf.{schema_tree}
 use Rattle.rule_values.specs.Wanting.{variables_of}
 use Rattle.rule_uses.specs.Steps.{DefinedArgumentBreaks}
-use Rattle.rule_values.proofs.in_rule_definitions.Listing.{gains_same, gains_nothing}
+use Rattle.rule_values.proofs.in_fault_data.Adding.{gains_same, gains_nothing}
 use Rattle.rule_uses.proofs.Known.{defined_known}
 use Rattle.rule_uses.proofs.taken.check_if_defined.Goals as goal
 

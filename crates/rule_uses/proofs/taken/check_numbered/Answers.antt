@@ -6,7 +6,7 @@ use Rattle.rule_values.specs.in_schema.SchemaOf.{schema_tree}
 use Rattle.rule_values.specs.Wanting.{variables_of}
 use Rattle.rule_uses.specs.Trees.{taker_of}
 use Rattle.rule_uses.specs.UseFaults.{undefined_argument, required_argument}
-use Rattle.rule_values.proofs.in_rule_definitions.Listing.{gains_both, gains_list, gains_same}
+use Rattle.rule_values.proofs.in_fault_data.Adding.{gains_both, gains_list, gains_same}
 use Rattle.rule_uses.proofs.Uses.{lists_undefined_arguments, lists_required_arguments, given_arguments}
 use Rattle.rule_uses.proofs.taken.check_numbered.Goals as goal
 

@@ -1,4 +1,4 @@
-use Rattle.std.proofs.Common.{◌≡◌, List, [], ◌∷◌, ◌++◌, find, Option, None, sym, ap, ◌∙◌}
+use Rattle.std.proofs.Common.{◌≡◌, List, [], ◌∷◌, find, Option, None, sym, ap, ◌∙◌}
 use Rattle.std.specs.Option.{option_map_or}
 use Rattle.std.proofs.lemmas.Result.{IfOk-equal}
 use Rattle.graphql_names.specs.NameValue.{NameValue}
@@ -10,6 +10,7 @@ use Rattle.tree_directives.specs.DirectiveQueries.{input_value_has_name}
 use Rattle.tree_directives.specs.declared.directive.Argument.{Argument}
 use Rattle.tree_directives.specs.declared.input_value.InputValueDefinition.{InputValueDefinition}
 use Rattle.rule_values.specs.in_fault_data.FaultView.{faults_of}
+use Rattle.rule_values.specs.in_fault_data.Room.{◌⊕◌}
 use Rattle.rule_values.specs.in_rule_definitions.Diagnostics.{UndefinedArgument}
 use Rattle.rule_values.specs.in_rule_definitions.Faults.{wrong}
 use Rattle.rule_values.specs.in_rule_definitions.Names.{argument_name}
@@ -29,6 +30,6 @@ returns c =
     ∙ absent (λ (v : Bor (Node InputValueDefinition)). node_tree input_value_tree v.now) c.find_definition.result (sym c.is_some.ensures ∙ c.if-is_some.false) in
     let told : List PlacedFault = wrong a.place (UndefinedArgument (argument_name a) (coordinate_of taker.name) taker.definition_location) ∷ [] in
     IfOk-equal c.tell.result _ _ _ c.tell.ensures.told
-    (ap (λ (l : List PlacedFault). faults_of c.args.faults.now ++ l) (
+    (ap (λ (l : List PlacedFault). faults_of c.args.faults.now ⊕ l) (
     (λ i. wrong (c.location-location.ensures i) (UndefinedArgument (text i) (c.in_ok-coordinate.ensures i) taker.definition_location) ∷ [])
     ∙ ap (λ (o : Option (Placed Place (InputValueTree Place))). option_map_or (λ v. []) o told) (sym none)))

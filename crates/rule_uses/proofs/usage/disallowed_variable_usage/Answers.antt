@@ -1,7 +1,7 @@
 use Rattle.std.proofs.Common.{map, option_to_list}
 use Rattle.std.proofs.lemmas.Result.{on_ok_weaker}
 use Rattle.rule_values.specs.in_fault_data.FaultView.{fault_of, faults_of}
-use Rattle.rule_values.proofs.in_rule_definitions.Listing.{gains_list}
+use Rattle.rule_values.proofs.in_fault_data.Adding.{gains_list}
 use Rattle.rule_uses.proofs.usage.disallowed_variable_usage.Goals as goal
 
 pub returns : goal.returns

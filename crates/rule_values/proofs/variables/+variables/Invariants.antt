@@ -1,16 +1,17 @@
-use Rattle.std.proofs.Common.{◌≡◌, ◌++◌, drop}
+use Rattle.std.proofs.Common.{◌≡◌, drop}
 use Rattle.tree_literals.specs.ValueTree.{value_tree, item_trees, entry_trees}
 use Rattle.fault_data.specs.FaultView.{faults_of}
+use Rattle.fault_data.specs.Room.{◌⊕◌}
 use Rattle.rule_values.specs.Wanting.{variables_of}
 use Rattle.rule_values.specs.VariableFaults.{variable_faults_items, variable_faults_entries}
 use Rattle.rule_values.proofs.variables.+variables.Given as goal
 
 abbrev pub invariant-tell_variables_of_items-loop-item : goal.invariant-tell_variables_of_items-loop-item
 invariant-tell_variables_of_items-loop-item l =
-    faults_of l.fn.faults ++ variable_faults_items (variables_of l.variables) (item_trees value_tree l.items)
-    ≡ faults_of l.faults ++ variable_faults_items (variables_of l.variables) (item_trees value_tree (drop l.item-index l.items))
+    faults_of l.fn.faults ⊕ variable_faults_items (variables_of l.variables) (item_trees value_tree l.items)
+    ≡ faults_of l.faults ⊕ variable_faults_items (variables_of l.variables) (item_trees value_tree (drop l.item-index l.items))
 
 abbrev pub invariant-tell_variables_of_entries-loop-entry : goal.invariant-tell_variables_of_entries-loop-entry
 invariant-tell_variables_of_entries-loop-entry l =
-    faults_of l.fn.faults ++ variable_faults_entries (variables_of l.variables) (entry_trees value_tree l.entries)
-    ≡ faults_of l.faults ++ variable_faults_entries (variables_of l.variables) (entry_trees value_tree (drop l.entry-index l.entries))
+    faults_of l.fn.faults ⊕ variable_faults_entries (variables_of l.variables) (entry_trees value_tree l.entries)
+    ≡ faults_of l.faults ⊕ variable_faults_entries (variables_of l.variables) (entry_trees value_tree (drop l.entry-index l.entries))

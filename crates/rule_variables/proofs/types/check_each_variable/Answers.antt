@@ -3,11 +3,12 @@ use Rattle.std.proofs.lemmas.List.{take_all}
 use Rattle.graphql_names.specs.Placed.{node_tree}
 use Rattle.tree_operations.specs.OperationTree.{variable_definition_tree}
 use Rattle.rule_definitions.specs.Words.{AtSomeIndex}
-use Rattle.rule_document_ground.specs.in_schema.SchemaOf.{schema_tree}
+use Rattle.graphql_schema.specs.SchemaOf.{schema_tree}
 use Rattle.rule_uses.specs.in_fault_data.FaultView.{faults_of}
 use Rattle.rule_uses.specs.in_fault_data.Adds.{Adds}
 use Rattle.rule_uses.specs.in_rule_values.Wanting.{variables_of}
-use Rattle.rule_definitions.proofs.Listing.{gains_none, gains_more, mapped_more}
+use Rattle.rule_definitions.proofs.Listing.{mapped_more}
+use Rattle.rule_definitions.proofs.Adding.{gains_none, gains_more}
 use Rattle.rule_variables.specs.VariableFaults.{Defined, VariableBreaks}
 use Rattle.rule_variables.proofs.types.check_each_variable.Goals as goal
 

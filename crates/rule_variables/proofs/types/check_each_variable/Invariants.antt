@@ -1,6 +1,6 @@
 use Rattle.std.proofs.Common.{take}
 use Rattle.rule_definitions.specs.Words.{AtSomeIndex}
-use Rattle.rule_document_ground.specs.in_schema.SchemaOf.{schema_tree}
+use Rattle.graphql_schema.specs.SchemaOf.{schema_tree}
 use Rattle.rule_uses.specs.in_fault_data.Adds.{Adds}
 use Rattle.rule_uses.specs.in_rule_values.Wanting.{variables_of}
 use Rattle.rule_variables.specs.VariableFaults.{VariableBreaks}

@@ -6,7 +6,8 @@ use Rattle.rule_definitions.specs.Words.{AtSomeIndex}
 use Rattle.rule_uses.specs.in_fault_data.FaultView.{faults_of}
 use Rattle.rule_uses.specs.in_fault_data.Adds.{Adds}
 use Rattle.rule_uses.specs.in_rule_values.Wanting.{variables_of}
-use Rattle.rule_definitions.proofs.Listing.{gains_none, gains_more, mapped_more}
+use Rattle.rule_definitions.proofs.Listing.{mapped_more}
+use Rattle.rule_definitions.proofs.Adding.{gains_none, gains_more}
 use Rattle.rule_variables.specs.VariableFaults.{Defined, DefaultKeyBreaks}
 use Rattle.rule_variables.proofs.unique.check_default_keys.Goals as goal
 

@@ -7,7 +7,7 @@ use Rattle.rule_uses.specs.in_fault_data.FaultView.{faults_of}
 use Rattle.rule_uses.specs.in_rule_values.Firsts.{first_told}
 use Rattle.rule_uses.specs.in_rule_values.Wanting.{variables_of}
 use Rattle.rule_uses.proofs.in_rule_values.in_inputs.Noted.{noted_next}
-use Rattle.rule_definitions.proofs.Listing.{places_more}
+use Rattle.rule_definitions.proofs.Adding.{places_more}
 use Rattle.rule_variables.specs.VariableFaults.{repeated_variable}
 use Rattle.rule_variables.proofs.Told.{variable_again_is}
 use Rattle.rule_variables.proofs.unique.tell_variables_again.Goals as goal

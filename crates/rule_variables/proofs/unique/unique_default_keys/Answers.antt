@@ -6,7 +6,7 @@ use Rattle.tree_operations.specs.declared.operation.VariableDefinition.{Variable
 use Rattle.rule_definitions.specs.Values.{UniqueInputValueIn}
 use Rattle.rule_uses.specs.in_fault_data.FaultView.{faults_of}
 use Rattle.rule_uses.specs.in_fault_data.Adds.{Adds}
-use Rattle.rule_definitions.proofs.Listing.{gains_same}
+use Rattle.rule_definitions.proofs.Adding.{gains_same}
 use Rattle.rule_variables.specs.VariableFaults.{DefaultKeyBreaks}
 use Rattle.rule_variables.proofs.Told.{of_default}
 use Rattle.rule_variables.proofs.unique.unique_default_keys.Goals as goal

@@ -6,7 +6,8 @@ use Rattle.rule_definitions.specs.Words.{AtSomeIndex}
 use Rattle.rule_uses.specs.in_fault_data.FaultView.{faults_of}
 use Rattle.rule_uses.specs.in_fault_data.Adds.{Adds}
 use Rattle.rule_uses.specs.in_rule_values.Wanting.{variables_of}
-use Rattle.rule_definitions.proofs.Listing.{gains_none, gains_more, mapped_more}
+use Rattle.rule_definitions.proofs.Listing.{mapped_more}
+use Rattle.rule_definitions.proofs.Adding.{gains_none, gains_more}
 use Rattle.rule_document_ground.specs.NotedNames.{noted_names}
 use Rattle.rule_variables.specs.VariableFaults.{Defined, UnusedAmong}
 use Rattle.rule_variables.proofs.unused.tell_unused_variables.Goals as goal

@@ -7,7 +7,8 @@ use Rattle.tree_operations.specs.declared.operation.VariableDefinition.{Variable
 use Rattle.rule_definitions.specs.Diagnostics.{UnusedVariable}
 use Rattle.rule_definitions.specs.Faults.{wrong}
 use Rattle.rule_uses.specs.in_fault_data.FaultView.{faults_of}
-use Rattle.rule_definitions.proofs.Listing.{Lists, gains_list, gains_nothing}
+use Rattle.rule_definitions.proofs.Listing.{Lists}
+use Rattle.rule_definitions.proofs.Adding.{gains_list, gains_nothing}
 use Rattle.rule_document_ground.specs.NotedNames.{noted_names}
 use Rattle.rule_variables.specs.VariableFaults.{UnusedAmong}
 use Rattle.rule_variables.proofs.Told.{lists_unused}
@@ -28,4 +29,4 @@ returns c =
     let text = ap (λ (n : NameValue). n.text) c.in_ok-name.ensures.same ∙ named in
     let unused = subst (λ t. Lists (wrong c.head-location.result (UnusedVariable t) ∷ []) (UnusedAmong used x)) (sym text)
     (lists_unused used x (λ m. true≢false (sym (c.has_name.ensures.1 (subst (λ n. Contains used n) (sym named) m)) ∙ c.if-has_name.false)) c.head-location.result c.head-location.ensures) in
-    on_ok_weaker c.tell.result (λ told. gains_list (faults_of c.args.faults.now) (faults_of c.tell.new.faults) _ told unused) c.tell.ensures.told
+    on_ok_weaker c.tell.result (λ told. gains_list (faults_of c.args.faults.now) (faults_of c.tell.new.faults) (wrong c.head-location.result (UnusedVariable c.in_ok-name.name.text) ∷ []) told unused) c.tell.ensures.told

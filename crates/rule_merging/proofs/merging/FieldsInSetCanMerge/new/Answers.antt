@@ -1,6 +1,6 @@
 use Rattle.rule_field_groups.specs.in_definitions.Judged.{judged}
 use Rattle.rule_field_groups.specs.in_document_definitions.Selected.{operations}
-use Rattle.rule_field_groups.specs.in_sets.in_ground.in_schema.SchemaOf.{schema_tree}
+use Rattle.rule_field_groups.specs.in_sets.in_schema.SchemaOf.{schema_tree}
 use Rattle.rule_field_groups.specs.in_sets.in_ground.in_typed_operations.DocumentView.{document_meant}
 use Rattle.rule_merging.proofs.merging.FieldsInSetCanMerge.new.Goals as goal
 

@@ -1,6 +1,6 @@
 use Rattle.std.proofs.Common.{ap, sym, subst}
 use Rattle.rule_field_groups.specs.in_definitions.Judged.{judged}
-use Rattle.rule_field_groups.specs.in_sets.in_ground.in_schema.SchemaOf.{schema_tree}
+use Rattle.rule_field_groups.specs.in_sets.in_schema.SchemaOf.{schema_tree}
 use Rattle.rule_field_groups.specs.in_sets.in_ground.Fields.{meant_fragments}
 use Rattle.rule_field_groups.specs.Paid.{Account}
 use Rattle.rule_merging.specs.Verdict.{IsCountedIn}

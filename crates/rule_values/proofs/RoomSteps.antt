@@ -1,0 +1,5 @@
+-- Faults that are told one behind the other.
+use Rattle.std.proofs.lemmas.Grind.{common_steps}
+use Rattle.fault_data.proofs.Room.{room_both}
+
+pub ruleset room_steps = (room_both, common_steps)
