@@ -39,8 +39,7 @@ pub fn tell_breach(
     }
 }
 
-/// Tells what does not merge, if it does not: that is counted where the operation has been examined. After a refusal the list is
-/// as it was.
+/// Adds what does not merge at the end, if there is something, whatever the list has. After a refusal the list is as it was.
 pub fn push_breach(
     breaches: &mut Vec<(Option<SourceSpan>, BuildError)>,
     breach: Option<(Option<SourceSpan>, BuildError)>,
