@@ -25,6 +25,7 @@ pub mod Bounded
 pub mod Introspected
 pub mod Labelled
 pub mod Operations
+pub mod UnlessFull
 pub mod InDocuments
 pub use Rattle.rule_cycles.proofs.in_schema as in_schema
 pub use Rattle.rule_document_ground.proofs as in_ground

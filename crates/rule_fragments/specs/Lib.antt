@@ -17,6 +17,7 @@ pub mod ListedBreaches
 pub mod Nested
 pub mod Rooted
 pub mod Labels
+pub mod UnlessFull
 pub mod Documents
 pub use Rattle.rule_document_ground.specs.in_typed_operations as in_typed_operations
 pub use Rattle.rule_cycles.specs.in_schema as in_schema

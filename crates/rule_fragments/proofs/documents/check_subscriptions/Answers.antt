@@ -2,31 +2,49 @@ use Rattle.std.proofs.Common.{◌∙◌, ◌∷◌, [], ◌++◌, map, subst}
 use Rattle.document_typed_operations.specs.OperationsByName.{left_operations}
 use Rattle.rule_always.specs.in_ground.in_typed_operations.DocumentView.{document_meant, operation_meant}
 use Rattle.rule_document_definitions.specs.Selected.{operations}
-use Rattle.rule_fragments.specs.Documents.{AddsSubscriptions}
-use Rattle.rule_fragments.proofs.Operations.{lent_operation, lent_operations, all_operations, one_behind, lent_more, lent_all}
-use Rattle.rule_fragments.proofs.InDocuments.{subscriptions_none, subscriptions_more}
+use Rattle.rule_document_definitions.specs.Subscriptions.{SubscriptionBreaks}
+use Rattle.rule_always.specs.in_ground.Broken.{brokens_of}
+use Rattle.rule_fragments.specs.Documents.{SomeSubscriptionBreaks, TellsSubscriptions}
+use Rattle.rule_fragments.specs.SubscriptionTold.{AreAlike}
+use Rattle.rule_fragments.specs.UnlessFull.{AddsUnlessFull}
+use Rattle.rule_fragments.proofs.Operations.{lent_operation, lent_operations, all_operations, one_behind, lent_more, lent_all, lent_among}
+use Rattle.rule_fragments.proofs.UnlessFull.{TellsEach, each_none, each_more, adds_full}
 use Rattle.rule_fragments.proofs.documents.check_subscriptions.Goals as goal
 
 pub loop-operation-init : goal.loop-operation-init
-loop-operation-init c = (
-  λ own. subscriptions_none (document_meant c.args.document.now) c.args.breaches.now,
-  (λ i. map operation_meant (left_operations (c.into_iter-operation-iterator.ensures.into_iter_gives i)))
-      ∙ all_operations c.args.document.now (left_operations c.iter-operation-items.result) c.iter-operation-items.ensures,
-)
+loop-operation-init c =
+    let d = document_meant c.args.document.now in (
+      λ own. each_none (SubscriptionBreaks d) (AreAlike d) {Right = SomeSubscriptionBreaks d} (brokens_of c.args.breaches.now),
+      (λ i. map operation_meant (left_operations (c.into_iter-operation-iterator.ensures.into_iter_gives i)))
+          ∙ all_operations c.args.document.now (left_operations c.iter-operation-items.result) c.iter-operation-items.ensures,
+    )
 
 pub loop-operation-preserved : goal.loop-operation-preserved
 loop-operation-preserved c =
     let d = document_meant c.args.document.now in
     let at = c.loop-operation in
-    let x = c.in-Some.operation in (
-      λ own. subscriptions_more d c.args.breaches.now at.breaches c.check_subscription.new.breaches (lent_operations at.yielded) (lent_operations (at.yielded ++ x ∷ [])) (lent_operation x)
-          (one_behind at.yielded x) (at.invariant.0 own) (c.in_ok-check_subscription.ensures own),
-      lent_more at.yielded x (operations d) (left_operations at.operation-iterator) (left_operations c.next.new.self) c.in-Some.ensures.steps at.invariant.1,
+    let x = c.in-Some.operation in
+    let left = left_operations at.operation-iterator in
+    let rest = left_operations c.next.new.self in
+    let among = lent_among at.yielded x (operations d) left rest c.in-Some.ensures.steps at.invariant.1 in (
+      λ own.
+      let told = c.in_ok-check_subscription.ensures own in
+      each_more (SubscriptionBreaks d) (AreAlike d) {Right = SomeSubscriptionBreaks d} (brokens_of c.args.breaches.now) (brokens_of at.breaches) (brokens_of c.check_subscription.new.breaches)
+          (lent_operations at.yielded) (lent_operations (at.yielded ++ x ∷ [])) (lent_operation x) (one_behind at.yielded x) (at.invariant.0 own)
+          (told.0, (told.1.0, (λ f h. (lent_operation x, (among, told.1.1.right f h)), λ f breaks. told.1.1.full f breaks))),
+      lent_more at.yielded x (operations d) left rest c.in-Some.ensures.steps at.invariant.1,
     )
+
+-- where enough is told, the rest is left
+pub returns-then-is_full : goal.returns-then-is_full
+returns-then-is_full c =
+    let d = document_meant c.args.document.now in
+    let at = c.loop-operation in
+    λ own. adds_full {Right = SomeSubscriptionBreaks d} {U = TellsSubscriptions d} (brokens_of c.args.breaches.now) (brokens_of at.breaches) (c.is_full.ensures.0 c.if-is_full.true) (at.invariant.0 own)
 
 pub returns : goal.returns
 returns c =
     let d = document_meant c.args.document.now in
     let at = c.loop-operation in
     let all = lent_all at.yielded (operations d) (left_operations at.operation-iterator) c.in-None.ensures.steps.0 at.invariant.1 in
-    λ own. subst (λ l. AddsSubscriptions c.args.breaches.now at.breaches d l) all (at.invariant.0 own)
+    λ own. subst (λ l. AddsUnlessFull (brokens_of c.args.breaches.now) (brokens_of at.breaches) (SomeSubscriptionBreaks d) (TellsEach (SubscriptionBreaks d) (AreAlike d) l)) all (at.invariant.0 own)
