@@ -1,7 +1,8 @@
 -- The first 1,000 of what is told.
-use Rattle.std.proofs.Common.{◌≡◌, ◌≤◌, ℕ, zero, suc, ◌-◌, inl, inr, ltb, ◌&&◌, Bool, true, false, List, [], ◌∷◌, ◌++◌, map, None, take, length, refl, ap, sym, ◌∙◌, arith}
+use Rattle.std.proofs.Common.{◌≡◌, ◌⊎◌, ℕ, zero, suc, ◌-◌, inl, inr, ltb, ◌&&◌, Bool, true, false, List, [], ◌∷◌, ◌++◌, map, None, take, length, refl, ap, sym, ◌∙◌, arith}
 use Rattle.std.specs.List.{filter}
 use Rattle.std.proofs.lemmas.Bool.{cases_lt, lt-ltb, le-ltb}
+use Rattle.std.proofs.lemmas.List.{length-append, length-map}
 use Rattle.std.proofs.lemmas.List.Elements.{filter-append}
 use Rattle.graphql_names.specs.Placed.{Place}
 use Rattle.rule_definitions.specs.Told.{PlacedFault}
@@ -10,7 +11,9 @@ use Rattle.rule_definitions.proofs.Room.{room_first, room_silent}
 use Rattle.rule_document_definitions.specs.DocumentFaults.{Broken, OfData, OfDocument, OfLimit}
 use Rattle.rule_document_definitions.specs.Told.{PlacedDocumentFault}
 use Rattle.rule_merging.specs.in_faults.DetailsTree.{of_document}
-use Rattle.rule_merging.proofs.Behind.{nothing_told, told_nothing}
+use Rattle.rule_merging.proofs.Behind.{nothing_told}
+use Rattle.rule_fragments.specs.UnlessFull.{IsFull}
+use Rattle.rule_fragments.proofs.UnlessFull.{first_full}
 use Rattle.graphql_validation.specs.Lasts.{fault_lasts, broken_lasts, lasts}
 use Rattle.graphql_validation.specs.Operations.{bound_told, all_told}
 use Rattle.graphql_validation.specs.Told.{Telling}
@@ -24,36 +27,27 @@ none_first all e = room_silent all (room_first all ∙ e)
 pub none_told : (old new : Telling) (all : List PlacedDocumentFault) → new ≡ old ++ map of_document (take most_told all) → new ≡ old → all ≡ []
 none_told old new all is same = none_first all (nothing_told old new (take most_told all) is same)
 
-pub told_none : (old new : Telling) (all : List PlacedDocumentFault) → new ≡ old ++ map of_document (take most_told all) → all ≡ [] → new ≡ old
-told_none old new all is none = told_nothing old new (take most_told all) is (ap (take most_told) none)
+-- ---- where one part of all is as long as may be, so are the first of all
 
--- ---- the first of the first
+module _ (faults : List PlacedFault) (breaches : List (Broken Place)) (is_passed : Bool) where
+  full_faults : IsFull faults → IsFull (all_told faults breaches is_passed)
+  full_faults full =
+      let behind = map OfDocument breaches ++ bound_told is_passed in
+      let long = length-append (map OfData faults) behind in
+      let same = length-map faults OfData in
+      omega (arith, full, long, same)
 
--- of one list in front of others, of which more are kept
-first_front : {A B : Type 0} (f : A → B) (n more : ℕ) (xs : List A) (rest : List B) → n ≤ more → take n (map f (take more xs) ++ rest) ≡ take n (map f xs ++ rest)
-first_front f zero more xs rest h = refl
-first_front f (suc n) zero xs rest h = absurd (omega arith)
-first_front f (suc n) (suc more) [] rest h = refl
-first_front f (suc n) (suc more) (x ∷ xs) rest h =
-    let less : n ≤ more = omega arith in
-    ap (λ l. f x ∷ l) (first_front f n more xs rest less)
+  full_breaches : IsFull breaches → IsFull (all_told faults breaches is_passed)
+  full_breaches full =
+      let long = length-append (map OfData faults) (map OfDocument breaches ++ bound_told is_passed) in
+      let more = length-append (map OfDocument breaches) (bound_told is_passed) in
+      let same = length-map breaches OfDocument in
+      omega (arith, full, long, more, same)
 
--- and of one behind another
-first_behind : {A B C : Type 0} (f : A → C) (g : B → C) (n more : ℕ) (xs : List A) (ys : List B) (rest : List C) → n ≤ more
-    → take n (map f xs ++ (map g (take more ys) ++ rest)) ≡ take n (map f xs ++ (map g ys ++ rest))
-first_behind f g zero more xs ys rest h = refl
-first_behind f g (suc n) more [] ys rest h = first_front g (suc n) more ys rest h
-first_behind f g (suc n) more (x ∷ xs) ys rest h =
-    let less : n ≤ more = omega arith in
-    ap (λ l. f x ∷ l) (first_behind f g n more xs ys rest less)
-
--- where the faults are the first of all faults, and the breaches the first of all breaches
-pub first_all : (faults all : List PlacedFault) (breaches broken : List (Broken Place)) (is_passed : Bool) → faults ≡ take most_told all → breaches ≡ take most_told broken
-    → take most_told (all_told faults breaches is_passed) ≡ take most_told (all_told all broken is_passed)
-first_all faults all breaches broken is_passed a b =
-    (λ i. take most_told (all_told (a i) (b i) is_passed))
-    ∙ first_front OfData most_told most_told all (map OfDocument (take most_told broken) ++ bound_told is_passed) (omega arith)
-    ∙ first_behind OfData OfDocument most_told most_told all broken (bound_told is_passed) (omega arith)
+  pub parts_told : {A B C : Type 0} → IsFull faults ⊎ A → IsFull breaches ⊎ B → (A → B → C) → IsFull (take most_told (all_told faults breaches is_passed)) ⊎ C
+  parts_told (inl full) b c = inl (first_full (all_told faults breaches is_passed) (full_faults full))
+  parts_told (inr a) (inl full) c = inl (first_full (all_told faults breaches is_passed) (full_breaches full))
+  parts_told (inr a) (inr b) c = inr (c a b)
 
 -- ---- cutting faults, then breaches, then the bound
 

@@ -1,5 +1,5 @@
 -- Of a document under a schema: what is told in parts tells all, and what is silent is valid.
-use Rattle.std.proofs.Common.{◌≡◌, inl, inr, Bool, true, false, List, [], ◌∷◌, ◌++◌, map, take, None, refl, ap, sym, ◌∙◌, subst, Contains}
+use Rattle.std.proofs.Common.{◌≡◌, ◌⊎◌, inl, inr, Bool, true, false, List, [], ◌∷◌, ◌++◌, map, take, None, refl, subst, Contains}
 use Rattle.std.specs.Prelude.{IsTrue}
 use Rattle.graphql_names.specs.Placed.{Place}
 use Rattle.schema_types.specs.SchemaTree.{SchemaTree}
@@ -11,6 +11,7 @@ use Rattle.rule_definitions.specs.Judged.{judged}
 use Rattle.rule_definitions.specs.Room.{most_told}
 use Rattle.rule_definitions.specs.Told.{PlacedFault}
 use Rattle.rule_document_definitions.specs.DocumentFaults.{Broken, OfData, OfDocument, OfLimit}
+use Rattle.rule_document_definitions.specs.DocumentRules.{DeferredBreaks}
 use Rattle.rule_document_definitions.specs.Fragments.{ReachesItself}
 use Rattle.rule_document_definitions.specs.Limits.{PassesPathBound}
 use Rattle.rule_document_definitions.specs.Merging.{FieldsMerge}
@@ -29,12 +30,14 @@ use Rattle.rule_fragments.specs.SubscriptionTold.{AreAlike}
 use Rattle.rule_selections.specs.in_typing.Meanings.{meanings}
 use Rattle.rule_merging.specs.Merged.{MergingFailsAt}
 use Rattle.rule_merging.specs.in_faults.DetailsTree.{of_document}
-use Rattle.graphql_validation.specs.Operations.{AreReachesTyped, TellsData, AllUnder, OperationFails, all_told}
+use Rattle.rule_merging.proofs.Behind.{told_nothing}
+use Rattle.graphql_validation.specs.Operations.{AreReachesTyped, DataFails, TellsData, AllUnder, OperationFails, all_told}
 use Rattle.graphql_validation.specs.Steps.{TellsUnder}
-use Rattle.rule_fragments.specs.Documents.{AreFirst, TellsBreaches}
+use Rattle.rule_fragments.specs.Documents.{SomeSubscriptionBreaks, TellsBreaches, BreachesTold}
+use Rattle.rule_fragments.proofs.UnlessFull.{of_first, first_tells, tells_none}
 use Rattle.graphql_validation.specs.Told.{AnswersFragment, Telling}
 use Rattle.graphql_validation.specs.TellsDocument.{IsTypedUnder, FailsBesides, FailsBesideMerging, FailsInMerging, SomeFails, TellsDocument, DocumentTold}
-use Rattle.graphql_validation.proofs.FirstTold.{first_all, none_first, told_none}
+use Rattle.graphql_validation.proofs.FirstTold.{parts_told}
 use Rattle.graphql_validation.proofs.Ordered.{beside_under}
 use Rattle.graphql_validation.proofs.Telling.{data_in, broken_in, limit_in, told_cases, bound_is}
 
@@ -60,22 +63,22 @@ module _ (s : SchemaTree Place) (d : MeantDocument Place) where
   merging_some f (inr h) = inr (inr (inr (inr h)))
 
   -- the rules but those on merging, and the bounds
-  module _ (faults : List PlacedFault) (breaches : List (Broken Place)) (is_passed : Bool)
-      (parts : TellsData d (AllUnder s d) (λ o. OperationFails d o s) faults) (told : TellsBreaches d breaches) (passes : IsTrue is_passed → PassesPathBound d) where
+  module _ (faults : List PlacedFault) (breaches : List (Broken Place)) (is_passed : Bool) where
     abbrev All : List PlacedDocumentFault
     All = all_told faults breaches is_passed
 
-    pub beside : (f : PlacedDocumentFault) → Contains (all_told faults breaches is_passed) f → FailsBesideMerging s d f
-    beside f c = elim (told_cases faults breaches is_passed f c) [
-      | inl g ↦ subst (FailsBesideMerging s d) g.1.1 (elim (parts.right g.0 g.1.0) [ inl h ↦ inl h | inr h ↦ inr (inl h) ])
+    pub beside : ((f : PlacedFault) → Contains faults f → DataFails d (AllUnder s d) f) → ((b : Broken Place) → Contains breaches b → SomeSubscriptionBreaks d b ⊎ DeferredBreaks d b) → (IsTrue is_passed → PassesPathBound d)
+        → (f : PlacedDocumentFault) → Contains (all_told faults breaches is_passed) f → FailsBesideMerging s d f
+    beside fails breaks passes f c = elim (told_cases faults breaches is_passed f c) [
+      | inl g ↦ subst (FailsBesideMerging s d) g.1.1 (elim (fails g.0 g.1.0) [ inl h ↦ inl h | inr h ↦ inr (inl h) ])
       | inr r ↦ elim r [
-        | inl b ↦ subst (FailsBesideMerging s d) b.1.1 (inl (told.right b.0 b.1.0))
+        | inl b ↦ subst (FailsBesideMerging s d) b.1.1 (inl (breaks b.0 b.1.0))
         | inr k ↦ let b = bound_is is_passed f k in inr (inr (passes b.0, inr b.1))
       ]
     ]
 
-    tells_document : (NestsTooDeep d → IsTrue is_passed) → TellsDocument s d (all_told faults breaches is_passed)
-    tells_document found = record { right = λ f c. besides_some f (beside f c); full = full; cycles = cycles; subscriptions = subscriptions; bound = bound; apart = inl beside }
+    tells_document : (NestsTooDeep d → IsTrue is_passed) → TellsData d (λ o. OperationFails d o s) faults → TellsBreaches d breaches → TellsDocument s d (all_told faults breaches is_passed)
+    tells_document found parts told = record { full = full; cycles = cycles; subscriptions = subscriptions; bound = bound }
       where
         full : (f : PlacedDocumentFault) → FailsBesides s d f → Contains All f
         full (OfData f) h = data_in faults breaches is_passed f (parts.full f h)
@@ -91,38 +94,37 @@ module _ (s : SchemaTree Place) (d : MeantDocument Place) where
         bound : NestsTooDeep d → Contains All (OfLimit None)
         bound nests = limit_in faults breaches is_passed (found nests)
 
-  -- the same where the faults and the breaches are the first of all
+  -- the same of what is found
   module _ (typed : IsTypedUnder s d) (faults : List PlacedFault) (breaches : List (Broken Place)) (is_passed : Bool)
-      (parts : TellsUnder s d faults) (told : AreUnderOwnNames d → AreFirst (TellsBreaches d) breaches) (passes : IsTrue is_passed → PassesPathBound d) (found : NestsTooDeep d → IsTrue is_passed) where
-    first : (all : List PlacedFault) × ((broken : List (Broken Place)) × (((faults ≡ take most_told all) × (breaches ≡ take most_told broken)) × TellsDocument s d (all_told all broken is_passed)))
-    first =
-        let given = parts (reaches_typed typed) (own_names typed) in
-        let breaks = told (own_names typed) in
-        (given.0, (breaks.0, ((given.1.0, breaks.1.0), tells_document given.0 breaks.0 is_passed given.1.1 breaks.1.1 passes found)))
-
+      (parts : TellsUnder s d faults) (told : AreUnderOwnNames d → BreachesTold d breaches) (passes : IsTrue is_passed → PassesPathBound d) (found : NestsTooDeep d → IsTrue is_passed) where
     pub document_told : (old new : Telling) → new ≡ old ++ map of_document (take most_told (all_told faults breaches is_passed)) → DocumentTold s d old new
-    document_told old new is = (
-      all_told first.0 first.1.0 is_passed,
-      (is ∙ ap (λ l. old ++ map of_document l) (first_all faults first.0 breaches first.1.0 is_passed first.1.1.0.0 first.1.1.0.1), first.1.1.1),
-    )
+    document_told old new is =
+        let data = parts (reaches_typed typed) (own_names typed) in
+        let breaks = told (own_names typed) in
+        let all = all_told faults breaches is_passed in
+        let fails = beside faults breaches is_passed data.right breaks.right passes in (
+          take most_told all,
+          (
+            is,
+            (
+              first_tells {Right = SomeFails s d} {TellsAll = TellsDocument s d} (take most_told all) all refl (λ f c. besides_some f (fails f c))
+                  (parts_told faults breaches is_passed data.full breaks.full (tells_document faults breaches is_passed found)),
+              inl (λ f c. fails f (of_first all f c)),
+            ),
+          ),
+        )
 
-    -- where none of the first are told, nothing is
+    -- where nothing is told, that is all
     pub nothing_beside : (faults ≡ []) × ((breaches ≡ []) × (is_passed ≡ false)) → TellsDocument s d []
     nothing_beside (a, (b, e)) =
-        let no_fault : first.0 ≡ [] = none_first first.0 (sym first.1.1.0.0 ∙ a) in
-        let no_breach : first.1.0 ≡ [] = none_first first.1.0 (sym first.1.1.0.1 ∙ b) in
-        let nothing : all_told first.0 first.1.0 is_passed ≡ [] = λ i. all_told (no_fault i) (no_breach i) (e i) in
-        subst (TellsDocument s d) nothing first.1.1.1
+        let no_fault : TellsData d (λ o. OperationFails d o s) [] = tells_none faults (parts (reaches_typed typed) (own_names typed)) a in
+        let no_breach : TellsBreaches d [] = tells_none breaches (told (own_names typed)) b in
+        subst (λ p. TellsDocument s d (all_told [] [] p)) e (tells_document [] [] is_passed found no_fault no_breach)
 
   -- where they tell nothing, what merging tells is all
-  pub tells_merging : TellsDocument s d [] → (told : List PlacedDocumentFault) → ((f : PlacedDocumentFault) → Contains told f → AtOperation d (λ o. MergingFailsAt (judged s) d o f)) → TellsDocument s d told
-  tells_merging tells told conflicts = record { right = λ f c. merging_some f (fails f (conflicts f c)); full = full; cycles = cycles; subscriptions = subscriptions; bound = bound; apart = inr (λ f c. fails f (conflicts f c)) }
+  tells_merging : TellsDocument s d [] → (told : List PlacedDocumentFault) → TellsDocument s d told
+  tells_merging tells told = record { full = full; cycles = cycles; subscriptions = subscriptions; bound = bound }
     where
-      fails : (f : PlacedDocumentFault) → AtOperation d (λ o. MergingFailsAt (judged s) d o f) → FailsInMerging s d f
-      fails (OfData f) at = absurd at.1.1
-      fails (OfDocument b) at = inl at
-      fails (OfLimit place) (o, (among, (passes, is))) = inr (o, (among, (passes, λ i. OfLimit (is i))))
-
       full : (f : PlacedDocumentFault) → FailsBesides s d f → Contains told f
       full f h = absurd (not_in_nil f (tells.full f h))
 
@@ -134,6 +136,24 @@ module _ (s : SchemaTree Place) (d : MeantDocument Place) where
 
       bound : NestsTooDeep d → Contains told (OfLimit None)
       bound nests = absurd (not_in_nil _ (tells.bound nests))
+
+  pub merging_told : TellsDocument s d [] → (old new : Telling) (all : List PlacedDocumentFault) → new ≡ old ++ map of_document (take most_told all)
+      → ((f : PlacedDocumentFault) → Contains all f → AtOperation d (λ o. MergingFailsAt (judged s) d o f)) → DocumentTold s d old new
+  merging_told tells old new all is conflicts = (
+    take most_told all,
+    (
+      is,
+      (
+        first_tells {Right = SomeFails s d} {TellsAll = TellsDocument s d} (take most_told all) all refl (λ f c. merging_some f (fails f (conflicts f c))) (inr (tells_merging tells all)),
+        inr (λ f c. fails f (conflicts f (of_first all f c))),
+      ),
+    ),
+  )
+    where
+      fails : (f : PlacedDocumentFault) → AtOperation d (λ o. MergingFailsAt (judged s) d o f) → FailsInMerging s d f
+      fails (OfData f) at = absurd at.1.1
+      fails (OfDocument b) at = inl at
+      fails (OfLimit place) (o, (among, (passes, is))) = inr (o, (among, (passes, λ i. OfLimit (is i))))
 
   -- ---- what is silent
 
@@ -156,9 +176,9 @@ module _ (s : SchemaTree Place) (d : MeantDocument Place) where
   silent_is_valid named tells merge = (valid_where_nothing_is_told s d named).1 (λ f q. elim q [ inl h ↦ no_rule tells f h | inr h ↦ no_conflict merge f h ])
 
   -- nothing is told of what is valid and within the bounds
-  none_of_valid : FragmentsFoundByName d → (told : List PlacedDocumentFault) → TellsDocument s d told → IsValidDocument s d → WithinBounds (unplaced_document d) → told ≡ []
-  none_of_valid named [] tells valid within = refl
-  none_of_valid named (f ∷ fs) tells valid within = elim (tells.right f (Contains-first f fs f refl)) [
+  none_of_valid : FragmentsFoundByName d → (told : List PlacedDocumentFault) → ((f : PlacedDocumentFault) → Contains told f → SomeFails s d f) → IsValidDocument s d → WithinBounds (unplaced_document d) → told ≡ []
+  none_of_valid named [] fails valid within = refl
+  none_of_valid named (f ∷ fs) fails valid within = elim (fails f (Contains-first f fs f refl)) [
     | inl h ↦ absurd ((valid_where_nothing_is_told s d named).0 valid f (inl h))
     | inr r ↦ elim r [
       | inl h ↦ absurd ((valid_where_nothing_is_told s d named).0 valid f (inr h))
@@ -167,7 +187,7 @@ module _ (s : SchemaTree Place) (d : MeantDocument Place) where
   ]
 
   pub valid_is_silent : FragmentsFoundByName d → (old new : Telling) → DocumentTold s d old new → IsValidDocument s d → WithinBounds (unplaced_document d) → new ≡ old
-  valid_is_silent named old new (all, (is, tells)) valid within = told_none old new all is (none_of_valid named all tells valid within)
+  valid_is_silent named old new (told, (is, (tells, apart))) valid within = told_nothing old new told is (none_of_valid named told tells.right valid within)
 
 -- ---- where nothing is told
 

@@ -1,5 +1,5 @@
 -- What is judged operation by operation, and what is noted of the fragments.
-use Rattle.std.specs.Prelude.{◌≡◌, ◌↔◌, ◌++◌, ℕ, Bool, true, false, List, [], ◌∷◌, map, take, fold, Contains, None, ◌⊎◌}
+use Rattle.std.specs.Prelude.{◌≡◌, ◌↔◌, ◌++◌, ℕ, Bool, true, false, List, [], ◌∷◌, map, fold, Contains, None, ◌⊎◌}
 use Rattle.std.specs.Str.{bytes_eq}
 use Rattle.indexmap.specs.IndexSet.{insert_key}
 use Rattle.graphql_names.specs.Placed.{Place}
@@ -10,7 +10,7 @@ use Rattle.document_typed_selections.specs.TypedTree.{TypedSet}
 use Rattle.document_typed_operations.specs.TypedDocument.{TypedOperation}
 use Rattle.rule_selections.specs.in_typing.Meanings.{meanings}
 use Rattle.document_meaning.specs.MeantTree.{MeantOperation, MeantFragment, MeantDocument}
-use Rattle.rule_definitions.specs.Room.{most_told, ◌⊕◌}
+use Rattle.rule_definitions.specs.Room.{◌⊕◌}
 use Rattle.rule_definitions.specs.Judged.{judged}
 use Rattle.rule_definitions.specs.Told.{PlacedFault}
 use Rattle.rule_document_definitions.specs.DocumentFaults.{Broken, OfData, OfDocument, OfLimit}
@@ -25,6 +25,7 @@ use Rattle.rule_document_definitions.specs.Told.{PlacedDocumentFault, places_in,
 use Rattle.rule_selections.specs.Typed.{ReachesTyped}
 use Rattle.rule_fragments.specs.Told.{Answers, TellsFragmentCycles}
 use Rattle.rule_fragments.specs.Used.{IsUsed}
+use Rattle.rule_fragments.specs.UnlessFull.{TellsUnlessFull}
 
 module _ (d : MeantDocument Place) (o : MeantOperation Place) where
   -- a rule without a schema fails so in an operation, that on fragments that reach themselves aside
@@ -59,15 +60,18 @@ with_fragments = fold (λ ns f. insert_key bytes_eq ns f.name.it)
 abbrev pub FragmentsTold : MeantDocument Place → List PlacedFault → List PlacedFault → Type 0
 FragmentsTold d old new = (unused : List PlacedFault) × (((f : PlacedFault) → Contains unused f ↔ UnusedFragmentAt d f) × TellsFragmentCycles d (old ⊕ unused) new)
 
--- the faults with data of a document: `All` are those of an operation, `Beside` those but that fragments reach themselves
-pub record TellsData (d : MeantDocument Place) (All Beside : MeantOperation Place → PlacedFault → Type 0) (told : List PlacedFault) : Type 0 where
-  pub right : (f : PlacedFault) → Contains told f → (AtOperation d (λ o. All o f) ⊎ UnusedFragmentAt d f) ⊎ SpreadBoundFails places_alone d (OfData f)
+-- a fault with data of a document, where `All` are those of an operation
+abbrev pub DataFails : MeantDocument Place → (MeantOperation Place → PlacedFault → Type 0) → PlacedFault → Type 0
+DataFails d All f = (AtOperation d (λ o. All o f) ⊎ UnusedFragmentAt d f) ⊎ SpreadBoundFails places_alone d (OfData f)
+
+-- all of them are told, where `Beside` are those of an operation but that fragments reach themselves: each that does is answered
+pub record TellsData (d : MeantDocument Place) (Beside : MeantOperation Place → PlacedFault → Type 0) (told : List PlacedFault) : Type 0 where
   pub full : (f : PlacedFault) → AtOperation d (λ o. Beside o f) ⊎ UnusedFragmentAt d f → Contains told f
   pub cycles : (g : MeantFragment Place) → IsUsed d g → ReachesItself d g → (f : PlacedFault) × (Contains told f × Answers g f)
 
--- these are the first 1,000 of all faults with data of a document
-abbrev pub TellsFirst : MeantDocument Place → (All Beside : MeantOperation Place → PlacedFault → Type 0) → List PlacedFault → Type 0
-TellsFirst d All Beside told = (all : List PlacedFault) × ((told ≡ take most_told all) × TellsData d All Beside all)
+-- these are all faults with data of a document, or 1,000 of them
+abbrev pub DataTold : MeantDocument Place → (All Beside : MeantOperation Place → PlacedFault → Type 0) → List PlacedFault → Type 0
+DataTold d All Beside = TellsUnlessFull (DataFails d All) (TellsData d Beside)
 
 -- all rules without a schema, all rules under one, with data, on an operation
 abbrev pub AllAlone : MeantDocument Place → MeantOperation Place → PlacedFault → Type 0

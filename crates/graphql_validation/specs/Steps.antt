@@ -1,5 +1,5 @@
--- Private: leads to `TellsFirst` and `TellsDocument`. What the checks of operations find and note, and what is told at the end, as the program has it.
-use Rattle.std.specs.Prelude.{◌≡◌, ◌++◌, List, map, take, Option, Contains}
+-- Private: leads to `DataTold` and `TellsDocument`. What the checks of operations find and note, and what is told at the end, as the program has it.
+use Rattle.std.specs.Prelude.{◌≡◌, ◌++◌, List, map, take, Option, Contains, ◌⊎◌}
 use Rattle.indexmap.specs.IndexMap.{IndexMap}
 use Rattle.graphql_names.specs.NameValue.{NameValue}
 use Rattle.graphql_names.specs.Placed.{Place}
@@ -24,27 +24,34 @@ use Rattle.rule_document_definitions.specs.Told.{PlacedDocumentFault}
 use Rattle.rule_fragments.specs.in_ground.NotedNames.{noted_names}
 use Rattle.rule_fragments.specs.in_ground.Reach.{meant_fragments}
 use Rattle.rule_fragments.specs.Possible.{ObjectsOfTypes, ArePossibleIfFound}
+use Rattle.rule_fragments.specs.UnlessFull.{IsFull, HasAll, AddsUnlessFull}
 use Rattle.rule_fragments.specs.Used.{AreUnderOwnNames, AreUsed}
 use Rattle.rule_merging.specs.Merged.{MergingFailsAt}
 use Rattle.rule_selections.specs.Settled.{StandIn}
 use Rattle.rule_selections.specs.Typed.{ReachesTyped}
-use Rattle.graphql_validation.specs.Operations.{OperationFailsAlone, OperationFails, ReachesNamed, AreReachesTyped, NotesNames, FragmentsTold, TellsFirst, AllAlone, AllUnder}
+use Rattle.graphql_validation.specs.Operations.{OperationFailsAlone, OperationFails, ReachesNamed, AreReachesTyped, NotesNames, FragmentsTold, DataTold, AllAlone, AllUnder}
 use Rattle.graphql_validation.specs.declared.found.Found.{Found}
 
 -- what was told, and after it this of documents
 abbrev pub AddsDetails : DiagnosticList → DiagnosticList → List PlacedDocumentFault → Type 0
 AddsDetails old new told = diagnostics_of new ≡ diagnostics_of old ++ map of_document told
 
--- the names of the fragments that an operation reaches are noted, and of those that one of a document does
+-- the names of the fragments that an operation reaches are noted, and of those that one of a document does, unless the list is full
 abbrev pub NotesReached : MeantDocument Place → MeantOperation Place → Found → Found → Type 0
 NotesReached d o old new = NotesNames (noted_names old.used) (noted_names new.used) (ReachesNamed d o)
 
 abbrev pub NotesAllReached : MeantDocument Place → Found → Found → Type 0
-NotesAllReached d old new = NotesNames (noted_names old.used) (noted_names new.used) (λ n. AtOperation d (λ o. ReachesNamed d o n))
+NotesAllReached d old new = IsFull (faults_of new.faults) ⊎ NotesNames (noted_names old.used) (noted_names new.used) (λ n. AtOperation d (λ o. ReachesNamed d o n))
 
--- where fragments are under their own names, and the names are those that operations reach, the faults of all fragments come after these
+-- Where the list is full nothing comes after these; where it is not, fragments are under their own names, and the names are those that
+-- operations reach, so do the faults of all fragments.
 abbrev pub TellsFragments : MeantDocument Place → Found → List PlacedFault → Type 0
-TellsFragments d found told = AreUnderOwnNames d → AreUsed d (noted_names found.used) → FragmentsTold d (faults_of found.faults) told
+TellsFragments d found told = (IsFull (faults_of found.faults) → told ≡ faults_of found.faults)
+    × ((IsFull (faults_of found.faults) → ⊥) → AreUnderOwnNames d → AreUsed d (noted_names found.used) → FragmentsTold d (faults_of found.faults) told)
+
+-- what fails so in operations of a document is found: all of it, unless the list is full
+abbrev pub FindsAll : MeantDocument Place → (MeantOperation Place → PlacedFault → Type 0) → Found → Found → Type 0
+FindsAll d Fails old new = AddsUnlessFull (faults_of old.faults) (faults_of new.faults) (λ f. AtOperation d (λ o. Fails o f)) (HasAll (λ f. AtOperation d (λ o. Fails o f)))
 
 -- ---- without a schema
 
@@ -53,10 +60,10 @@ abbrev pub FindsAlone : MeantDocument Place → MeantOperation Place → Found �
 FindsAlone d o old new = Adds old.faults new.faults (OperationFailsAlone d o)
 
 abbrev pub FindsAllAlone : MeantDocument Place → Found → Found → Type 0
-FindsAllAlone d old new = Adds old.faults new.faults (λ f. AtOperation d (λ o. OperationFailsAlone d o f))
+FindsAllAlone d old new = FindsAll d (OperationFailsAlone d) old new
 
 abbrev pub TellsAlone : MeantDocument Place → List PlacedFault → Type 0
-TellsAlone d told = AreUnderOwnNames d → TellsFirst d (AllAlone d) (OperationFailsAlone d) told
+TellsAlone d told = AreUnderOwnNames d → DataTold d (AllAlone d) (OperationFailsAlone d) told
 
 -- ---- under a schema
 
@@ -81,13 +88,13 @@ module _ (s : SchemaTree Place) where
     -- what is found of each operation of the document, if these stand in for its fragments
     abbrev pub FindsAllUnder : {S : Type 0} → FragmentsOf S → Option ObjectsOfTypes → Found → Found → Type 0
     FindsAllUnder fragments possible old new = StandIn s d.fragments (meant_fragments fragments) → AreReachesTyped s d → ArePossibleIfFound (judged s) possible
-        → Adds old.faults new.faults (λ f. AtOperation d (λ o. OperationFails d o s f))
+        → FindsAll d (λ o. OperationFails d o s) old new
 
     abbrev pub NotesAllUnder : {S : Type 0} → FragmentsOf S → Found → Found → Type 0
     NotesAllUnder fragments old new = StandIn s d.fragments (meant_fragments fragments) → NotesAllReached d old new
 
     abbrev pub TellsUnder : List PlacedFault → Type 0
-    TellsUnder told = AreReachesTyped s d → AreUnderOwnNames d → TellsFirst d (AllUnder s d) (λ o. OperationFails d o s) told
+    TellsUnder told = AreReachesTyped s d → AreUnderOwnNames d → DataTold d (AllUnder s d) (λ o. OperationFails d o s) told
 
     -- the first 1,000 of what merging tells of the operations of the document
     abbrev pub TellsMerging : DiagnosticList → DiagnosticList → Type 0

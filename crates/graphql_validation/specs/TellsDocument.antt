@@ -1,5 +1,5 @@
 -- What is told of a document under a schema (GraphQL, October 2021, section 5).
-use Rattle.std.specs.Prelude.{◌≡◌, ◌++◌, List, map, take, Contains, ◌⊎◌, None}
+use Rattle.std.specs.Prelude.{◌≡◌, ◌++◌, List, map, Contains, ◌⊎◌, None}
 use Rattle.graphql_names.specs.Placed.{Place}
 use Rattle.schema_types.specs.SchemaTree.{SchemaTree}
 use Rattle.schema_types.specs.Plain.{plain}
@@ -7,7 +7,6 @@ use Rattle.document_meaning.specs.MeantTree.{MeantOperation, MeantFragment, Mean
 use Rattle.document_meaning.specs.Unplaced.{unplaced_document}
 use Rattle.rule_selections.specs.in_typing.Meanings.{meanings}
 use Rattle.rule_selections.specs.in_typing.TypedByPlace.{IsTypedDocument}
-use Rattle.rule_definitions.specs.Room.{most_told}
 use Rattle.rule_document_definitions.specs.DocumentFaults.{Broken, OfData, OfDocument, OfLimit}
 use Rattle.rule_document_definitions.specs.DocumentRules.{DeferredBreaks}
 use Rattle.rule_document_definitions.specs.Fragments.{ReachesItself, UnusedFragmentAt}
@@ -17,6 +16,7 @@ use Rattle.rule_document_definitions.specs.Selected.{operations}
 use Rattle.rule_document_definitions.specs.Subscriptions.{SubscriptionBreaks}
 use Rattle.rule_document_definitions.specs.Told.{PlacedDocumentFault, DocumentFails, DocumentMergingFails, DocumentBoundFails, IsValidDocument, places_alone}
 use Rattle.rule_document_definitions.specs.Verdict.{WithinBounds}
+use Rattle.rule_fragments.specs.UnlessFull.{TellsUnlessFull}
 use Rattle.rule_fragments.specs.Used.{IsUsed}
 use Rattle.rule_fragments.specs.Nested.{NestsTooDeep}
 use Rattle.rule_fragments.specs.SubscriptionTold.{AreAlike}
@@ -47,21 +47,22 @@ module _ (s : SchemaTree Place) (d : MeantDocument Place) where
   abbrev pub FailsBesideMerging : PlacedDocumentFault → Type 0
   FailsBesideMerging f = DocumentFails s d f ⊎ (SpreadBoundFails places_alone d f ⊎ PathBoundFails places_alone d f)
 
-  -- these tell what fails of the document, and all of it: of cycles, each fragment that reaches itself; of subscriptions, each fault
-  -- or one that tells the same root fields; of bounds, that on paths where it is passed in one text. What does not merge may be told
-  -- in part, and stands apart: either none of it is told, or nothing else
+  -- these tell all that fails of the document: of cycles, each fragment that reaches itself; of subscriptions, each fault or one that
+  -- tells the same root fields; of bounds, that on paths where it is passed in one text. What does not merge may be told in part
   pub record TellsDocument (told : List PlacedDocumentFault) : Type 0 where
-    pub right : (f : PlacedDocumentFault) → Contains told f → SomeFails f
     pub full : (f : PlacedDocumentFault) → FailsBesides f → Contains told f
     pub cycles : (g : MeantFragment Place) → IsUsed d g → ReachesItself d g → (f : PlacedDocumentFault) × (Contains told f × AnswersFragment g f)
     pub subscriptions : (o : MeantOperation Place) → Contains (operations d) o → (b : Broken Place) → SubscriptionBreaks d o b
         → (g : Broken Place) × (Contains told (OfDocument g) × AreAlike d o b g)
     pub bound : NestsTooDeep d → Contains told (OfLimit None)
-    pub apart : ((f : PlacedDocumentFault) → Contains told f → FailsBesideMerging f) ⊎ ((f : PlacedDocumentFault) → Contains told f → FailsInMerging f)
 
-  -- behind what was told stand the first 1,000 of what is told of the document
+  -- what does not merge stands apart: either none of it is told, or nothing else
+  abbrev pub MergingStandsApart : List PlacedDocumentFault → Type 0
+  MergingStandsApart told = ((f : PlacedDocumentFault) → Contains told f → FailsBesideMerging f) ⊎ ((f : PlacedDocumentFault) → Contains told f → FailsInMerging f)
+
+  -- behind what was told stands what fails of the document: all of it, or 1,000 faults
   abbrev pub DocumentTold : Telling → Telling → Type 0
-  DocumentTold old new = (all : List PlacedDocumentFault) × ((new ≡ old ++ map of_document (take most_told all)) × TellsDocument all)
+  DocumentTold old new = (told : List PlacedDocumentFault) × ((new ≡ old ++ map of_document told) × (TellsUnlessFull SomeFails TellsDocument told × MergingStandsApart told))
 
   -- the same of a document that is typed
   abbrev pub TypedDocumentTold : Telling → Telling → Type 0

@@ -1,5 +1,5 @@
 -- What is told of a document, and of a field set (GraphQL, October 2021, section 5).
-use Rattle.std.specs.Prelude.{◌≡◌, ℕ, List, ◌++◌, map, take, Contains, ◌⊎◌, None}
+use Rattle.std.specs.Prelude.{◌≡◌, ℕ, List, ◌++◌, map, Contains, ◌⊎◌, None}
 use Rattle.graphql_names.specs.Placed.{Place}
 use Rattle.schema_types.specs.SchemaTree.{SchemaTree}
 use Rattle.schema_types.specs.Plain.{plain}
@@ -9,7 +9,6 @@ use Rattle.document_meaning.specs.MeantTree.{MeantSet, MeantFragment, MeantDocum
 use Rattle.document_meaning.specs.Unplaced.{unplaced_document, unplaced_set}
 use Rattle.rule_selections.specs.in_typing.Meanings.{meanings}
 use Rattle.rule_selections.specs.in_typing.TypedByPlace.{IsSetOn}
-use Rattle.rule_definitions.specs.Room.{most_told}
 use Rattle.rule_definitions.specs.Told.{PlacedFault}
 use Rattle.rule_document_definitions.specs.DocumentFaults.{OfData, OfDocument, OfLimit}
 use Rattle.rule_document_definitions.specs.FieldSets.{document_of_set}
@@ -20,6 +19,7 @@ use Rattle.rule_document_definitions.specs.Told.{PlacedDocumentFault, SetRulesFa
 use Rattle.rule_document_definitions.specs.Verdict.{WithinBounds, FieldSetWithinBounds}
 use Rattle.rule_merging.specs.in_faults.DetailsTree.{of_document}
 pub use Rattle.rule_merging.specs.in_faults.DetailsTree.{Telling}
+use Rattle.rule_fragments.specs.UnlessFull.{TellsUnlessFull}
 use Rattle.rule_fragments.specs.Used.{IsUsed, AreUnderOwnNames}
 use Rattle.rule_fragments.specs.Told.{Answers}
 use Rattle.rule_fragments.specs.Nested.{NestsTooDeep}
@@ -35,21 +35,24 @@ FailsAloneBesideCycles d (OfData fault) = AtOperation d (λ o. OperationFailsAlo
 FailsAloneBesideCycles d (OfDocument fault) = DeferredBreaks d fault
 FailsAloneBesideCycles d (OfLimit place) = ⊥
 
--- these tell what fails of the document without a schema, and all of it: of cycles, each fragment that reaches itself; of bounds,
--- that on paths where it is passed in one text
+-- a rule without a schema fails so, or a bound is passed
+abbrev pub RuleOrBoundFailsAlone : MeantDocument Place → PlacedDocumentFault → Type 0
+RuleOrBoundFailsAlone d f = DocumentFailsAlone d f ⊎ DocumentBoundFails d f
+
+-- these tell all that fails of the document without a schema: of cycles, each fragment that reaches itself; of bounds, that on paths
+-- where it is passed in one text
 pub record TellsAlone (d : MeantDocument Place) (told : List PlacedDocumentFault) : Type 0 where
-  pub right : (f : PlacedDocumentFault) → Contains told f → DocumentFailsAlone d f ⊎ DocumentBoundFails d f
   pub full : (f : PlacedDocumentFault) → FailsAloneBesideCycles d f → Contains told f
   pub cycles : (g : MeantFragment Place) → IsUsed d g → ReachesItself d g → (f : PlacedDocumentFault) × (Contains told f × AnswersFragment g f)
   pub bound : NestsTooDeep d → Contains told (OfLimit None)
 
--- behind what was told stand the first 1,000 of what is told of the document without a schema
+-- behind what was told stands what fails of the document without a schema: all of it, or 1,000 faults
 abbrev pub AloneTold : MeantDocument Place → Telling → Telling → Type 0
-AloneTold d old new = (all : List PlacedDocumentFault) × ((new ≡ old ++ map of_document (take most_told all)) × TellsAlone d all)
+AloneTold d old new = (told : List PlacedDocumentFault) × ((new ≡ old ++ map of_document told) × TellsUnlessFull (RuleOrBoundFailsAlone d) (TellsAlone d) told)
 
 -- of a document whose fragments stand under their own names, as in each that is built
 module _ (d : MeantDocument Place) where
-  -- behind what was told stand the first 1,000 of what is told of it without a schema
+  -- behind what was told stands what fails of it without a schema, all of it or 1,000 faults
   abbrev pub NamedAloneTold : Telling → Telling → Type 0
   NamedAloneTold old new = AreUnderOwnNames d → AloneTold d old new
 
@@ -72,19 +75,18 @@ IsTypedSet s set = (t : List ℕ) × IsSetOn (meanings (plain s)) t set
 abbrev pub SetRulesOrBoundFail : SchemaTree Place → MeantSet Place → PlacedDocumentFault → Type 0
 SetRulesOrBoundFail s set f = SetRulesFail s set f ⊎ SetBoundFails set f
 
--- these tell what fails of the field set, and all of it: of bounds, that on paths where it is passed in one text
+-- these tell all that fails of the field set: of bounds, that on paths where it is passed in one text
 pub record TellsFieldSet (s : SchemaTree Place) (set : MeantSet Place) (told : List PlacedDocumentFault) : Type 0 where
-  pub right : (f : PlacedDocumentFault) → Contains told f → SetRulesOrBoundFail s set f
   pub full : (f : PlacedDocumentFault) → SetRulesFail s set f → Contains told f
   pub bound : NestsTooDeep (document_of_set None set) → Contains told (OfLimit None)
 
--- behind what was told stand the first 1,000 of what is told of the field set
+-- behind what was told stands what fails of the field set: all of it, or 1,000 faults
 abbrev pub FieldSetTold : SchemaTree Place → MeantSet Place → Telling → Telling → Type 0
-FieldSetTold s set old new = (all : List PlacedDocumentFault) × ((new ≡ old ++ map of_document (take most_told all)) × TellsFieldSet s set all)
+FieldSetTold s set old new = (told : List PlacedDocumentFault) × ((new ≡ old ++ map of_document told) × TellsUnlessFull (SetRulesOrBoundFail s set) (TellsFieldSet s set) told)
 
 -- of a field set that is typed
 module _ (s : SchemaTree Place) (set : MeantSet Place) where
-  -- behind what was told stand the first 1,000 of what is told of it
+  -- behind what was told stands what fails of it, all of it or 1,000 faults
   abbrev pub TypedFieldSetTold : Telling → Telling → Type 0
   TypedFieldSetTold old new = IsTypedSet s set → FieldSetTold s set old new
 

@@ -7,7 +7,7 @@ ghost use Rattle.graphql_validation.specs.Steps.{FindsAlone, NotesReached, Finds
 
 use crate::found::{Found, check_fragments, note_fragments};
 use document_typed_operations::{ExecutableDocument, Operation};
-use fault_data::Fault;
+use fault_data::{Fault, is_full};
 use graphql_names::Node;
 use rule_fragments::{check_spreads, reach};
 use rule_selections::check_selections_alone;
@@ -32,18 +32,22 @@ fn check_operation(
     note_fragments(&reach, &mut found.used)
 }
 
-/// Adds the faults of each operation without a schema, and notes the fragments that one of them reaches.
+/// Adds the faults of each operation without a schema, and notes the fragments that one of them reaches, up to the one where
+/// the list is full.
 fn check_operations(document: &ExecutableDocument, found: &mut Found) -> Result<(), AllocError>
     ensures told { OnOk result (FindsAllAlone (document_meant document.now) found.old found.new) }
     ensures noted { OnOk result (NotesAllReached (document_meant document.now) found.old found.new) }
 {
     for operation in document.operations.iter() {
+        if is_full(&found.faults) {
+            return Ok(());
+        }
         check_operation(document, operation, found)?;
     }
     Ok(())
 }
 
-/// The faults of a document without a schema.
+/// The faults of a document without a schema: all, or [`MOST_TOLD`](fault_data::MOST_TOLD).
 pub(crate) fn faults_alone(
     alloc: Global,
     document: &ExecutableDocument,

@@ -11,7 +11,7 @@ ghost use Rattle.graphql_validation.specs.Operations.{with_fragments};
 ghost use Rattle.graphql_validation.specs.Steps.{TellsFragments};
 
 use document_typed_operations::ExecutableDocument;
-use fault_data::Fault;
+use fault_data::{Fault, is_full};
 use graphql_names::Name;
 use indexmap::IndexSet;
 use rule_fragments::{Reach, check_cycles, check_unused, note_name};
@@ -58,8 +58,8 @@ pub(crate) fn fragments_differ(document: &ExecutableDocument)
     let _ = document.fragments.len();
 }
 
-/// The faults that were found, and after them those of all fragments of the document: UnusedFragment, and
-/// RecursiveFragmentDefinition of those that an operation reaches.
+/// The faults that were found, and after them, unless the list is full, those of all fragments of the document:
+/// UnusedFragment, and RecursiveFragmentDefinition of those that an operation reaches.
 pub(crate) fn check_fragments(
     document: &ExecutableDocument,
     found: Found,
@@ -67,6 +67,10 @@ pub(crate) fn check_fragments(
     ensures { IfOk result (λ r. TellsFragments (document_meant document.now) found (faults_of r)) }
 {
     let Found { mut faults, used } = found;
+    // Then not all operations may have been walked, so the names may be too few.
+    if is_full(&faults) {
+        return Ok(faults);
+    }
     let alloc = *faults.allocator();
     // After all operations, as any of them may use a fragment.
     check_unused(&document.fragments, &used, &mut faults)?;

@@ -11,7 +11,7 @@ ghost use Rattle.graphql_validation.specs.Steps.{FindsUnder, NotesUnder, StayPos
 
 use crate::found::{Found, check_fragments, note_fragments};
 use document_typed_operations::{ExecutableDocument, FragmentMap, Operation};
-use fault_data::Fault;
+use fault_data::{Fault, is_full};
 use graphql_names::Node;
 use rule_fragments::{PossibleTypes, check_applications, check_spreads, for_document, reach};
 use rule_selections::{IndexedSchema, check_selections, settled_fragments};
@@ -49,7 +49,7 @@ fn check_operation(
 }
 
 /// Adds the faults of each operation under a schema, and notes the fragments that one of them reaches, where these
-/// fragments replace those of the document.
+/// fragments replace those of the document, up to the one where the list is full.
 fn check_operations(
     schema: &IndexedSchema<'_>,
     possible: &mut Option<PossibleTypes>,
@@ -62,12 +62,15 @@ fn check_operations(
     ensures right { OnOk result (StayPossible (schema_tree schema.now) possible.old possible.new) }
 {
     for operation in document.operations.iter() {
+        if is_full(&found.faults) {
+            return Ok(());
+        }
         check_operation(schema, possible, fragments, operation, found)?;
     }
     Ok(())
 }
 
-/// The faults of a document under a schema. What several operations share is judged once, as far as it breaks no rule
+/// The faults of a document under a schema: all, or [`MOST_TOLD`](fault_data::MOST_TOLD). What several operations share is judged once, as far as it breaks no rule
 /// whatever their variables. `possible` has the possible types of the schema, if they are there already. Where they are not,
 /// they are found once, for the first operation in which a fragment is on another type than that where it stands; if there is
 /// none, never.

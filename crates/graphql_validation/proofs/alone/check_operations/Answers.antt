@@ -1,24 +1,26 @@
-use Rattle.std.proofs.Common.{◌∙◌, ◌∷◌, [], ◌++◌, map, subst}
+use Rattle.std.proofs.Common.{◌≡◌, ◌∙◌, ◌∷◌, [], ◌++◌, map, subst, inl, inr}
 use Rattle.fault_data.specs.FaultView.{faults_of}
-use Rattle.fault_data.specs.Adds.{Adds}
 use Rattle.graphql_names.specs.Placed.{Place}
 use Rattle.document_typed_operations.specs.OperationsByName.{left_operations}
 use Rattle.document_meaning.specs.MeantTree.{MeantOperation}
 use Rattle.rule_fragments.specs.in_typed_operations.DocumentView.{document_meant, operation_meant}
+use Rattle.rule_definitions.specs.Told.{PlacedFault}
 use Rattle.rule_definitions.specs.Words.{AtSomeIndex}
+use Rattle.rule_document_definitions.specs.Reached.{AtOperation}
 use Rattle.rule_document_definitions.specs.Selected.{operations}
 use Rattle.rule_fragments.specs.in_ground.NotedNames.{noted_names}
-use Rattle.rule_definitions.proofs.Adding.{gains_none, gains_more, gains_same}
+use Rattle.rule_fragments.specs.UnlessFull.{HasAll}
 use Rattle.rule_fragments.proofs.in_ground.AtReaches.{some_index}
+use Rattle.rule_fragments.proofs.UnlessFull.{each_none, each_more, exactly_one, each_exactly, adds_by, adds_full}
 use Rattle.graphql_validation.specs.Operations.{OperationFailsAlone, ReachesNamed, NotesNames}
 use Rattle.graphql_validation.proofs.Noting.{notes_none, notes_more, notes_same}
-use Rattle.rule_fragments.proofs.Operations.{lent_operation, lent_operations, all_operations, one_behind, lent_more, lent_all}
+use Rattle.rule_fragments.proofs.Operations.{lent_operation, lent_operations, all_operations, one_behind, lent_more, lent_all, lent_among}
 use Rattle.graphql_validation.proofs.alone.check_operations.Goals as goal
 
 pub loop-operation-init : goal.loop-operation-init
 loop-operation-init c =
     let d = document_meant c.args.document.now in (
-      gains_none {X = MeantOperation Place} (faults_of c.args.found.now.faults) (λ k o f. OperationFailsAlone d o f),
+      each_none (OperationFailsAlone d) (λ (o : MeantOperation Place) (f g : PlacedFault). f ≡ g) {Right = λ f. AtOperation d (λ o. OperationFailsAlone d o f)} (faults_of c.args.found.now.faults),
       notes_none (λ o n. ReachesNamed d o n) (noted_names c.args.found.now.used),
       (λ i. map operation_meant (left_operations (c.into_iter-operation-iterator.ensures.into_iter_gives i)))
           ∙ all_operations c.args.document.now (left_operations c.iter-operation-items.result) c.iter-operation-items.ensures,
@@ -29,28 +31,44 @@ loop-operation-preserved c =
     let d = document_meant c.args.document.now in
     let at = c.loop-operation in
     let x = c.in-Some.operation in
+    let left = left_operations at.operation-iterator in
+    let rest = left_operations c.next.new.self in
     let before = lent_operations at.yielded in
-    let behind = lent_operations (at.yielded ++ x ∷ []) in (
-      gains_more (faults_of c.args.found.now.faults) (faults_of at.found.faults) (faults_of c.check_operation.new.found.faults) before behind (lent_operation x) (λ k o f. OperationFailsAlone d o f)
-          (one_behind at.yielded x) at.invariant.0 c.in_ok-check_operation.ensures.told,
+    let behind = lent_operations (at.yielded ++ x ∷ []) in
+    let mid = faults_of at.found.faults in
+    let new = faults_of c.check_operation.new.found.faults in
+    let among = lent_among at.yielded x (operations d) left rest c.in-Some.ensures.steps at.invariant.2 in (
+      each_more (OperationFailsAlone d) (λ (o : MeantOperation Place) (f g : PlacedFault). f ≡ g) {Right = λ f. AtOperation d (λ o. OperationFailsAlone d o f)} (faults_of c.args.found.now.faults) mid new before behind (lent_operation x)
+          (one_behind at.yielded x) at.invariant.0 (exactly_one (OperationFailsAlone d) mid new (operations d) (lent_operation x) among c.in_ok-check_operation.ensures.told),
       notes_more (λ o n. ReachesNamed d o n) (noted_names c.args.found.now.used) (noted_names at.found.used) (noted_names c.check_operation.new.found.used) before behind (lent_operation x)
           (one_behind at.yielded x) at.invariant.1 c.in_ok-check_operation.ensures.noted,
-      lent_more at.yielded x (operations d) (left_operations at.operation-iterator) (left_operations c.next.new.self) c.in-Some.ensures.steps at.invariant.2,
+      lent_more at.yielded x (operations d) left rest c.in-Some.ensures.steps at.invariant.2,
     )
+
+-- where the list is full, the rest is left
+pub returns-then-is_full-clause-told : goal.returns-then-is_full-clause-told
+returns-then-is_full-clause-told c =
+    let d = document_meant c.args.document.now in
+    let at = c.loop-operation in
+    adds_full {Right = λ f. AtOperation d (λ o. OperationFailsAlone d o f)} {U = HasAll (λ f. AtOperation d (λ o. OperationFailsAlone d o f))} (faults_of c.args.found.now.faults) (faults_of at.found.faults)
+    (c.is_full.ensures.0 c.if-is_full.true) at.invariant.0
+
+pub returns-then-is_full-clause-noted : goal.returns-then-is_full-clause-noted
+returns-then-is_full-clause-noted c = inl (c.is_full.ensures.0 c.if-is_full.true)
 
 pub returns-clause-told : goal.returns-clause-told
 returns-clause-told c =
     let d = document_meant c.args.document.now in
     let at = c.loop-operation in
     let all = lent_all at.yielded (operations d) (left_operations at.operation-iterator) c.in-None.ensures.steps.0 at.invariant.2 in
-    gains_same (faults_of c.args.found.now.faults) (faults_of at.found.faults) (λ f. some_index (operations d) (λ o. OperationFailsAlone d o f))
-    (subst (λ l. Adds c.args.found.now.faults at.found.faults (λ f. AtSomeIndex l (λ k o. OperationFailsAlone d o f))) all at.invariant.0)
+    adds_by {Right = λ f. AtOperation d (λ o. OperationFailsAlone d o f)} {U = HasAll (λ f. AtOperation d (λ o. OperationFailsAlone d o f))} (faults_of c.args.found.now.faults) (faults_of at.found.faults) (λ f h. h)
+    (λ told h. each_exactly (OperationFailsAlone d) (lent_operations at.yielded) (operations d) told all h) at.invariant.0
 
 pub returns-clause-noted : goal.returns-clause-noted
 returns-clause-noted c =
     let d = document_meant c.args.document.now in
     let at = c.loop-operation in
     let all = lent_all at.yielded (operations d) (left_operations at.operation-iterator) c.in-None.ensures.steps.0 at.invariant.2 in
-    notes_same (λ (o : MeantOperation Place) n. ReachesNamed d o n) (noted_names c.args.found.now.used) (noted_names at.found.used)
+    inr (notes_same (λ (o : MeantOperation Place) n. ReachesNamed d o n) (noted_names c.args.found.now.used) (noted_names at.found.used)
     (λ n. AtSomeIndex (operations d) (λ k o. ReachesNamed d o n)) _ (λ n. some_index (operations d) (λ o. ReachesNamed d o n))
-    (subst (λ l. NotesNames (noted_names c.args.found.now.used) (noted_names at.found.used) (λ n. AtSomeIndex l (λ k o. ReachesNamed d o n))) all at.invariant.1)
+    (subst (λ l. NotesNames (noted_names c.args.found.now.used) (noted_names at.found.used) (λ n. AtSomeIndex l (λ k o. ReachesNamed d o n))) all at.invariant.1))

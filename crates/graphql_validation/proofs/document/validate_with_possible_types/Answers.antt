@@ -12,7 +12,7 @@ use Rattle.graphql_validation.specs.Operations.{all_told}
 use Rattle.graphql_validation.specs.TellsDocument.{IsTypedUnder, TellsDocument}
 use Rattle.rule_merging.proofs.Behind.{begins_same, refused_so}
 use Rattle.graphql_validation.proofs.FirstTold.{none_told}
-use Rattle.graphql_validation.proofs.WholeDocuments.{own_names, document_told, nothing_beside, tells_merging, silent_is_valid, valid_is_silent, only_none}
+use Rattle.graphql_validation.proofs.WholeDocuments.{own_names, document_told, nothing_beside, merging_told, silent_is_valid, valid_is_silent, only_none}
 use Rattle.graphql_validation.proofs.document.validate_with_possible_types.Goals as goal
 
 pub returns-in_err-faults-clause-begins : goal.returns-in_err-faults-clause-begins
@@ -32,7 +32,7 @@ returns-then-is_nothing-clause-told c =
     let p = c.passes_path_bound-is_passed.result in
     let bound = c.passes_path_bound-is_passed.ensures in
     let none : IsTypedUnder s d → TellsDocument s d [] = λ typed. nothing_beside s d typed fs bs p c.in_ok-faults.ensures c.in_ok-breaches.ensures bound.right bound.found (c.is_nothing.ensures.0 c.if-is_nothing.true) in
-    on_ok_weaker c.merge_operations.result (λ h typed. (h.0, (h.1.0, tells_merging s d (none typed) h.0 h.1.1))) (subst (λ (y : Schema). OnOk c.merge_operations.result (TellsMerging (schema_tree y) d c.args.list.now c.merge_operations.new.list)) c.schema.ensures c.merge_operations.ensures.told)
+    on_ok_weaker c.merge_operations.result (λ h typed. merging_told s d (none typed) (diagnostics_of c.args.list.now) (diagnostics_of c.merge_operations.new.list) h.0 h.1.0 h.1.1) (subst (λ (y : Schema). OnOk c.merge_operations.result (TellsMerging (schema_tree y) d c.args.list.now c.merge_operations.new.list)) c.schema.ensures c.merge_operations.ensures.told)
 
 pub returns-then-is_nothing-clause-silent : goal.returns-then-is_nothing-clause-silent
 returns-then-is_nothing-clause-silent c =

@@ -21,7 +21,7 @@ returns-clause-told c =
     let bs = brokens_of c.in_ok-breaches.breaches in
     let bound = c.passes_path_bound-is_passed.ensures in
     on_ok_weaker c.append_all.result
-    (λ h own. alone_told d (diagnostics_of c.args.list.now) (diagnostics_of c.append_all.new.list) fs bs c.passes_path_bound-is_passed.result (c.in_ok-faults.ensures own) c.in_ok-breaches.ensures bound.right bound.found h)
+    (λ h own. alone_told d fs bs c.passes_path_bound-is_passed.result (diagnostics_of c.args.list.now) (diagnostics_of c.append_all.new.list) (c.in_ok-faults.ensures own) c.in_ok-breaches.ensures bound.right bound.found h)
     c.append_all.ensures.added
 
 pub returns-clause-silent : goal.returns-clause-silent

@@ -1,16 +1,18 @@
-use Rattle.std.proofs.Common.{◌∙◌, ◌∷◌, [], ◌++◌, map, subst}
+use Rattle.std.proofs.Common.{◌≡◌, ◌∙◌, ◌∷◌, [], ◌++◌, map, subst, inl, inr}
 use Rattle.fault_data.specs.FaultView.{faults_of}
-use Rattle.fault_data.specs.Adds.{Adds}
 use Rattle.graphql_names.specs.Placed.{Place}
 use Rattle.rule_fragments.specs.in_schema.SchemaOf.{schema_tree}
 use Rattle.document_typed_operations.specs.OperationsByName.{left_operations}
 use Rattle.document_meaning.specs.MeantTree.{MeantOperation}
 use Rattle.rule_fragments.specs.in_typed_operations.DocumentView.{document_meant, operation_meant}
+use Rattle.rule_definitions.specs.Told.{PlacedFault}
 use Rattle.rule_definitions.specs.Words.{AtSomeIndex}
+use Rattle.rule_document_definitions.specs.Reached.{AtOperation}
 use Rattle.rule_document_definitions.specs.Selected.{operations}
 use Rattle.rule_fragments.specs.in_ground.NotedNames.{noted_names}
-use Rattle.rule_definitions.proofs.Adding.{gains_none, gains_more, gains_same}
+use Rattle.rule_fragments.specs.UnlessFull.{HasAll}
 use Rattle.rule_fragments.proofs.in_ground.AtReaches.{some_index}
+use Rattle.rule_fragments.proofs.UnlessFull.{each_none, each_more, exactly_one, each_exactly, adds_by, adds_full}
 use Rattle.graphql_validation.specs.Operations.{OperationFails, ReachesNamed, NotesNames}
 use Rattle.graphql_validation.proofs.Noting.{notes_none, notes_more, notes_same}
 use Rattle.rule_fragments.proofs.Operations.{lent_operation, lent_operations, all_operations, one_behind, lent_more, lent_all, lent_among}
@@ -20,7 +22,7 @@ pub loop-operation-init : goal.loop-operation-init
 loop-operation-init c =
     let s = schema_tree c.args.schema.now in
     let d = document_meant c.args.document.now in (
-      λ in' typed possible. gains_none {X = MeantOperation Place} (faults_of c.args.found.now.faults) (λ k o f. OperationFails d o s f),
+      λ in' typed possible. each_none (λ o. OperationFails d o s) (λ (o : MeantOperation Place) (f g : PlacedFault). f ≡ g) {Right = λ f. AtOperation d (λ o. OperationFails d o s f)} (faults_of c.args.found.now.faults),
       λ in'. notes_none (λ o n. ReachesNamed d o n) (noted_names c.args.found.now.used),
       λ possible. possible,
       (λ i. map operation_meant (left_operations (c.into_iter-operation-iterator.ensures.into_iter_gives i)))
@@ -37,14 +39,29 @@ loop-operation-preserved c =
     let rest = left_operations c.next.new.self in
     let before = lent_operations at.yielded in
     let behind = lent_operations (at.yielded ++ x ∷ []) in
+    let mid = faults_of at.found.faults in
+    let new = faults_of c.check_operation.new.found.faults in
     let among = lent_among at.yielded x (operations d) left rest c.in-Some.ensures.steps at.invariant.3 in (
-      λ in' typed possible. gains_more (faults_of c.args.found.now.faults) (faults_of at.found.faults) (faults_of c.check_operation.new.found.faults) before behind (lent_operation x) (λ k o f. OperationFails d o s f)
-          (one_behind at.yielded x) (at.invariant.0 in' typed possible) (c.in_ok-check_operation.ensures.told d in' (typed (lent_operation x) among) (at.invariant.2 possible)),
+      λ in' typed possible. each_more (λ o. OperationFails d o s) (λ (o : MeantOperation Place) (f g : PlacedFault). f ≡ g) {Right = λ f. AtOperation d (λ o. OperationFails d o s f)} (faults_of c.args.found.now.faults) mid new before behind (lent_operation x)
+          (one_behind at.yielded x) (at.invariant.0 in' typed possible)
+          (exactly_one (λ o. OperationFails d o s) mid new (operations d) (lent_operation x) among (c.in_ok-check_operation.ensures.told d in' (typed (lent_operation x) among) (at.invariant.2 possible))),
       λ in'. notes_more (λ o n. ReachesNamed d o n) (noted_names c.args.found.now.used) (noted_names at.found.used) (noted_names c.check_operation.new.found.used) before behind (lent_operation x)
           (one_behind at.yielded x) (at.invariant.1 in') (c.in_ok-check_operation.ensures.noted d in'),
       λ possible. c.in_ok-check_operation.ensures.right (at.invariant.2 possible),
       lent_more at.yielded x (operations d) left rest c.in-Some.ensures.steps at.invariant.3,
     )
+
+-- where the list is full, the rest is left
+pub returns-then-is_full-clause-told : goal.returns-then-is_full-clause-told
+returns-then-is_full-clause-told c =
+    let s = schema_tree c.args.schema.now in
+    let d = document_meant c.args.document.now in
+    let at = c.loop-operation in
+    λ in' typed possible. adds_full {Right = λ f. AtOperation d (λ o. OperationFails d o s f)} {U = HasAll (λ f. AtOperation d (λ o. OperationFails d o s f))} (faults_of c.args.found.now.faults) (faults_of at.found.faults)
+    (c.is_full.ensures.0 c.if-is_full.true) (at.invariant.0 in' typed possible)
+
+pub returns-then-is_full-clause-noted : goal.returns-then-is_full-clause-noted
+returns-then-is_full-clause-noted c = λ in'. inl (c.is_full.ensures.0 c.if-is_full.true)
 
 pub returns-clause-told : goal.returns-clause-told
 returns-clause-told c =
@@ -52,14 +69,14 @@ returns-clause-told c =
     let d = document_meant c.args.document.now in
     let at = c.loop-operation in
     let all = lent_all at.yielded (operations d) (left_operations at.operation-iterator) c.in-None.ensures.steps.0 at.invariant.3 in
-    λ in' typed possible. gains_same (faults_of c.args.found.now.faults) (faults_of at.found.faults) (λ f. some_index (operations d) (λ o. OperationFails d o s f))
-    (subst (λ l. Adds c.args.found.now.faults at.found.faults (λ f. AtSomeIndex l (λ k o. OperationFails d o s f))) all (at.invariant.0 in' typed possible))
+    λ in' typed possible. adds_by {Right = λ f. AtOperation d (λ o. OperationFails d o s f)} {U = HasAll (λ f. AtOperation d (λ o. OperationFails d o s f))} (faults_of c.args.found.now.faults) (faults_of at.found.faults) (λ f h. h)
+    (λ told h. each_exactly (λ o. OperationFails d o s) (lent_operations at.yielded) (operations d) told all h) (at.invariant.0 in' typed possible)
 
 pub returns-clause-noted : goal.returns-clause-noted
 returns-clause-noted c =
     let d = document_meant c.args.document.now in
     let at = c.loop-operation in
     let all = lent_all at.yielded (operations d) (left_operations at.operation-iterator) c.in-None.ensures.steps.0 at.invariant.3 in
-    λ in'. notes_same (λ (o : MeantOperation Place) n. ReachesNamed d o n) (noted_names c.args.found.now.used) (noted_names at.found.used)
+    λ in'. inr (notes_same (λ (o : MeantOperation Place) n. ReachesNamed d o n) (noted_names c.args.found.now.used) (noted_names at.found.used)
     (λ n. AtSomeIndex (operations d) (λ k o. ReachesNamed d o n)) _ (λ n. some_index (operations d) (λ o. ReachesNamed d o n))
-    (subst (λ l. NotesNames (noted_names c.args.found.now.used) (noted_names at.found.used) (λ n. AtSomeIndex l (λ k o. ReachesNamed d o n))) all (at.invariant.1 in'))
+    (subst (λ l. NotesNames (noted_names c.args.found.now.used) (noted_names at.found.used) (λ n. AtSomeIndex l (λ k o. ReachesNamed d o n))) all (at.invariant.1 in')))

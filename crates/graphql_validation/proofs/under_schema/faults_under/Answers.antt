@@ -1,18 +1,18 @@
-use Rattle.std.proofs.Common.{◌∙◌, map, sym, ap, subst}
+use Rattle.std.proofs.Common.{map, sym, ap, subst}
 use Rattle.std.proofs.lemmas.Result.{IfOk-weaker}
 use Rattle.rule_fragments.specs.in_typed_operations.DocumentView.{document_meant}
 use Rattle.fault_data.specs.FaultView.{fault_of, faults_of}
-use Rattle.rule_definitions.specs.Room.{◌⊕◌}
 use Rattle.rule_definitions.specs.Judged.{judged}
 use Rattle.rule_fragments.specs.Possible.{ArePossibleIfFound}
 use Rattle.rule_fragments.specs.in_schema.SchemaOf.{schema_tree}
 use Rattle.rule_document_definitions.specs.Reached.{AtOperation}
 use Rattle.rule_fragments.specs.in_ground.NotedNames.{noted_names}
 use Rattle.rule_fragments.specs.in_ground.Reach.{meant_fragments}
+use Rattle.rule_fragments.specs.UnlessFull.{HasAll, AddsUnlessFull}
 use Rattle.rule_selections.specs.Settled.{StandIn}
 use Rattle.graphql_validation.proofs.Settled.{lent_or}
-use Rattle.graphql_validation.specs.Operations.{OperationFails, ReachesNamed, NotesNames, AllUnder}
-use Rattle.graphql_validation.proofs.Data.{are_used, tells_data}
+use Rattle.graphql_validation.specs.Operations.{OperationFails, AllUnder}
+use Rattle.graphql_validation.proofs.Data.{used_unless_full, tells_data}
 use Rattle.graphql_validation.proofs.Ordered.{all_under, recursive_under}
 use Rattle.graphql_validation.proofs.under_schema.faults_under.Goals as goal
 
@@ -22,12 +22,12 @@ returns c =
     let d = document_meant c.args.document.now in
     let new = c.check_operations.new.found in
     let in' = lent_or (λ x. StandIn s d.fragments (meant_fragments x)) c.unwrap_or-fragments.result c.as_ref.result _ c.in_ok-settled.settled c.unwrap_or-fragments.ensures c.as_ref.ensures.value c.in_ok-settled.ensures in
-    let used = are_used d (noted_names new.used) (subst (λ l. NotesNames l (noted_names new.used) (λ n. AtOperation d (λ o. ReachesNamed d o n))) (ap (map (λ k. k.text)) c.new-found.ensures.used) (c.in_ok-check_operations.ensures.noted in')) in
+    let old = faults_of new.faults in
+    let used = used_unless_full d old _ (noted_names new.used) (ap (map (λ k. k.text)) c.new-found.ensures.used) (c.in_ok-check_operations.ensures.noted in') in
     let right = subst (ArePossibleIfFound (judged s)) (sym c.in_ok-possible.ensures) c.requires in
     IfOk-weaker c.check_fragments.result _ _
     (λ r h typed own.
-    let t = c.in_ok-check_operations.ensures.told in' typed right in
-    let is = t.1.0 ∙ ap (λ l. map fault_of l ⊕ t.0) c.new-found.ensures.faults in
-    tells_data d (AllUnder s d) (λ o. OperationFails d o s) (λ o f. all_under d o f s) (λ o f. recursive_under d o f s) (faults_of new.faults) (faults_of r)
-    t.0 is t.1.1 (h own used))
+    let t = subst (λ l. AddsUnlessFull l old (λ f. AtOperation d (λ o. OperationFails d o s f)) (HasAll (λ f. AtOperation d (λ o. OperationFails d o s f)))) (ap (map fault_of) c.new-found.ensures.faults)
+    (c.in_ok-check_operations.ensures.told in' typed right) in
+    tells_data d (AllUnder s d) (λ o. OperationFails d o s) (λ o f. all_under d o f s) (λ o f. recursive_under d o f s) old (faults_of r) t h.0 (λ some. h.1 some own (used some)))
     c.check_fragments.ensures
