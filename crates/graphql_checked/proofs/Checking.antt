@@ -26,7 +26,7 @@ use Rattle.book_validity.specs.in_verdict_definitions.Out.{Layout, layout_text}
 use Rattle.book_validity.specs.in_verdict_definitions.Answer.{UnreadAlone, RefusesDocument, WritesDocument}
 use Rattle.checker_schemas.specs.CheckedSchemaValue.{CheckedSchemaValue}
 use Rattle.graphql_checked.specs.CheckerValue.{IsCheckedDocumentOf}
-use Rattle.graphql_checked.specs.DocumentRefusals.{RefusalOfDocument, TypingOrLastingFails, TellsLastingOfFirst, RefusalWithLasting}
+use Rattle.graphql_checked.specs.DocumentRefusals.{RefusalOfDocument, TypingOrLastingFails, TellsLastingOfFound, RefusalWithLasting}
 use Rattle.checker_calls.specs.TellsOnly.{TellsOnly}
 use Rattle.graphql_checked.specs.Checking.{IsReadDocument, IsUnreadDocument, TypesDocument, RefusalOfTyping, RefusalOfRules}
 use Rattle.checker_calls.specs.declared.refusal.Refusal.{Refusal}
@@ -120,7 +120,7 @@ module _ (schema : CheckedSchemaValue) (text : SourceText) where
     typing_lasting (Faults list) h = record {
       full = λ within other reads typed fault fails.
           absurd (typed h.broken.0 (subst (λ t. TypingFailsOver schema.schema t h.broken.0) (sym (same other (reads, within))) h.broken.1));
-      first = λ within other reads f fails. subst (λ t. TellsLastingOfFirst schema.schema (document_over schema.schema t) (diagnostics_of list)) (sym (same other (reads, within))) h.lasting;
+      first = λ within other reads f fails. subst (λ t. TellsLastingOfFound schema.schema (document_over schema.schema t) (diagnostics_of list)) (sym (same other (reads, within))) h.lasting;
       only = λ within other reads f fails fault c. subst (λ t. TypingOrLastingFails schema.schema t fault) (sym (same other (reads, within))) (h.right fault c);
     }
     typing_lasting Memory h = tt

@@ -1,5 +1,6 @@
 -- What typing and judging a document find, as lists of faults.
-use Rattle.std.proofs.Common.{◌≡◌, ◌≢◌, List, [], ◌∷◌, ◌++◌, map, take, Contains, refl, ap, subst, ◌∙◌, sym, inl, inr}
+use Rattle.std.proofs.Common.{◌≡◌, ◌≢◌, ◌≤◌, ◌⊎◌, List, [], ◌∷◌, ◌++◌, map, length, Contains, refl, ap, subst, ◌∙◌, sym, inl, inr, arith}
+use Rattle.std.proofs.lemmas.List.{length-map}
 use Rattle.std.proofs.lemmas.List.Elements.{Contains-append_left, Contains-append_right, Contains-append_cases}
 use Rattle.std.specs.Prelude.{◌↔◌}
 use Rattle.std.specs.List.{filter}
@@ -23,14 +24,15 @@ use Rattle.rule_document_definitions.proofs.Unplaced.{contains_map, contains_unm
 use Rattle.graphql_validation.specs.LastingRules.{LastingFails, LastingOrCycleFails}
 use Rattle.graphql_validation.specs.Lasts.{lasts}
 use Rattle.graphql_validation.specs.TellsDocument.{FailsBesideMerging, SomeFails, DocumentTold}
-use Rattle.graphql_validation.specs.TellsLasting.{TellsLasting}
+use Rattle.graphql_validation.specs.TellsLasting.{HasLasting, LastsRightly}
+use Rattle.graphql_validation.specs.in_fragments.UnlessFull.{IsFull, TellsUnlessFull}
 use Rattle.graphql_validation.proofs.Filtered.{filtered, passing}
-use Rattle.graphql_validation.proofs.StandingFaults.{lasting_told}
+use Rattle.graphql_validation.proofs.StandingFaults.{lasting_told, lasting_lasts}
 use Rattle.graphql_faults.specs.DetailsTree.{of_typing, of_document}
 use Rattle.rule_definitions.specs.Room.{most_told}
 use Rattle.book_validity.specs.in_verdict_definitions.Texts.{Tree}
 use Rattle.book_validity.specs.in_verdict_definitions.Says.{AnyFault, TypingFailsOver}
-use Rattle.verdict_definitions.proofs.ToldUnlessFull.{of_first, told_unless_full, told_of}
+use Rattle.book_validity.specs.in_verdict_definitions.Answer.{IsToldUnlessFull}
 use Rattle.graphql_checked.specs.Checking.{TypesDocument, RefusesTyping, RefusesRules}
 
 -- ---- lists
@@ -88,43 +90,50 @@ besides_some schema document f (inl h) = inl h
 besides_some schema document f (inr (inl h)) = inr (inr (inl h))
 besides_some schema document f (inr (inr h)) = inr (inr (inr (inl h)))
 
--- some rule of typing is broken, and behind that stands what breaks rules that stay broken, of the first breaches
+-- some rule of typing is broken, and behind that stands what breaks rules that stay broken, of the breaches that are found
 pub refuses_typing : (schema : SchemaTree Place) (tree : Tree) (document : MeantDocument Place) (found faults : List AnyFault) → TypesDocument schema tree document found → found ≢ []
-    → (all : List PlacedDocumentFault) → faults ≡ found ++ map of_document (filter lasts (take most_told all))
-    → ((f : PlacedDocumentFault) → Contains all f → FailsBesideMerging schema document f) → TellsLasting schema document (filter lasts all) → RefusesTyping schema tree faults
-refuses_typing schema tree document found faults types some all is besides tells =
-    let kept : List PlacedDocumentFault = filter lasts (take most_told all) in
+    → (breaches : List PlacedDocumentFault) → faults ≡ found ++ map of_document (filter lasts breaches)
+    → TellsUnlessFull (FailsBesideMerging schema document) (HasLasting schema document) breaches → LastsRightly schema document breaches → RefusesTyping schema tree faults
+refuses_typing schema tree document found faults types some breaches is tells rightly =
+    let kept : List PlacedDocumentFault = filter lasts breaches in
     let told : List AnyFault = map of_document kept in
-    let among = λ (f : PlacedDocumentFault) (fails : LastingFails schema (document_over schema tree) f). filtered lasts all f (tells.full f (subst (λ d. LastingFails schema d f) (sym types.is) fails)) in
+    let back = λ (f : PlacedDocumentFault) (fails : LastingFails schema (document_over schema tree) f). subst (λ d. LastingFails schema d f) (sym types.is) fails in
     subst (RefusesTyping schema tree) (sym is) (record {
       broken = some_broken schema tree found some types.right;
       some = still_some found told some;
       right = λ fault c. elim (Contains-append_cases found told fault c) [
         | inl h ↦ inl (types.right fault h)
         | inr h ↦ let p = contains_unmap of_document kept fault h in
-            let q = filtered lasts (take most_told all) p.0 p.1.0 in
-            inr (p.0, (sym p.1.1, subst (λ d. LastingOrCycleFails schema d p.0) types.is (tells.right p.0 (passing lasts all p.0 (of_first most_told all p.0 q.0) q.1))))
+            inr (p.0, (sym p.1.1, subst (λ d. LastingOrCycleFails schema d p.0) types.is (rightly p.0 p.1.0)))
       ];
       full = λ f fails. Contains-append_left found told (of_typing f) (types.full f fails);
       lasting = record {
-        found = all;
-        right = λ f c. subst (λ d. SomeFails schema d f) types.is (besides_some schema document f (besides f c));
-        full = λ f fails. (among f fails).0;
-        told = λ f fails c. Contains-append_right found told (of_document f) (contains_map of_document kept f (passing lasts (take most_told all) f c (among f fails).1));
+        found = breaches;
+        breaks = record {
+          right = λ f c. subst (λ d. SomeFails schema d f) types.is (besides_some schema document f (tells.right f c));
+          most = tells.most;
+          full = elim tells.full [ inl full ↦ inl full | inr all ↦ inr (λ f fails. (filtered lasts breaches f (all f (back f fails))).0) ];
+        };
+        told = λ f fails c. Contains-append_right found told (of_document f) (contains_map of_document kept f (passing lasts breaches f c (lasting_lasts schema document f (back f fails))));
       };
     })
 
 -- ---- judging
 
+-- what has all is told, unless as many are told as one call tells
+told_unless_full : {All : Type 0} (faults : List AnyFault) (told : List PlacedDocumentFault) → faults ≡ map of_document told → IsFull told ⊎ All → (f : PlacedDocumentFault) → (All → Contains told f) → IsToldUnlessFull faults (of_document f)
+told_unless_full faults told is (inl full) f has = let long = length-map told of_document in inr (subst (λ l. most_told ≤ length l) (sym is) (omega (arith, full, long)))
+told_unless_full faults told is (inr all) f has = inl (subst (λ l. Contains l (of_document f)) (sym is) (contains_map of_document told f (has all)))
+
 -- some rule on documents or on merging is broken, or a bound is passed
 pub refuses_rules : (schema : SchemaTree Place) (document : MeantDocument Place) (old faults : List AnyFault) → old ≡ [] → DocumentTold schema document old faults
     → (IsValidDocument schema document → WithinBounds (unplaced_document document) → faults ≡ old) → faults ≢ [] → RefusesRules schema document faults
-refuses_rules schema document old faults none (all, (is, tells)) accepts some =
-    let first : faults ≡ map of_document (take most_told all) = is ∙ ap (λ l. l ++ map of_document (take most_told all)) none in
+refuses_rules schema document old faults none (told, (is, (tells, apart))) accepts some =
+    let first : faults ≡ map of_document told = is ∙ ap (λ l. l ++ map of_document told) none in
     record {
       some = some;
-      full = λ f fails. told_unless_full of_document faults all first f (tells.full f fails);
-      right = λ fault c. let p = told_of of_document faults all first fault c in (p.0, (sym p.1.1, tells.right p.0 p.1.0));
-      lasting = λ f fails. told_unless_full of_document faults all first f (lasting_told schema document all tells f fails);
+      full = λ f fails. told_unless_full faults told first tells.full f (λ all. all.full f fails);
+      right = λ fault c. let p = contains_unmap of_document told fault (subst (λ l. Contains l fault) first c) in (p.0, (sym p.1.1, tells.right p.0 p.1.0));
+      lasting = λ f fails. told_unless_full faults told first tells.full f (λ all. lasting_told schema document told all f fails);
       bounds = λ valid within. some (accepts valid within ∙ none);
     }

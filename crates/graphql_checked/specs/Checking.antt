@@ -24,7 +24,7 @@ use Rattle.book_validity.specs.in_verdict_definitions.Answer.{IsToldUnlessFull, 
 use Rattle.checker_calls.specs.TextSources.{text_sources}
 use Rattle.checker_schemas.specs.CheckedSchemaValue.{CheckedSchemaValue}
 use Rattle.graphql_checked.specs.CheckerValue.{IsCheckedDocumentOf}
-use Rattle.graphql_checked.specs.DocumentRefusals.{TypingOrLastingFails, TellsLastingOfFirst}
+use Rattle.graphql_checked.specs.DocumentRefusals.{TypingOrLastingFails, TellsLastingOfFound}
 use Rattle.checker_calls.specs.declared.refusal.Refusal.{Refusal}
 use Rattle.checker_calls.specs.declared.refusal.Refusal.TheVariants.{Faults, Memory, Failed}
 
@@ -50,14 +50,14 @@ pub record TypesDocument (schema : SchemaTree Place) (tree : Tree) (document : M
   pub right : (fault : AnyFault) → Contains faults fault → (f : typing.TypingFault Place) × ((fault ≡ of_typing f) × TypingFailsOver schema tree f)
   pub full : (f : typing.TypingFault Place) → TypingFailsOver schema tree f → Contains faults (of_typing f)
 
--- a rule of typing is broken, and all that breaks those rules is told, and of the first 1,000 breaches of rules on documents those that
--- stay broken
+-- a rule of typing is broken, and all that breaks those rules is told, and of the breaches of rules on documents that are found, at
+-- most 1,000, those that stay broken
 pub record RefusesTyping (schema : SchemaTree Place) (tree : Tree) (faults : List AnyFault) : Type 0 where
   pub broken : (f : typing.TypingFault Place) × TypingFailsOver schema tree f
   pub some : faults ≢ []
   pub right : (fault : AnyFault) → Contains faults fault → TypingOrLastingFails schema tree fault
   pub full : (f : typing.TypingFault Place) → TypingFailsOver schema tree f → Contains faults (of_typing f)
-  pub lasting : TellsLastingOfFirst schema (document_over schema tree) faults
+  pub lasting : TellsLastingOfFound schema (document_over schema tree) faults
 
 abbrev pub RefusalOfTyping : SchemaTree Place → Tree → Refusal → Type 0
 RefusalOfTyping schema tree (Faults list) = RefusesTyping schema tree (diagnostics_of list)

@@ -1,13 +1,13 @@
 -- What the refusals of a document say of it.
-use Rattle.std.specs.Prelude.{◌≡◌, ◌⊎◌, ℕ, List, take, Contains}
+use Rattle.std.specs.Prelude.{◌≡◌, ◌⊎◌, ℕ, List, Contains}
 use Rattle.graphql_names.specs.Placed.{Place}
 use Rattle.schema_types.specs.SchemaTree.{SchemaTree}
 use Rattle.document_meaning.specs.MeantTree.{MeantDocument}
 use Rattle.book_validity.specs.in_typing.TypingFaults as typing
 use Rattle.rule_document_definitions.specs.Told.{PlacedDocumentFault}
+use Rattle.graphql_validation.specs.in_fragments.UnlessFull.{TellsUnlessFull, HasAll}
 use Rattle.graphql_validation.specs.LastingRules.{LastingFails, LastingOrCycleFails}
 use Rattle.graphql_validation.specs.TellsDocument.{SomeFails}
-use Rattle.rule_definitions.specs.Room.{most_told}
 use Rattle.graphql_faults.specs.DetailsTree.{of_typing, of_document}
 use Rattle.graphql_faults.specs.DetailsView.{diagnostics_of}
 use Rattle.book_validity.specs.in_verdict_definitions.Texts.{SourceText, Tree, ReadsText, IsWithin}
@@ -32,23 +32,22 @@ TypingOrLastingFails schema tree fault =
     ((f : typing.TypingFault Place) × ((fault ≡ of_typing f) × TypingFailsOver schema tree f))
     ⊎ ((f : PlacedDocumentFault) × ((fault ≡ of_document f) × LastingOrCycleFails schema (document_over schema tree) f))
 
--- Breaches of rules on documents are found, and each that stays broken is among them; of the first 1,000 those that stay broken are
--- told.
-pub record TellsLastingOfFirst (schema : SchemaTree Place) (document : MeantDocument Place) (faults : List AnyFault) : Type 0 where
+-- Breaches of rules on documents are found, at most 1,000, and unless they are as many, each that stays broken is among them; those of
+-- them that stay broken are told.
+pub record TellsLastingOfFound (schema : SchemaTree Place) (document : MeantDocument Place) (faults : List AnyFault) : Type 0 where
   pub found : List PlacedDocumentFault
-  pub right : (fault : PlacedDocumentFault) → Contains found fault → SomeFails schema document fault
-  pub full : (fault : PlacedDocumentFault) → LastingFails schema document fault → Contains found fault
-  pub told : (fault : PlacedDocumentFault) → LastingFails schema document fault → Contains (take most_told found) fault → Contains faults (of_document fault)
+  pub breaks : TellsUnlessFull (SomeFails schema document) (HasAll (LastingFails schema document)) found
+  pub told : (fault : PlacedDocumentFault) → LastingFails schema document fault → Contains found fault → Contains faults (of_document fault)
 
 -- Of a document that is read each breach of a rule that stays broken is told, unless as many are told as one call tells. Where a
--- rule of typing is broken, those among the first 1,000 breaches are told (`first`), and nothing else is told of rules on documents,
--- but that fragments reach themselves: nothing of which what typing left out may be the cause.
+-- rule of typing is broken, those among the breaches that are found are told (`first`), and nothing else is told of rules on
+-- documents, but that fragments reach themselves: nothing of which what typing left out may be the cause.
 pub record TellsLastingFaults (schema : SchemaTree Place) (nesting number : ℕ) (document : SourceText) (faults : List AnyFault) : Type 0 where
   pub full : IsWithin nesting number document → (tree : Tree) → ReadsText number document tree
       → ((f : typing.TypingFault Place) → TypingFailsOver schema tree f → ⊥)
       → (fault : PlacedDocumentFault) → LastingFails schema (document_over schema tree) fault → IsToldUnlessFull faults (of_document fault)
   pub first : IsWithin nesting number document → (tree : Tree) → ReadsText number document tree
-      → (f : typing.TypingFault Place) → TypingFailsOver schema tree f → TellsLastingOfFirst schema (document_over schema tree) faults
+      → (f : typing.TypingFault Place) → TypingFailsOver schema tree f → TellsLastingOfFound schema (document_over schema tree) faults
   pub only : IsWithin nesting number document → (tree : Tree) → ReadsText number document tree
       → (f : typing.TypingFault Place) → TypingFailsOver schema tree f → (fault : AnyFault) → Contains faults fault → TypingOrLastingFails schema tree fault
 

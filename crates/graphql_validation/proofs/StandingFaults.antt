@@ -1,5 +1,5 @@
 -- What is kept of the faults of a document are those that last.
-use Rattle.std.proofs.Common.{◌≡◌, ◌⊎◌, inl, inr, Bool, false, List, ◌++◌, map, take, refl, ap, sym, ◌∙◌, subst, Contains, true≢false}
+use Rattle.std.proofs.Common.{◌≡◌, ◌⊎◌, inl, inr, Bool, true, false, List, ◌++◌, map, take, refl, ap, sym, ◌∙◌, subst, Contains, true≢false}
 use Rattle.std.specs.List.{filter}
 use Rattle.graphql_names.specs.Placed.{Place}
 use Rattle.schema_types.specs.SchemaTree.{SchemaTree}
@@ -94,6 +94,13 @@ module _ (s : SchemaTree Place) (d : MeantDocument Place) where
           ),
         ),
       )
+
+  -- what breaks such a rule lasts
+  pub lasting_lasts : (f : PlacedDocumentFault) → LastingFails s d f → lasts f ≡ true
+  lasting_lasts (OfData g) (o, (c, h)) = data_passes g (places_in s) (judged s) d o h
+  lasting_lasts (OfDocument b) (o, (c, inl h)) = defer_passes b d o h
+  lasting_lasts (OfDocument b) (o, (c, inr h)) = subscription_passes b d o h
+  lasting_lasts (OfLimit place) h = absurd h
 
   -- ---- where all rules are judged, all of that is told, too
 

@@ -47,7 +47,7 @@ fn check_operations(document: &ExecutableDocument, found: &mut Found) -> Result<
     Ok(())
 }
 
-/// The faults of a document without a schema: all, or [`MOST_TOLD`](fault_data::MOST_TOLD).
+/// The faults of a document without a schema: all, or 1,000.
 pub(crate) fn faults_alone(
     alloc: Global,
     document: &ExecutableDocument,

@@ -48,8 +48,8 @@ fn document_of_set(alloc: Global, set: &FieldSet) -> Result<ExecutableDocument, 
 }
 
 /// Tells what breaks the rules on a field set under a schema (sections 5.3 to 5.8): those on a document whose only operation
-/// selects it, without variables and fragments, but the rules on merging, on subscriptions and on `@defer`; the first 1,000
-/// of it. If the set is typed, as each that is made from selections, nothing is told exactly when those rules hold, apart
+/// selects it, without variables and fragments, but the rules on merging, on subscriptions and on `@defer`; all of it, or
+/// 1,000 faults. If the set is typed, as each that is made from selections, nothing is told exactly when those rules hold, apart
 /// from the bound on how deep selections nest. Where memory is refused the list begins as before.
 pub fn validate_field_set(
     alloc: Global,

@@ -20,9 +20,9 @@ use std::alloc::{AllocError, Global};
 /// Tells of a document of which something may be left out, as typing does, what is wrong with it whatever that was: what
 /// breaks rules under a schema that stay broken whatever is added to the document (section 5, from 5.2.3 on, and the rules on
 /// `@defer`). Those are all rules on documents but UnusedVariable, MissingSubselection, UndefinedFragment, UnusedFragment,
-/// SubscriptionUsesMultipleFields and those on labels and on merging. What is told is of the first 1,000 faults of all rules:
-/// a fault that lasts and stands after them is not told. `possible` has the possible types of the schema, if they are there
-/// already. Where memory is refused the list begins as before.
+/// SubscriptionUsesMultipleFields and those on labels and on merging. What is told is of the faults that are found, all or
+/// 1,000 of all rules: where there are more, some that last may not be told. `possible` has the possible types of the schema,
+/// if they are there already. Where memory is refused the list begins as before.
 pub fn tell_lasting_faults(
     alloc: Global,
     list: &mut DiagnosticList,

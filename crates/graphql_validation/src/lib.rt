@@ -1,8 +1,8 @@
 //! Rules on documents (GraphQL, October 2021, section 5): on documents and field sets under a schema, and those that need none.
 //!
 //! For the layers above: a call adds to a list what breaks the rules of its document, each fault at its place, and nothing
-//! else (`specs/Told.antt`, `specs/TellsDocument.antt`): the first 1,000, `MOST_TOLD` of `fault_data`. It adds nothing
-//! exactly when all rules hold, apart from memory and the bounds. What breaks a rule is a predicate named after its variant,
+//! else (`specs/Told.antt`, `specs/TellsDocument.antt`): all of it, or 1,000 faults, `MOST_TOLD` of `fault_data`. Once as many
+//! are told, no further operation is judged. It adds nothing exactly when all rules hold, apart from memory and the bounds. What breaks a rule is a predicate named after its variant,
 //! in `rule_document_definitions`. Who checks many documents over a schema finds its `PossibleTypes` and `SchemaInputs` once,
 //! and passes them to `validate_with_possible_types`.
 //!

@@ -14,7 +14,7 @@ use std::alloc::{AllocError, Global};
 
 /// Tells what breaks the rules that need no schema (sections 5.4.2, 5.5, 5.6.3, 5.7.1 and 5.8): UniqueArgument,
 /// UniqueInputValue, UniqueVariable, UnusedVariable, UndefinedFragment, UnusedFragment, RecursiveFragmentDefinition, those on
-/// `@defer`, and each directive that is used as UndefinedDirective; the first 1,000 of it. Nothing is told exactly when they
+/// `@defer`, and each directive that is used as UndefinedDirective; all of it, or 1,000 faults. Nothing is told exactly when they
 /// hold, apart from the bounds on how deep spreads and selections nest. Fragments stand under their own names, as in each
 /// document that is built. Where memory is refused the list begins as before.
 pub fn validate_standalone_executable(

@@ -70,10 +70,10 @@ fn check_operations(
     Ok(())
 }
 
-/// The faults of a document under a schema: all, or [`MOST_TOLD`](fault_data::MOST_TOLD). What several operations share is judged once, as far as it breaks no rule
-/// whatever their variables. `possible` has the possible types of the schema, if they are there already. Where they are not,
-/// they are found once, for the first operation in which a fragment is on another type than that where it stands; if there is
-/// none, never.
+/// The faults of a document under a schema: all, or 1,000. What several operations share is judged once, as far as it breaks
+/// no rule whatever their variables. `possible` has the possible types of the schema, if they are there already. Where they
+/// are not, they are found once, for the first operation in which a fragment is on another type than that where it stands; if
+/// there is none, never.
 pub(crate) fn faults_under(
     alloc: Global,
     schema: &IndexedSchema<'_>,

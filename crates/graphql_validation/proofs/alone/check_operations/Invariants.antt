@@ -14,6 +14,6 @@ use Rattle.graphql_validation.proofs.alone.check_operations.Given as goal
 
 abbrev pub invariant-loop-operation : goal.invariant-loop-operation
 invariant-loop-operation l = AddsUnlessFull (faults_of l.fn.found.faults) (faults_of l.found.faults) (λ f. AtOperation (document_meant l.document) (λ o. OperationFailsAlone (document_meant l.document) o f))
-        (TellsEach (OperationFailsAlone (document_meant l.document)) (λ o f g. f ≡ g) (lent_operations l.yielded))
+    (TellsEach (OperationFailsAlone (document_meant l.document)) (λ o f g. f ≡ g) (lent_operations l.yielded))
     × (NotesNames (noted_names l.fn.found.used) (noted_names l.found.used) (λ n. AtSomeIndex (lent_operations l.yielded) (λ k o. ReachesNamed (document_meant l.document) o n)))
     × (lent_operations l.yielded ++ map operation_meant (left_operations l.operation-iterator) ≡ operations (document_meant l.document))

@@ -12,7 +12,7 @@ pub returns : goal.returns
 returns c = (
   λ full. absurd (true≢false (sym (c.is_full.ensures.1 full) ∙ c.if-is_full.false)),
   λ some own used.
-  let d = document_meant c.args.document.now in
-  let unused = c.in_ok-check_unused.ensures d refl own used in
-  (unused.0, (unused.1.1, subst (λ l. TellsFragmentCycles d l (faults_of c.check_cycles.new.faults)) unused.1.0 (c.in_ok-check_cycles.ensures d refl own used))),
+      let d = document_meant c.args.document.now in
+      let unused = c.in_ok-check_unused.ensures d refl own used in
+      (unused.0, (unused.1.1, subst (λ l. TellsFragmentCycles d l (faults_of c.check_cycles.new.faults)) unused.1.0 (c.in_ok-check_cycles.ensures d refl own used))),
 )

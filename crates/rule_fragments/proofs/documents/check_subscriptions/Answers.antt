@@ -28,8 +28,8 @@ loop-operation-preserved c =
     let rest = left_operations c.next.new.self in
     let among = lent_among at.yielded x (operations d) left rest c.in-Some.ensures.steps at.invariant.1 in (
       λ own.
-      let told = c.in_ok-check_subscription.ensures own in
-      each_more (SubscriptionBreaks d) (AreAlike d) {Right = SomeSubscriptionBreaks d} (brokens_of c.args.breaches.now) (brokens_of at.breaches) (brokens_of c.check_subscription.new.breaches)
+          let told = c.in_ok-check_subscription.ensures own in
+          each_more (SubscriptionBreaks d) (AreAlike d) {Right = SomeSubscriptionBreaks d} (brokens_of c.args.breaches.now) (brokens_of at.breaches) (brokens_of c.check_subscription.new.breaches)
           (lent_operations at.yielded) (lent_operations (at.yielded ++ x ∷ [])) (lent_operation x) (one_behind at.yielded x) (at.invariant.0 own)
           (told.0, (told.1.0, (λ f h. (lent_operation x, (among, told.1.1.right f h)), λ f breaks. told.1.1.full f breaks))),
       lent_more at.yielded x (operations d) left rest c.in-Some.ensures.steps at.invariant.1,
