@@ -72,14 +72,14 @@ module _ (s : SchemaTree Place) (set : MeantSet Place) where
       → TellsUnder s d faults → (IsTrue is_passed → PassesPathBound d) → (NestsTooDeep d → IsTrue is_passed)
       → new ≡ old ++ map of_document (take most_told (all_told faults breaches is_passed)) → IsTypedSet s set → FieldSetTold s set old new
   told_of_set old new d faults breaches is_passed is none parts passes found told typed =
-      let data = subst (λ d. TellsUnder s d faults) is parts (reaches_typed typed) own_names in
+      let given = subst (λ d. TellsUnder s d faults) is parts (reaches_typed typed) own_names in
       let passes' = subst (λ d. IsTrue is_passed → PassesPathBound d) is passes in
       let found' = subst (λ d. NestsTooDeep d → IsTrue is_passed) is found in (
         take most_told (all_told faults [] is_passed),
         (
           told ∙ ap (λ bs. old ++ map of_document (take most_told (all_told faults bs is_passed))) none,
-          first_tells {Right = SetRulesOrBoundFail s set} {TellsAll = TellsFieldSet s set} (take most_told (all_told faults [] is_passed)) (all_told faults [] is_passed) refl (field_set_right faults is_passed data.right passes')
-              (parts_told faults [] is_passed {B = Unit {0}} data.full (inr tt) (λ all none. tells_field_set faults is_passed all found')),
+          first_tells {Right = SetRulesOrBoundFail s set} {TellsAll = TellsFieldSet s set} (take most_told (all_told faults [] is_passed)) (all_told faults [] is_passed) refl (field_set_right faults is_passed given.right passes')
+              (parts_told faults [] is_passed {B = Unit {0}} given.full (inr tt) (λ all none. tells_field_set faults is_passed all found')),
         ),
       )
 

@@ -34,14 +34,14 @@ module _ (faults : List PlacedFault) (breaches : List (Broken Place)) (is_passed
   full_faults full =
       let behind = map OfDocument breaches ++ bound_told is_passed in
       let long = length-append (map OfData faults) behind in
-      let same = length-map faults OfData in
+      let same = length-map {B = PlacedDocumentFault} faults OfData in
       omega (arith, full, long, same)
 
   full_breaches : IsFull breaches → IsFull (all_told faults breaches is_passed)
   full_breaches full =
       let long = length-append (map OfData faults) (map OfDocument breaches ++ bound_told is_passed) in
       let more = length-append (map OfDocument breaches) (bound_told is_passed) in
-      let same = length-map breaches OfDocument in
+      let same = length-map {B = PlacedDocumentFault} breaches OfDocument in
       omega (arith, full, long, more, same)
 
   pub parts_told : {A B C : Type 0} → IsFull faults ⊎ A → IsFull breaches ⊎ B → (A → B → C) → IsFull (take most_told (all_told faults breaches is_passed)) ⊎ C

@@ -78,7 +78,7 @@ module _ (s : SchemaTree Place) (d : MeantDocument Place) where
       → all_told first front is_told ≡ take most_told (all_told faults breaches false)
       → (old new : Telling) → new ≡ old ++ map of_document (all_told (filter fault_lasts first) (filter broken_lasts front) false) → TypedLastingTold s d old new
   lasting_told_of faults first breaches front is_told parts told cut old new is typed =
-      let data = parts (reaches_typed s d typed) (own_names s d typed) in
+      let given = parts (reaches_typed s d typed) (own_names s d typed) in
       let breaks = told (own_names s d typed) in
       let all = all_told faults breaches false in
       let kept = lasting_all faults breaches false in (
@@ -86,11 +86,11 @@ module _ (s : SchemaTree Place) (d : MeantDocument Place) where
         (
           is ∙ ap (λ l. old ++ map of_document l) (sym (lasting_all first front is_told) ∙ ap (filter lasts) cut),
           (
-            first_tells {Right = FailsBesideMerging s d} {TellsAll = HasLasting s d} (take most_told all) all refl (beside s d faults breaches false data.right breaks.right (λ no. absurd (true≢false (sym no))))
-                (parts_told faults breaches false data.full breaks.full (λ more others f h. subst (λ l. Contains l f) (sym kept) (full faults breaches more others f h))),
+            first_tells {Right = FailsBesideMerging s d} {TellsAll = HasLasting s d} (take most_told all) all refl (beside s d faults breaches false given.right breaks.right (λ no. absurd (true≢false (sym no))))
+                (parts_told faults breaches false given.full breaks.full (λ more others f h. subst (λ l. Contains l f) (sym kept) (full faults breaches more others f h))),
             λ f c.
             let p = filtered lasts (take most_told all) f c in
-            right faults breaches data.right breaks.right f (subst (λ l. Contains l f) kept (passing lasts all f (of_first all f p.0) p.1)),
+            right faults breaches given.right breaks.right f (subst (λ l. Contains l f) kept (passing lasts all f (of_first all f p.0) p.1)),
           ),
         ),
       )

@@ -53,13 +53,13 @@ module _ (d : MeantDocument Place) where
 
     pub alone_told : (old new : Telling) → DataTold d (AllAlone d) (OperationFailsAlone d) faults → DeferredTold d breaches
         → (IsTrue is_passed → PassesPathBound d) → (NestsTooDeep d → IsTrue is_passed) → new ≡ old ++ map of_document (take most_told (all_told faults breaches is_passed)) → AloneTold d old new
-    alone_told old new data deferred passes found is =
+    alone_told old new given deferred passes found is =
         let all = all_told faults breaches is_passed in (
           take most_told all,
           (
             is,
-            first_tells {Right = RuleOrBoundFailsAlone d} {TellsAll = TellsAlone d} (take most_told all) all refl (alone_right data.right deferred.right passes)
-                (parts_told faults breaches is_passed data.full deferred.full (tells_alone found)),
+            first_tells {Right = RuleOrBoundFailsAlone d} {TellsAll = TellsAlone d} (take most_told all) all refl (alone_right given.right deferred.right passes)
+                (parts_told faults breaches is_passed given.full deferred.full (tells_alone found)),
           ),
         )
 

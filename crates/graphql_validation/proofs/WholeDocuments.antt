@@ -99,16 +99,16 @@ module _ (s : SchemaTree Place) (d : MeantDocument Place) where
       (parts : TellsUnder s d faults) (told : AreUnderOwnNames d → BreachesTold d breaches) (passes : IsTrue is_passed → PassesPathBound d) (found : NestsTooDeep d → IsTrue is_passed) where
     pub document_told : (old new : Telling) → new ≡ old ++ map of_document (take most_told (all_told faults breaches is_passed)) → DocumentTold s d old new
     document_told old new is =
-        let data = parts (reaches_typed typed) (own_names typed) in
+        let given = parts (reaches_typed typed) (own_names typed) in
         let breaks = told (own_names typed) in
         let all = all_told faults breaches is_passed in
-        let fails = beside faults breaches is_passed data.right breaks.right passes in (
+        let fails = beside faults breaches is_passed given.right breaks.right passes in (
           take most_told all,
           (
             is,
             (
               first_tells {Right = SomeFails s d} {TellsAll = TellsDocument s d} (take most_told all) all refl (λ f c. besides_some f (fails f c))
-                  (parts_told faults breaches is_passed data.full breaks.full (tells_document faults breaches is_passed found)),
+                  (parts_told faults breaches is_passed given.full breaks.full (tells_document faults breaches is_passed found)),
               inl (λ f c. fails f (of_first all f c)),
             ),
           ),
