@@ -1,5 +1,6 @@
 //! Fields of types by name.
-ghost use Rattle.std.specs.Prelude.{◌≡◌, IfOk, IfErr};
+ghost use Rattle.std.specs.Prelude.{◌≡◌, ◌||◌, codes, IfOk, IfErr};
+ghost use Rattle.std.specs.Str.{bytes_eq};
 ghost use Rattle.tree_type_members.specs.TypeSystemTree.{field_definition_tree};
 ghost use Rattle.schema_components.specs.Given.{component_tree};
 ghost use Rattle.schema_building.specs.in_schema_types.Addresses.{under};
@@ -44,8 +45,9 @@ impl Schema {
         }
     }
 
-    /// The field of that name of a type, which stands under the name `type_name`: its own, or else the meta-field.
-    fn field_on<'schema>(
+    /// The field of that name of a type, which the schema has under the name `type_name`: its own, or else the meta-field.
+    /// It is that of [`Schema::type_field`], without another lookup of the type.
+    pub fn field_on<'schema>(
         &'schema self,
         type_name: &Name,
         ty: &'schema ExtendedType,
@@ -60,11 +62,11 @@ impl Schema {
         match field_of(ty, name) {
             // A field of the type's own comes first, also if its name is reserved, which a rule tells.
             Some(field) => Some(field),
-            None => self.meta_fields.get(
-                is_composite,
-                is_composite && self.is_query_root(type_name),
-                name,
-            ),
+            None => {
+                // The type's name may be long, so that it is compared for the names of these two alone.
+                let is_query_root = is_root_field(name) && self.is_query_root(type_name);
+                self.meta_fields.get(is_composite, is_composite && is_query_root, name)
+            }
         }
     }
 
@@ -77,6 +79,13 @@ impl Schema {
             Some(root) => *type_name == root.name,
         }
     }
+}
+
+/// Whether it is the name of a meta-field of the root of queries alone.
+fn is_root_field(name: &Name) -> bool
+    ensures { result ≡ (bytes_eq name.now.text (codes "__schema") || bytes_eq name.now.text (codes "__type")) }
+{
+    name.as_str() == "__schema" || name.as_str() == "__type"
 }
 
 /// The field of that name of an object or an interface.
