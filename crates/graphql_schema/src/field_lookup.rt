@@ -1,13 +1,12 @@
 //! Fields of types by name.
-ghost use Rattle.std.specs.Prelude.{◌≡◌, ◌||◌, codes, IfOk, IfErr};
-ghost use Rattle.std.specs.Str.{bytes_eq};
+ghost use Rattle.std.specs.Prelude.{◌≡◌, IfOk, IfErr};
 ghost use Rattle.tree_type_members.specs.TypeSystemTree.{field_definition_tree};
 ghost use Rattle.schema_components.specs.Given.{component_tree};
 ghost use Rattle.schema_building.specs.in_schema_types.Addresses.{under};
 ghost use Rattle.schema_building.specs.in_schema_types.TypeView.{extended_type};
 ghost use Rattle.graphql_schema.specs.SchemaOf.{schema_tree};
 ghost use Rattle.graphql_schema.specs.FieldView.{lent_field};
-ghost use Rattle.graphql_schema.specs.LookUps.{is_query_root, field_on, IsFieldNamed, FieldIsMissing};
+ghost use Rattle.graphql_schema.specs.LookUps.{is_query_root, IsFieldOn, IsFieldNamed, FieldIsMissing};
 
 use crate::schema::Schema;
 use graphql_names::Name;
@@ -53,7 +52,7 @@ impl Schema {
         ty: &'schema ExtendedType,
         name: &Name,
     ) -> Option<&'schema Component<FieldDefinition>>
-        ensures { lent_field result ≡ field_on (schema_tree self.now) type_name.now.text (extended_type ty.now) name.now.text }
+        ensures { IsFieldOn (schema_tree self.now) type_name.now.text (extended_type ty.now) name.now.text result }
     {
         let is_composite = matches!(
             ty,
@@ -62,11 +61,11 @@ impl Schema {
         match field_of(ty, name) {
             // A field of the type's own comes first, also if its name is reserved, which a rule tells.
             Some(field) => Some(field),
-            None => {
-                // The type's name may be long, so that it is compared for the names of these two alone.
-                let is_query_root = is_root_field(name) && self.is_query_root(type_name);
-                self.meta_fields.get(is_composite, is_composite && is_query_root, name)
-            }
+            None => self.meta_fields.get(
+                is_composite,
+                is_composite && self.is_query_root(type_name),
+                name,
+            ),
         }
     }
 
@@ -79,13 +78,6 @@ impl Schema {
             Some(root) => *type_name == root.name,
         }
     }
-}
-
-/// Whether it is the name of a meta-field of the root of queries alone.
-fn is_root_field(name: &Name) -> bool
-    ensures { result ≡ (bytes_eq name.now.text (codes "__schema") || bytes_eq name.now.text (codes "__type")) }
-{
-    name.as_str() == "__schema" || name.as_str() == "__type"
 }
 
 /// The field of that name of an object or an interface.
