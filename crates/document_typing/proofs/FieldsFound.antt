@@ -1,5 +1,5 @@
 -- What a look-up of a field finds on a type that was found, without places.
-use Rattle.std.proofs.Common.{◌≡◌, ℕ, false, ◌||◌, List, Option, None, Some, Bor, sym, ap, subst, ◌∙◌, option_and_then}
+use Rattle.std.proofs.Common.{◌≡◌, ℕ, Bool, false, ◌||◌, List, Option, None, Some, Bor, sym, ap, subst, ◌∙◌, option_and_then}
 use Rattle.std.specs.Option.{option_map, option_map_or, option_or}
 use Rattle.std.specs.FinMap as fin
 use Rattle.graphql_names.specs.Placed.{Place}
@@ -31,7 +31,7 @@ under-name : (schema : Option (Bor Schema)) (here : Bor Schema) (n : List ℕ) (
     → type_at (schema_tree here.now) n ≡ option_map (λ t. extended_type t.now) ty
 under-name schema here n ty is found = sym (subst (λ x. IsTypeUnder (schema_under x) n ty) is found)
 
-abbrev is_leaf_found : Option PlainType → _
+abbrev is_leaf_found : Option PlainType → Bool
 is_leaf_found o = option_map_or (λ t. same_kind t.kind kind.Scalar) (option_map type_looks o) false || option_map_or (λ t. same_kind t.kind kind.Enum) (option_map type_looks o) false
 
 -- it is a leaf where the name is that of one
@@ -49,10 +49,10 @@ on-type s n m o e = ap (λ o. option_or (option_and_then (λ (t : SchemaType Pla
 module _ (schema : Option (Bor Schema)) (here : Bor Schema) (n m : List ℕ) (ty : Option (Bor ExtendedType)) (is : schema ≡ Some here) (found : IsTypeUnder (schema_under schema) n ty) where
   -- where there is no type there is none
   pub none-there : ty ≡ None → field_named (schema_tree here.now) n m ≡ None
-  none-there none = on-type (schema_tree here.now) n m None (under-name schema here n ty is found ∙ ap (option_map (λ t. extended_type t.now)) none)
+  none-there none = on-type (schema_tree here.now) n m None (under-name schema here n ty is found ∙ ap (option_map (λ (t : Bor ExtendedType). extended_type t.now)) none)
 
   pub one-there : (t : Bor ExtendedType) → ty ≡ Some t → field_named (schema_tree here.now) n m ≡ field_on (schema_tree here.now) n (extended_type t.now) m
-  one-there t one = on-type (schema_tree here.now) n m (Some (extended_type t.now)) (under-name schema here n ty is found ∙ ap (option_map (λ t. extended_type t.now)) one)
+  one-there t one = on-type (schema_tree here.now) n m (Some (extended_type t.now)) (under-name schema here n ty is found ∙ ap (option_map (λ (t : Bor ExtendedType). extended_type t.now)) one)
 
 -- ---- without places
 
