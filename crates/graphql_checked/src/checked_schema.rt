@@ -105,7 +105,7 @@ impl CheckedSchema {
     /// Otherwise it tells what is wrong: a fault, alone, where the text is not read; else each rule of typing that is broken,
     /// and of what typing keeps what breaks the rules on documents that stay broken whatever is added; where none of typing is
     /// broken, the rules on documents that are; and where none is, the fields that do not merge. Of what breaks other rules than
-    /// those of typing it tells the first 1,000. It never answers [`Refusal::Failed`].
+    /// those of typing it tells all, or 1,000. It never answers [`Refusal::Failed`].
     pub fn check(&self, text: &str) -> Result<CheckedDocument<'_>, Refusal>
         ensures schema { IfOk result (λ d. d.schema ≡ self.now) }
         ensures text { IfOk result (λ d. d.text ≡ text.now) }

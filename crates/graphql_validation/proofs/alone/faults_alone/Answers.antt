@@ -16,7 +16,7 @@ returns c =
     let new = c.check_operations.new.found in
     let old = faults_of new.faults in
     let t = subst (λ l. AddsUnlessFull l old (λ f. AtOperation d (λ o. OperationFailsAlone d o f)) (HasAll (λ f. AtOperation d (λ o. OperationFailsAlone d o f)))) (ap (map fault_of) c.new-found.ensures.faults) c.in_ok-check_operations.ensures.told in
-    let used = used_unless_full d old _ (noted_names new.used) (ap (map (λ k. k.text)) c.new-found.ensures.used) c.in_ok-check_operations.ensures.noted in
+    let used = used_unless_full d old (noted_names c.new-found.result.used) (noted_names new.used) (ap (map (λ k. k.text)) c.new-found.ensures.used) c.in_ok-check_operations.ensures.noted in
     IfOk-weaker c.check_fragments.result _ _
     (λ r h own. tells_data d (AllAlone d) (OperationFailsAlone d) (all_alone d) (recursive_alone d) old (faults_of r) t h.0 (λ some. h.1 some own (used some)))
     c.check_fragments.ensures

@@ -23,7 +23,7 @@ returns c =
     let new = c.check_operations.new.found in
     let in' = lent_or (λ x. StandIn s d.fragments (meant_fragments x)) c.unwrap_or-fragments.result c.as_ref.result _ c.in_ok-settled.settled c.unwrap_or-fragments.ensures c.as_ref.ensures.value c.in_ok-settled.ensures in
     let old = faults_of new.faults in
-    let used = used_unless_full d old _ (noted_names new.used) (ap (map (λ k. k.text)) c.new-found.ensures.used) (c.in_ok-check_operations.ensures.noted in') in
+    let used = used_unless_full d old (noted_names c.new-found.result.used) (noted_names new.used) (ap (map (λ k. k.text)) c.new-found.ensures.used) (c.in_ok-check_operations.ensures.noted in') in
     let right = subst (ArePossibleIfFound (judged s)) (sym c.in_ok-possible.ensures) c.requires in
     IfOk-weaker c.check_fragments.result _ _
     (λ r h typed own.
