@@ -15,7 +15,7 @@ use Rattle.rule_fragments.specs.Used.{IsUsed, AreUsed}
 use Rattle.rule_fragments.specs.Told.{Answers}
 use Rattle.rule_fragments.specs.UnlessFull.{IsFull, HasAll, AddsUnlessFull}
 use Rattle.rule_fragments.proofs.UnlessFull.{first_tells, adds_first, adds_by}
-use Rattle.graphql_validation.specs.Operations.{ReachesNamed, NotesNames, FragmentsTold, DataFails, TellsData, DataTold}
+use Rattle.graphql_validation.specs.Operations.{ReachesNamed, NotesNames, FragmentsTold, DataFails, DataTold}
 
 module _ (d : MeantDocument Place) where
   -- the names that were noted are those of the fragments that some operation reaches
