@@ -61,7 +61,6 @@ KNOWN = {
     "told_ops": Known(factor=4.0),
     "told_names": Known(factor=3.7, megabytes=107),
     "hash_lists": Known(factor=2.4),
-    "like_names": Known(factor=2.6),
     "shared_variables": Known(factor=3.9),
     "told_roots": Known(factor=4.0, megabytes=156),
     "told_variables": Known(factor=3.0),
