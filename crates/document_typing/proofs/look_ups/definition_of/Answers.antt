@@ -1,13 +1,10 @@
-use Rattle.std.proofs.Common.{◌≡◌, Some, ap, sym, subst, ◌∙◌}
-use Rattle.std.specs.Option.{option_map}
-use Rattle.graphql_names.specs.Placed.{name_tree, node_tree}
+use Rattle.std.proofs.Common.{◌≡◌, Some, ap, sym, ◌∙◌}
 use Rattle.graphql_schema.specs.FieldView.{lent_field}
 use Rattle.graphql_schema.specs.LookUps.{field_named}
 use Rattle.graphql_schema.specs.SchemaOf.{schema_tree}
 use Rattle.schema_types.specs.in_components.Given.{component_tree}
 use Rattle.tree_type_members.specs.TypeSystemTree.{field_definition_tree, unplaced_field_definition}
-use Rattle.document_typing.specs.DefinedByPlace.{IsDefinitionOf}
-use Rattle.document_typing.specs.MeaningView.{schema_under, meanings_under}
+use Rattle.document_typing.specs.MeaningView.{meanings_under}
 use Rattle.document_typing.proofs.FieldsFound.{none-there, one-there, plain-none, plain-some}
 use Rattle.document_typing.proofs.look_ups.definition_of.Goals as goal
 
