@@ -59,7 +59,7 @@ KNOWN = {
     "dag": Known(factor=3.0),
     "apply": Known(factor=3.5),
     "told_ops": Known(factor=4.0),
-    "told_names": Known(factor=3.7, megabytes=107),
+    "told_names": Known(megabytes=107),
     "hash_lists": Known(factor=2.4),
     "shared_variables": Known(factor=3.9),
     "told_roots": Known(factor=4.0, megabytes=156),
