@@ -121,6 +121,21 @@ def pairs(size):
     return wide_schema(), "{" + SPENT + "".join(again) + sets + "q{...F}}" + WIDE
 
 
+def sets_apart(size):
+    """Fragments of sets that all differ, under one key, are spread together where what lists may cost is spent; compared in pairs."""
+
+    def texts(count):
+        names = iter(NAMES)
+        spreads = " ".join(f"...f{i}" for i in range(count))
+        own = ["".join(f"q{{{next(names)}:a}}" for _ in range(count + count // 3)) for _ in range(count)]
+        spent = "".join(f"spent{i}:q{{...all own{i}:a}}" for i in range(10))
+        sets = "".join(f"sets:q{{...f{i}}}" for i in range(count))
+        fragments = "".join(f"fragment f{i} on Query{{{body}}}" for i, body in enumerate(own))
+        return "type Query{q:Query a:ID}", "{" + spreads + " " + spent + sets + "}fragment all on Query{" + spreads + "}" + fragments
+
+    return counted(texts)(size)
+
+
 def tower(size):
     """Inline fragments are in each other, and in each some fields, beside one spread that is repeated; compared in pairs."""
     deep = min(480, size // 10)
@@ -531,6 +546,7 @@ FAMILIES = [
     family(repeat, 200, 18_800),
     family(repeat_heavy, 80, 18_500),
     family(pairs, 800, 18_300, bound=4.3),
+    family(sets_apart, 1_000, bound=4.3),
     family(tower, 160, 18_800),
     family(lists_heavy, 300),
     family(dag, 4_000),

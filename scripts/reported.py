@@ -103,9 +103,11 @@ class Case:
         line, column = text.position(begin)
         whole = text.plain.split("\n")[line - 1]
         width = max(1, min(end - begin, len(whole) - column + 1))
+        first, last = max(0, column - 81), column - 1 + (width + 80 if width <= 80 else 80)
+        shown = ("…" if first else "") + whole[first:last] + ("…" if last < len(whole) else "")
         yield f"{text.path}:{line}:{column}: error[{self.rule}]: {message}"
-        yield f"{line} | {whole[max(0, column - 81):column + width + 79]}"
-        yield f"{' ' * len(str(line))} | {' ' * min(column - 1, 80)}{'^' * min(width, 80)}"
+        yield f"{line} | {shown}"
+        yield f"{' ' * len(str(line))} | {' ' * (column - 1 - first + (first > 0))}{'^' * min(width, 80)}"
         for path, line, column, words in self.others():
             yield f"  = {path}:{line}:{column}: {words}"
         if self.hint:

@@ -1,20 +1,18 @@
 -- Whose definitions are the schema's: selections that are put behind others, sets, and what is put under a name.
-use Rattle.std.proofs.Common.{◌≡◌, ℕ, Bool, true, false, List, [], ◌∷◌, ◌++◌, map, Option, None, Some, Vec, refl, sym, ap, subst, ◌∙◌, if◌then◌else◌, IfSome}
-use Rattle.std.specs.Option.{option_map}
+use Rattle.std.proofs.Common.{◌≡◌, ℕ, Bool, true, false, List, [], ◌∷◌, ◌++◌, map, Option, None, Some, Vec, sym, ap, subst, ◌∙◌, if◌then◌else◌}
 use Rattle.std.specs.Str.{bytes_eq}
 use Rattle.std.specs.declared.alloc.Global.{Global}
 use Rattle.indexmap.specs.IndexMap.{IndexMap, insert_entry}
 use Rattle.graphql_names.specs.NameValue.{NameValue}
-use Rattle.graphql_names.specs.Node.{content, place}
+use Rattle.graphql_names.specs.Node.{content}
 use Rattle.graphql_names.specs.Placed.{Place, Placed, Text, name_tree, node_tree}
 use Rattle.graphql_names.specs.declared.node.Node.{Node}
-use Rattle.tree_type_members.specs.TypeSystemTree.{FieldDefinitionTree, field_definition_tree}
+use Rattle.tree_type_members.specs.TypeSystemTree.{field_definition_tree}
 use Rattle.tree_type_members.specs.declared.field_definition.FieldDefinition.{FieldDefinition}
 use Rattle.schema_types.specs.in_components.Names.{Entries, same_text, entries_of}
 use Rattle.schema_types.specs.SchemaTree.{SchemaTree}
 use Rattle.schema_types.specs.TypeView.{name_text}
-use Rattle.document_typed_selections.specs.TypedTree.{TypedSelection, TypedField, TypedInline, TypedSet, typed_selections, typed_selection_tree, typed_set_tree}
-use Rattle.document_typed_selections.specs.TypedParts.{typed_head}
+use Rattle.document_typed_selections.specs.TypedTree.{TypedSet, typed_selections, typed_selection_tree, typed_set_tree}
 use Rattle.document_typed_selections.specs.declared.selection.Field.{Field}
 use Rattle.document_typed_selections.specs.declared.selection.InlineFragment.{InlineFragment}
 use Rattle.document_typed_selections.specs.declared.selection.FragmentSpread.{FragmentSpread}

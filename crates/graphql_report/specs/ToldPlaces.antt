@@ -6,6 +6,7 @@ use Rattle.fault_document_data.specs.DocumentBreaches.{DocumentBreach}
 use Rattle.fault_data.specs.in_rule_definitions.Diagnostics as rule
 use Rattle.fault_data.specs.in_rule_definitions.Diagnostics.{Diagnostic}
 use Rattle.graphql_faults.specs.DetailsTree.{DetailsTree, DocumentBuild, Data}
+use Rattle.schema_coordinates.specs.Coordinate.{Coordinate, OfDirective}
 use Rattle.report_forms.specs.declared.entry.Related.{Related}
 use Rattle.report_forms.specs.declared.noted.Noted.{Noted}
 
@@ -21,6 +22,11 @@ in_cycle place = (place, codes "the cycle goes through here")
 
 abbrev pub each_in_cycle : {A : Type 0} → List (Placed Place A) → List (Place × List ℕ)
 each_in_cycle trace = map (λ t. in_cycle t.place) trace
+
+-- an argument that is not defined has the place of the field's definition, or of the use of the directive
+abbrev pub taker_words : Coordinate → List ℕ
+taker_words (OfDirective directive) = codes "the use of the directive"
+taker_words _ = codes "the definition"
 
 -- the first place of a fault of schemas, uses, values or documents, if it has one
 abbrev pub first_of_data : Diagnostic Place (List Place) → Place × List ℕ
@@ -38,7 +44,7 @@ first_of_data (rule.ExtraRequiredImplementationFieldArgument a b c d e field) = 
 first_of_data (rule.MissingInterfaceFieldArgument a b c d e argument) = (argument, codes "the interface's argument")
 first_of_data (rule.InvalidImplementationFieldArgumentType a b c d e f g argument) = (argument, codes "the interface's argument")
 first_of_data (rule.UnsupportedLocation a b c definition) = (definition, codes "the directive's definition")
-first_of_data (rule.UndefinedArgument a b definition) = (definition, codes "the definition")
+first_of_data (rule.UndefinedArgument a taker place) = (place, taker_words taker)
 first_of_data (rule.RequiredArgument a b c definition) = (definition, codes "the definition")
 first_of_data (rule.UnsupportedValueType a b definition) = (definition, codes "the definition")
 first_of_data (rule.UndefinedEnumValue a b definition) = (definition, codes "the definition")

@@ -12,6 +12,13 @@ use report_forms::{Closest, Source, source_at};
 use schema_coordinates::SchemaCoordinate;
 use std::alloc::{AllocError, Global};
 
+/// How many faults of a report may have a hint.
+const FAULTS: usize = 1_000;
+/// How many bytes of names are looked through for each byte of the texts: so often at the least all names of the texts.
+const BYTES: usize = 16;
+/// As if the texts were so much longer, for the names of built-in definitions.
+const BUILT_IN: usize = 1_000;
+
 /// Where a name is in a text that comes after `$`, as that of a variable, or after `fragment`.
 #[derive(Clone, Copy)]
 pub(crate) struct TextName {
@@ -20,16 +27,33 @@ pub(crate) struct TextName {
     end: usize,
 }
 
-/// How many further faults of a report may have a hint, and the names in the text that was read last for one: faults come text by
-/// text, so each text is read once.
+/// How many further faults of a report may have a hint, how many bytes of names may be looked through for them, and the names in the
+/// text that was read last for one: faults come text by text, so each text is read once.
+///
+/// So hints take time linear in the texts, however many faults there are.
 #[derive(Drop)]
 pub(crate) struct Hints {
-    pub(crate) left: usize,
-    pub(crate) file: FileId,
-    pub(crate) names: Vec<TextName>,
+    faults: usize,
+    bytes: usize,
+    file: FileId,
+    names: Vec<TextName>,
 }
 
 impl Hints {
+    /// Those of a report over these texts.
+    pub(crate) fn new(alloc: Global, sources: &[Source<'_>]) -> Hints {
+        let mut length = BUILT_IN;
+        for source in sources {
+            length = length.saturating_add(source.lines.text().len());
+        }
+        Hints {
+            faults: FAULTS,
+            bytes: length.saturating_mul(BYTES),
+            file: FileId::BUILT_IN,
+            names: Vec::new(alloc),
+        }
+    }
+
     /// The closest of the variables, or of the fragments, that the text of this file names.
     fn name_in_text(
         &mut self,
@@ -52,11 +76,11 @@ impl Hints {
                 closest.see(name);
             }
         }
-        closest.hint(if is_variable { "$" } else { "" })
+        closest.hint(if is_variable { "$" } else { "" }, &mut self.bytes)
     }
 }
 
-/// A hint for the fault, if there is one.
+/// A hint for the fault, if there is one, and faults and bytes are left.
 pub(crate) fn hint_of(
     alloc: Global,
     hints: &mut Hints,
@@ -65,10 +89,10 @@ pub(crate) fn hint_of(
     place: Option<SourceSpan>,
     details: &Details,
 ) -> Result<Option<String>, AllocError> {
-    if hints.left == 0 {
+    if hints.faults == 0 || hints.bytes == 0 {
         return Ok(None);
     }
-    hints.left -= 1;
+    hints.faults -= 1;
     if let Some(span) = place
         && let Some(source) = source_at(sources, span)
     {
@@ -94,13 +118,14 @@ pub(crate) fn hint_of(
     }
     match schema {
         None => Ok(None),
-        Some(schema) => schema_hint(alloc, schema, details),
+        Some(schema) => schema_hint(alloc, &mut hints.bytes, schema, details),
     }
 }
 
 /// A type, a field, a value of an enum, a field of an input object, an argument or a directive.
 fn schema_hint(
     alloc: Global,
+    left: &mut usize,
     schema: &Schema,
     details: &Details,
 ) -> Result<Option<String>, AllocError> {
@@ -109,13 +134,13 @@ fn schema_hint(
         | Details::DocumentBuild(
             BuildError::UndefinedTypeInNamedFragmentTypeCondition { type_name }
             | BuildError::UndefinedTypeInInlineFragmentTypeCondition { type_name },
-        ) => closest_key(alloc, &schema.types, type_name, ""),
+        ) => closest_key(alloc, left, &schema.types, type_name, ""),
         Details::DocumentBuild(
             BuildError::UndefinedField {
                 type_name,
                 field_name,
             },
-        ) => member_hint(alloc, schema, type_name, field_name),
+        ) => member_hint(alloc, left, schema, type_name, field_name),
         Details::Data(
             DiagnosticData::UndefinedEnumValue {
                 value,
@@ -127,16 +152,17 @@ fn schema_hint(
                 definition,
                 ..
             },
-        ) => member_hint(alloc, schema, definition, value),
+        ) => member_hint(alloc, left, schema, definition, value),
         Details::Data(
             DiagnosticData::UndefinedArgument {
                 name,
                 coordinate,
                 ..
             },
-        ) => argument_hint(alloc, schema, coordinate, name),
+        ) => argument_hint(alloc, left, schema, coordinate, name),
         Details::Data(DiagnosticData::UndefinedDirective { name }) => closest_key(
             alloc,
+            left,
             &schema.directive_definitions,
             name,
             "@",
@@ -148,6 +174,7 @@ fn schema_hint(
 /// A field, a value or an input field of the type.
 fn member_hint(
     alloc: Global,
+    left: &mut usize,
     schema: &Schema,
     type_name: &Name,
     given: &Name,
@@ -155,24 +182,28 @@ fn member_hint(
     match schema.type_named(type_name) {
         Some(ExtendedType::Object(object)) => closest_key(
             alloc,
+            left,
             &object.content().fields,
             given,
             "",
         ),
         Some(ExtendedType::Interface(interface)) => closest_key(
             alloc,
+            left,
             &interface.content().fields,
             given,
             "",
         ),
         Some(ExtendedType::Enum(definition)) => closest_key(
             alloc,
+            left,
             &definition.content().values,
             given,
             "",
         ),
         Some(ExtendedType::InputObject(definition)) => closest_key(
             alloc,
+            left,
             &definition.content().fields,
             given,
             "",
@@ -184,6 +215,7 @@ fn member_hint(
 /// An argument of the field or of the directive.
 fn argument_hint(
     alloc: Global,
+    left: &mut usize,
     schema: &Schema,
     coordinate: &SchemaCoordinate,
     given: &Name,
@@ -211,12 +243,13 @@ fn argument_hint(
         let name = argument.content().name.as_str();
         closest.see(name);
     }
-    closest.hint("")
+    closest.hint("", left)
 }
 
 /// One of these names.
 fn closest_key<V>(
     alloc: Global,
+    left: &mut usize,
     named: &IndexMap<Name, V>,
     given: &Name,
     sign: &str,
@@ -227,7 +260,7 @@ fn closest_key<V>(
         let name = name.as_str();
         closest.see(name);
     }
-    closest.hint(sign)
+    closest.hint(sign, left)
 }
 
 /// Where the variables and the fragments are that the text names, in order.

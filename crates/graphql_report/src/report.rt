@@ -7,14 +7,10 @@ ghost use Rattle.graphql_report.specs.Reports.{IsReport, IsDocumentReport};
 use crate::entries::entry_of;
 use crate::hints::Hints;
 use graphql_faults::DiagnosticList;
-use graphql_names::FileId;
 use graphql_schema::Schema;
 use report_forms::{Entry, Lines, Source, order_of};
 use std::alloc::{AllocError, Global};
 use std::marker::Model;
-
-/// How many faults of a report may have a hint.
-const HINTS: usize = 1000;
 
 /// What is told of faults, in the order of texts and places, those without a place first.
 ///
@@ -55,11 +51,7 @@ impl Report {
     {
         let told = faults.iter().as_slice();
         let ranks = order_of(alloc, told)?;
-        let mut hints = Hints {
-            left: HINTS,
-            file: FileId::BUILT_IN,
-            names: Vec::new(alloc),
-        };
+        let mut hints = Hints::new(alloc, sources);
         let mut entries = Vec::new(alloc);
         for rank in &ranks {
             let fault = &told[rank.told];

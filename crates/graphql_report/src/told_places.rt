@@ -4,13 +4,15 @@ ghost use Rattle.std.specs.Prelude.{◌≡◌, ◌++◌, ◌∷◌, [], map, IfO
 ghost use Rattle.graphql_names.specs.Node.{place};
 ghost use Rattle.fault_data.specs.DiagnosticView.{diagnostic_of};
 ghost use Rattle.graphql_faults.specs.DetailsView.{details_of};
-ghost use Rattle.graphql_report.specs.ToldPlaces.{plain, first_of_data, more_of_data, first_of, places_of, extended, in_cycle};
+ghost use Rattle.graphql_report.specs.ToldPlaces.{plain, taker_words, first_of_data, more_of_data, first_of, places_of, extended, in_cycle};
+ghost use Rattle.schema_coordinates.specs.CoordinateView.{schema_coordinate};
 
 use fault_data::DiagnosticData;
 use fault_document_data::BuildError;
 use graphql_faults::Details;
 use graphql_names::{Node, SourceSpan};
 use report_forms::Noted;
+use schema_coordinates::SchemaCoordinate;
 use std::alloc::{AllocError, Global};
 
 /// The places that the fault's data have, in the order in which they have them, each with words. Where a fault has no such place, the
@@ -113,10 +115,11 @@ fn first_of_data(diagnostic: &DiagnosticData) -> (Option<SourceSpan>, &'static s
             ..
         } => (*definition_location, "the directive's definition"),
         DiagnosticData::UndefinedArgument {
+            coordinate,
             definition_location,
             ..
-        }
-        | DiagnosticData::RequiredArgument {
+        } => (*definition_location, taker_words(coordinate)),
+        DiagnosticData::RequiredArgument {
             definition_location,
             ..
         }
@@ -145,6 +148,17 @@ fn first_of_data(diagnostic: &DiagnosticData) -> (Option<SourceSpan>, &'static s
             ..
         } => (*fragment_location, "the fragment's definition"),
         _ => (None, ""),
+    }
+}
+
+/// What is at the place that an argument which is not defined has beside its own: the definition of the field, or where the directive
+/// is used.
+fn taker_words(coordinate: &SchemaCoordinate) -> &'static str
+    ensures { result.now ≡ taker_words (schema_coordinate coordinate.now) }
+{
+    match coordinate {
+        SchemaCoordinate::Directive(_) => "the use of the directive",
+        _ => "the definition",
     }
 }
 

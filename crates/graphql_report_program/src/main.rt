@@ -46,8 +46,8 @@ fn tell_schema(
 ) -> Result<(), Stop> {
     let faults = faults_of(refusal)?;
     let report = Report::new(rt.alloc(), faults, telling.schemas, None, "schema")?;
-    tally.add_schema(report.entries().len());
-    telling.tell(rt, report.entries())
+    tally.add_schema();
+    telling.tell(rt, report.entries(), tally)
 }
 
 /// Checks the document in a file, and tells its faults.
@@ -76,8 +76,8 @@ fn check_document(
                 path,
                 &text,
             )?;
-            tally.add_refused(report.entries().len());
-            telling.tell(rt, report.entries())
+            tally.add_refused();
+            telling.tell(rt, report.entries(), tally)
         }
     }
 }

@@ -44,7 +44,8 @@ pub fn answer_refused(
     most: usize,
     tally: &mut Tally,
 ) -> Result<(), Stop> {
-    tally.add_refused(entries.len());
+    tally.add_refused();
+    tally.add_faults(entries.len());
     tell_cut(rt, entries.len());
     let (told, left_out) = entries.split_at(entries.len().min(most));
     let faults = objects(rt.alloc(), told)?;

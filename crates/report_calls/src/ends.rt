@@ -48,9 +48,13 @@ fn told_of_words(rt: &HostRuntime, error: &Error) -> u8 {
     }
 }
 
-/// Tells how much was found, or why the program stopped before its end, and gives the status.
+/// Tells how much was found, or why the program stopped before its end, and gives the status. Where nobody reads on, nothing is told,
+/// and what was refused so far stays so.
 pub fn tell_end(rt: &HostRuntime, tally: Tally, done: Result<(), Stop>) -> u8 {
     if let Err(stop) = done {
+        if matches!(stop, Stop::Closed) && tally.faults > 0 {
+            return tally.status();
+        }
         return stop.tell(rt);
     }
     match tally.words(rt.alloc()) {

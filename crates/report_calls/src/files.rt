@@ -17,6 +17,8 @@ pub enum Stop {
     Unread,
     /// The output cannot be written.
     Output,
+    /// Nobody reads the output any more, as where `head` has what it wants.
+    Closed,
     Memory,
 }
 
@@ -36,7 +38,7 @@ impl Stop {
     /// Tells it, unless it is told already, and gives the status.
     pub(crate) fn tell(self, rt: &HostRuntime) -> u8 {
         let (why, status) = match self {
-            Stop::Unread => return DEVICE,
+            Stop::Unread | Stop::Closed => return DEVICE,
             Stop::Output => ("the output cannot be written", DEVICE),
             Stop::Memory => ("out of memory", MEMORY),
         };
@@ -101,6 +103,7 @@ pub fn read_document(
 pub(crate) fn put(rt: &HostRuntime, text: &str) -> Result<(), Stop> {
     match print!(rt; "{text}") {
         Ok(()) => Ok(()),
+        Err(error) if error.kind() == io::ErrorKind::BrokenPipe => Err(Stop::Closed),
         Err(_) => Err(Stop::Output),
     }
 }

@@ -21,7 +21,7 @@ pub struct Tally {
     pub refused: usize,
     /// How many of them could not be read.
     pub unread: usize,
-    /// How many faults they have, or the schema has.
+    /// How many faults are told of them, or of the schema.
     pub faults: usize,
     /// Whether the schema is refused, or is all that was asked for.
     pub is_of_schema: bool,
@@ -48,14 +48,18 @@ impl Tally {
         self.documents = self.documents.saturating_add(1);
     }
 
-    /// Adds a document that has so many faults.
-    pub fn add_refused(&mut self, faults: usize)
-        ensures documents { (self.new.documents ≡ added self.old.documents 1) × (self.new.refused ≡ added self.old.refused 1) }
-        ensures faults { self.new.faults ≡ added self.old.faults faults }
-        ensures unchanged { (self.new.unread ≡ self.old.unread) × (self.new.is_of_schema ≡ self.old.is_of_schema) }
+    /// Adds a document that is refused.
+    pub fn add_refused(&mut self)
+        ensures { self.new ≡ record self.old { documents = added self.old.documents 1; refused = added self.old.refused 1 } }
     {
         self.documents = self.documents.saturating_add(1);
         self.refused = self.refused.saturating_add(1);
+    }
+
+    /// Adds so many faults that are told.
+    pub fn add_faults(&mut self, faults: usize)
+        ensures { self.new ≡ record self.old { faults = added self.old.faults faults } }
+    {
         self.faults = self.faults.saturating_add(faults);
     }
 
@@ -67,12 +71,11 @@ impl Tally {
         self.unread = self.unread.saturating_add(1);
     }
 
-    /// Adds the faults of the schema, after which no document is judged.
-    pub fn add_schema(&mut self, faults: usize)
-        ensures { self.new ≡ record self.old { faults = added self.old.faults faults; is_of_schema = true } }
+    /// Adds that the schema is refused, after which no document is judged.
+    pub fn add_schema(&mut self)
+        ensures { self.new ≡ record self.old { is_of_schema = true } }
     {
         self.is_of_schema = true;
-        self.faults = self.faults.saturating_add(faults);
     }
 
     /// The status of what was found: 3 where a document could not be read, else 1 where there is a fault, else 0.
@@ -90,7 +93,7 @@ impl Tally {
         }
     }
 
-    /// How much was found, in words: `3 faults in 2 of 40 documents`.
+    /// How much was found, in words: `3 faults in 2 of 40 documents`, or `40 documents accepted`.
     pub fn words(self, alloc: Global) -> Result<String, AllocError>
         ensures { IfOk result (λ words. string_bytes words ≡ words_of self) }
     {
@@ -102,19 +105,28 @@ impl Tally {
         Ok(words)
     }
 
-    /// Adds how many faults there are, and what they are in.
+    /// Adds how many faults there are, and what they are in; or what is accepted.
     fn push_counts(self, out: &mut String) -> Result<(), AllocError>
         ensures { OnOk result (string_bytes out.new ≡ string_bytes out.old ++ counts_words self) }
     {
         let Tally {
             documents,
             refused,
+            unread,
             faults,
-            ..
+            is_of_schema,
         } = self;
         let ending = plural(faults);
-        if self.is_of_schema {
+        if is_of_schema && faults == 0 {
+            return out.push_str("schema accepted");
+        }
+        if is_of_schema {
             return write!(out, "{faults} fault{ending} in the schema");
+        }
+        if refused == 0 {
+            let accepted = documents.saturating_sub(unread);
+            let ending = plural(accepted);
+            return write!(out, "{accepted} document{ending} accepted");
         }
         let ending_of_documents = plural(documents);
         write!(

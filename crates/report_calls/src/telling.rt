@@ -3,6 +3,7 @@
 use crate::files::{Stop, put};
 use crate::folding::{Printed, folded};
 use crate::settings::{Format, Settings};
+use crate::tally::Tally;
 use report_forms::{Entry, Lines, Source};
 use std::alloc::{AllocError, Global};
 
@@ -17,21 +18,23 @@ pub struct Telling<'a> {
 }
 
 impl Telling<'_> {
-    /// Prints the faults, as far as they are asked for. Lines of JSON are for programs, which fold what they like: there each fault
-    /// has its line.
-    pub fn tell(&self, rt: &HostRuntime, entries: &[Entry]) -> Result<(), Stop> {
+    /// Counts the faults that are told, and prints them as far as they are asked for. Lines of JSON are for programs, which fold what
+    /// they like: there each fault has its line.
+    pub fn tell(&self, rt: &HostRuntime, entries: &[Entry], tally: &mut Tally) -> Result<(), Stop> {
         tell_cut(rt, entries.len());
         let most = self.settings.max_faults;
         if matches!(self.settings.format, Format::Json) {
+            tally.add_faults(entries.len());
             for entry in &entries[..entries.len().min(most)] {
                 print_formed(rt, Format::Json, entry)?;
             }
             return Ok(());
         }
         let printed = folded(rt.alloc(), entries)?;
+        tally.add_faults(faults_in(&printed));
         let (told, rest) = printed.split_at(printed.len().min(most));
         self.print_folded(rt, entries, told)?;
-        print_more(rt, faults_in(rest))
+        print_more(rt, faults_in(rest), None)
     }
 
     /// Prints each fault in its form, and how many it stands for.
@@ -44,8 +47,8 @@ impl Telling<'_> {
         for one in printed {
             if let Some(entry) = entries.get(one.index) {
                 print_formed(rt, self.settings.format, entry)?;
+                print_more(rt, one.more, Some(entry.rule))?;
             }
-            print_more(rt, one.more)?;
         }
         Ok(())
     }
@@ -60,15 +63,16 @@ pub(crate) fn tell_cut(rt: &HostRuntime, told: usize) {
     }
 }
 
-/// Says how many faults are left out, if any are.
-fn print_more(rt: &HostRuntime, more: usize) -> Result<(), Stop> {
+/// Says how many faults are left out, if any are: of the rule and the message that were told last, or of all where there is no rule.
+fn print_more(rt: &HostRuntime, more: usize, rule: Option<&str>) -> Result<(), Stop> {
     if more == 0 {
         return Ok(());
     }
-    match println!(rt; "and {more} more") {
-        Ok(()) => Ok(()),
-        Err(_) => Err(Stop::Output),
-    }
+    let line = match rule {
+        Some(rule) => format!(in rt.alloc(); "and {more} more with this message of {rule}\n"),
+        None => format!(in rt.alloc(); "and {more} more beyond --max-faults\n"),
+    };
+    put(rt, &line?)
 }
 
 /// How many faults these are, with those that each stands for.

@@ -15,7 +15,7 @@ pub struct Place {
     pub length: usize,
 }
 
-/// The line in which a fault begins, or a part of it where it is long.
+/// The line in which a fault begins, or a part of it where it is long: `…` is where it is cut.
 pub struct Excerpt {
     /// What stands before the place.
     pub before: String,

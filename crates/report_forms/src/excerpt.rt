@@ -9,7 +9,8 @@ use std::alloc::{AllocError, Global};
 /// How many characters of a line are taken before a place, in it and after it.
 const MOST: usize = 80;
 
-/// The line in which the place begins, as far as it is near the place. None where it is in no text of these.
+/// The line in which the place begins, as far as it is near the place, with `…` where it goes on. None where the place is in no text
+/// of these.
 pub fn excerpt_at(
     alloc: Global,
     sources: &[Source<'_>],
@@ -31,11 +32,27 @@ pub fn excerpt_at(
     } else {
         ""
     };
+    let before = last_of_line(head);
+    let start = head.len().saturating_sub(before.len());
+    let end = head
+        .len()
+        .saturating_add(marked.len())
+        .saturating_add(after.len());
+    let cut_before = cut_mark(text.get(..start).unwrap_or("").chars().next_back());
+    let cut_after = cut_mark(text.get(end..).unwrap_or("").chars().next());
     Ok(Some(Excerpt {
-        before: String::from_str(alloc, last_of_line(head))?,
+        before: format!(in alloc; "{cut_before}{before}")?,
         marked: String::from_str(alloc, marked)?,
-        after: String::from_str(alloc, after)?,
+        after: format!(in alloc; "{after}{cut_after}")?,
     }))
+}
+
+/// `…` where the line goes on with this character.
+fn cut_mark(beside: Option<char>) -> &'static str {
+    match beside {
+        None | Some('\n' | '\r') => "",
+        Some(_) => "…",
+    }
 }
 
 /// The characters at the beginning, up to the end of a line and not too many.
