@@ -22,23 +22,24 @@ use Rattle.rule_document_definitions.specs.UsedVariables.{StandsInArguments, Sta
 use Rattle.rule_document_ground.specs.Reach.{Member, field_of}
 use Rattle.rule_selections.specs.Steps.{MissesSubselection, ArgumentsOfBreak, SelectionBreaks}
 use Rattle.rule_selections.specs.Typed.{ReachesTyped}
-use Rattle.rule_selections.specs.Settled.{filler, filled, emptied, enters_none, IsQuiet, IsSettled, Thins, StandsInFor, StandIn}
+use Rattle.rule_selections.specs.Settled.{filler, filled, emptied, EntersOnly, AppliesIn, IsQuiet, IsSettled, Thins, StandsInFor, StandIn}
 use Rattle.rule_selections.proofs.Elsewhere.{member, at, to_members, of_members, Look, look, outline, outline_of, bare, placed}
 use Rattle.rule_selections.proofs.Leaving.{IsFiller, StaysAs, stays_same, set_left_of, set_stays_in, filled_of, stays_filled, look_stays, stays_typed, filler_typed, settled_quiet, set_settled}
 use Rattle.rule_selections.proofs.SameUses.{same_uses}
 use Rattle.rule_selections.proofs.WithoutVariables.{gives_none, given_well, taken_well, used_well, unnamed_in_arguments, unnamed_in_directives}
 
--- a member that enters no fragment on a type
-no_name : (s : MeantSelection Place) → enters_none s ≡ true → spread_name s ≡ None
-no_name (MeantField p d h v) e = refl
-no_name (MeantSpread p n ds) e = absurd (true≢false (sym e))
-no_name (MeantInline p c ds v) e = refl
+-- a member that enters a fragment only so
+module _ (R : List ℕ → List ℕ → Type 0) where
+  no_name : (e : Member Place) → EntersOnly R e → spread_name e.1 ≡ None
+  no_name (t, MeantField p d h v) enters = refl
+  no_name (t, MeantSpread p n ds) enters = absurd enters
+  no_name (t, MeantInline p c ds v) enters = refl
 
-no_condition : (s : MeantSelection Place) → enters_none s ≡ true → inline_condition s ≡ None
-no_condition (MeantField p d h v) e = refl
-no_condition (MeantSpread p n ds) e = absurd (true≢false (sym e))
-no_condition (MeantInline p None ds v) e = refl
-no_condition (MeantInline p (Some c) ds v) e = absurd (true≢false (sym e))
+  its_condition : (e : Member Place) → EntersOnly R e → (c : List ℕ) → inline_condition e.1 ≡ Some c → R e.0 c
+  its_condition (t, MeantField p d h v) enters c is = absurd (true≢false (sym (ap is_some is)))
+  its_condition (t, MeantSpread p n ds) enters c is = absurd enters
+  its_condition (t, MeantInline p None ds v) enters c is = absurd (true≢false (sym (ap is_some is)))
+  its_condition (t, MeantInline p (Some k) ds v) enters c is = subst (R t) (some_is k.it c is) enters
 
 module _ (s : SchemaTree Place) (d : MeantDocument Place) (instead : Entries (MeantFragment Place)) (in' : StandIn s d.fragments instead) where
   -- the document with the others
@@ -141,7 +142,7 @@ module _ (s : SchemaTree Place) (d : MeantDocument Place) (instead : Entries (Me
         set_settled s v k.1 (member z) (to_members p v z (subst (λ (f : StandingField Place). Contains (standing_in f.position f.set) z) (sym (some_is old f same)) c))
     settled_leads (MeantField pl df h v) k z (inr (inl c)) = absurd (not_in_nil z c)
     settled_leads (MeantField pl df h v) k z (inr (inr (m, (named, rest)))) = absurd (true≢false (sym (ap is_some named)))
-    settled_leads (MeantSpread pl n ds) k z leads = absurd (true≢false (sym k.enters))
+    settled_leads (MeantSpread pl n ds) k z leads = absurd k.enters
     settled_leads (MeantInline pl c ds v) k z (inl (f, (same, h))) = absurd (true≢false (sym (ap is_some same)))
     settled_leads (MeantInline pl c ds v) k z (inr (inl h)) = set_settled s v k.1 (member z) (to_members p v z h)
     settled_leads (MeantInline pl c ds v) k z (inr (inr (m, (named, rest)))) = absurd (true≢false (sym (ap is_some named)))
@@ -204,10 +205,10 @@ module _ (s : SchemaTree Place) (d : MeantDocument Place) (instead : Entries (Me
     quiet x l = settled_quiet s x.parent x.it l.1
 
     pub spreads_none : (x : Standing Place) → IsLeftOut (own o) x → spread_name x.it ≡ None
-    spreads_none x l = no_name x.it (quiet x l).enters
+    spreads_none x l = no_name (AppliesIn s) (member x) (quiet x l).enters
 
-    pub without_condition : (x : Standing Place) → IsLeftOut (own o) x → inline_condition x.it ≡ None
-    without_condition x l = no_condition x.it (quiet x l).enters
+    pub condition_applies : (x : Standing Place) → IsLeftOut (own o) x → (c : List ℕ) → inline_condition x.it ≡ Some c → AppliesIn s x.parent c
+    condition_applies x l = its_condition (AppliesIn s) (member x) (quiet x l).enters
 
     module _ (typed : ReachesTyped (meanings (plain s)) d o) where
       -- what is reached with the others is typed too

@@ -25,9 +25,9 @@ use Rattle.rule_document_definitions.specs.UsedVariables.{StandsInDirectives, St
 use Rattle.rule_document_definitions.specs.Variables.{VariablesBreak}
 use Rattle.rule_selections.specs.Steps.{without_subselection, MissesSubselection, ArgumentsOfBreak}
 use Rattle.rule_selections.specs.Typed.{ReachesTyped}
-use Rattle.rule_selections.specs.Settled.{StandsInFor, StandIn}
+use Rattle.rule_selections.specs.Settled.{AppliesIn, StandsInFor, StandIn}
 use Rattle.rule_selections.proofs.Elsewhere.{member, outline, Look, look, has_none, bare, placed}
-use Rattle.rule_selections.proofs.Instead.{Other, stood_for, IsLeftOut, spreads_none, without_condition, misses_none, takes_well, uses_well, names_none, gives_names_none, at_all, at_all_fields, at_all_fragments}
+use Rattle.rule_selections.proofs.Instead.{Other, stood_for, IsLeftOut, spreads_none, condition_applies, misses_none, takes_well, uses_well, names_none, gives_names_none, at_all, at_all_fields, at_all_fragments}
 
 -- nothing is said of what is not there
 none_there : {X : Type 0} {Q : X → Type 0} → Present None Q → ⊥
@@ -45,12 +45,12 @@ module _ (s : SchemaTree Place) (d : MeantDocument Place) (instead : Entries (Me
     pub same_names : (n : List ℕ) → ((f : MeantFragment Place) × (ReachesFragment Else o f × (f.name.it ≡ n))) ↔ ((f : MeantFragment Place) × (ReachesFragment d o f × (f.name.it ≡ n)))
     same_names n = at_all_fragments s d instead in' o (λ f. f.name.it ≡ n) (λ g. refl)
 
-    -- nothing is said of spreads, and of conditions, among what is left out
+    -- nothing is said of spreads among what is left out, and of conditions nothing that applying contradicts
     never_spread : (Q : List ℕ → Type 0) (x : Standing Place) → IsLeftOut s d instead in' (own o) x → Present (spread_name x.it) Q → ⊥
     never_spread Q x l (n, (is, q)) = true≢false (sym (ap is_some (sym (spreads_none s d instead in' o x l) ∙ is)))
 
-    never_condition : (Q : List ℕ → Type 0) (x : Standing Place) → IsLeftOut s d instead in' (own o) x → Present (inline_condition x.it) Q → ⊥
-    never_condition Q x l (n, (is, q)) = true≢false (sym (ap is_some (sym (without_condition s d instead in' o x l) ∙ is)))
+    never_condition : (Q : List ℕ → Type 0) (x : Standing Place) → IsLeftOut s d instead in' (own o) x → ((c : List ℕ) → AppliesIn s x.parent c → Q c → ⊥) → Present (inline_condition x.it) Q → ⊥
+    never_condition Q x l never (n, (is, q)) = never n (condition_applies s d instead in' o x l n is) q
 
     -- UndefinedFragment
     module _ (f : PlacedFault) where
@@ -78,7 +78,7 @@ module _ (s : SchemaTree Place) (d : MeantDocument Place) (instead : Entries (Me
     same_targets f =
         let named = at_all_fragments s d instead in' o (λ g. IsNotComposite (judged s) g.type_condition.it × (f ≡ wrong g.place (InvalidFragmentTarget (Some g.name.it) g.type_condition.it))) (λ g. refl) in
         let inlined = at_all s d instead in' o (λ l. Present l.condition (λ c. IsNotComposite (judged s) c × (f ≡ wrong l.place (InvalidFragmentTarget None c))))
-        (λ t h. none_there h) (λ x l h. never_condition (λ c. IsNotComposite (judged s) c × (f ≡ wrong (look (member x)).place (InvalidFragmentTarget None c))) x l h) in (
+        (λ t h. none_there h) (λ x l h. never_condition (λ c. IsNotComposite (judged s) c × (f ≡ wrong (look (member x)).place (InvalidFragmentTarget None c))) x l (λ c a q. a.0 q.0) h) in (
           λ h. elim h [ inl u ↦ inl (named.0 u) | inr u ↦ inr (inlined.0 u) ],
           λ h. elim h [ inl u ↦ inl (named.1 u) | inr u ↦ inr (inlined.1 u) ],
         )
@@ -100,7 +100,7 @@ module _ (s : SchemaTree Place) (d : MeantDocument Place) (instead : Entries (Me
 
       at_spreads : AtReached Else o (λ x. Both d.fragments (look (member x))) ↔ AtReached d o (λ x. Both d.fragments (look (member x)))
       at_spreads = at_all s d instead in' o (Both d.fragments) (λ t h. elim h [ inl u ↦ none_there u | inr u ↦ none_there u ])
-          (λ x l h. elim h [ inl u ↦ never_spread (ToldNamed d.fragments (look (member x))) x l u | inr u ↦ never_condition (ToldInline (look (member x))) x l u ])
+          (λ x l h. elim h [ inl u ↦ never_spread (ToldNamed d.fragments (look (member x))) x l u | inr u ↦ never_condition (ToldInline (look (member x))) x l (λ c a q. q.0 a.1) u ])
 
       abbrev head : MeantFragment Place → Text Place × Place
       head g = (g.type_condition, g.place)

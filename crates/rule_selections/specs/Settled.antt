@@ -1,5 +1,11 @@
 -- Private: leads to `SelectionsBreak`. Fragments that may replace those of a document: of what they leave out, at any depth, nothing is told, whatever the variables.
-use Rattle.std.specs.Prelude.{◌≡◌, ℕ, Bool, true, false, not, is_some, List, [], None, Some, ◌⊎◌}
+use Rattle.std.specs.Prelude.{◌≡◌, ℕ, List, [], Contains, None, Some, ◌⊎◌}
+use Rattle.std.specs.Map.{lookup}
+use Rattle.std.specs.Option.{option_map_or}
+use Rattle.std.specs.Str.{bytes_eq}
+use Rattle.indexmap.specs.IndexMap.{IndexMap}
+use Rattle.indexmap.specs.IndexSet.{IndexSet}
+use Rattle.graphql_names.specs.NameValue.{NameValue}
 use Rattle.graphql_names.specs.Placed.{Place, node_tree}
 use Rattle.graphql_names.specs.declared.node.Node.{Node}
 use Rattle.schema_components.specs.Names.{Entries}
@@ -14,15 +20,23 @@ use Rattle.document_meaning.specs.MeantTree.{MeantSelection, MeantField, MeantSp
 use Rattle.rule_document_ground.specs.in_typed_operations.DocumentView.{meant_by_fragment}
 use Rattle.document_typing.specs.Meanings.{meanings}
 use Rattle.document_typing.specs.TypedByPlace.{IsTyped}
+use Rattle.rule_definitions.specs.Judged.{judged}
 use Rattle.rule_definitions.specs.Told.{PlacedFault}
+use Rattle.rule_document_definitions.specs.PossibleTypes.{IsNotComposite, MayApply}
+use Rattle.rule_document_ground.specs.NotedNames.{noted_names}
 use Rattle.rule_document_ground.specs.Reach.{Member}
 use Rattle.rule_selections.specs.Steps.{SelectionBreaks}
 
--- a selection enters no fragment that is on a type of its own: it is a field, or an inline fragment without a condition
-abbrev pub enters_none : {P : Type 0} → MeantSelection P → Bool
-enters_none (MeantField p d h s) = true
-enters_none (MeantSpread p n ds) = false
-enters_none (MeantInline p c ds s) = not (is_some c)
+-- a selection of a set enters a fragment only so: it is a field, or an inline fragment without a condition, or with one for which R holds after the name of the set's type
+abbrev pub EntersOnly : (List ℕ → List ℕ → Type 0) → Member Place → Type 0
+EntersOnly R (t, MeantField p d h s) = Unit {0}
+EntersOnly R (t, MeantSpread p n ds) = ⊥
+EntersOnly R (t, MeantInline p None ds s) = Unit {0}
+EntersOnly R (t, MeantInline p (Some c) ds s) = R t c.it
+
+-- under the name of a type a map has this one
+abbrev pub IsNoted : {S T : Type 0} → IndexMap NameValue (IndexSet NameValue S) T → List ℕ → List ℕ → Type 0
+IsNoted m t c = Contains (option_map_or (λ names. noted_names names) (lookup (λ a. bytes_eq t a.text) m.entries) []) c
 
 -- what a fragment means
 abbrev pub fragment_meant : Node Fragment → MeantFragment Place
@@ -49,9 +63,17 @@ with_left (MeantSpread p n ds) left = MeantSpread p n ds
 with_left (MeantInline p c ds v) left = MeantInline p c ds left
 
 module _ (s : SchemaTree Place) where
-  -- the selection by itself enters no fragment on a type; and where it is typed, it breaks no rule where there are no variables
+  -- of an inline fragment with this condition nothing is told in a set on the type: it is on no type without fields, and may apply there
+  abbrev pub AppliesIn : List ℕ → List ℕ → Type 0
+  AppliesIn t c = (IsNotComposite (judged s) c → ⊥) × MayApply (judged s) t c
+
+  -- so it is with what a map has under names of types
+  abbrev pub ApplyWhereNoted : {S T : Type 0} → IndexMap NameValue (IndexSet NameValue S) T → Type 0
+  ApplyWhereNoted m = (t c : List ℕ) → IsNoted m t c → AppliesIn t c
+
+  -- the selection by itself enters a fragment only where that applies; and where it is typed, it breaks no rule where there are no variables
   pub record IsQuiet (e : Member Place) : Type 0 where
-    pub enters : enters_none e.1 ≡ true
+    pub enters : EntersOnly AppliesIn e
     pub keeps : IsTyped (meanings (plain s)) e.0 e.1 → (f : PlacedFault) → SelectionBreaks s [] e f → ⊥
 
   -- a selection of a set on the type of this name is quiet, and all that it selects, at any depth

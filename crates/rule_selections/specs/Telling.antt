@@ -28,12 +28,21 @@ use Rattle.rule_document_definitions.specs.Selected.{StandingField}
 use Rattle.rule_document_definitions.specs.Selections.{field_taker}
 use Rattle.rule_document_definitions.specs.Told.{place_or_built_in, places_in}
 use Rattle.rule_document_ground.specs.Reach.{Member}
-use Rattle.rule_selections.specs.Settled.{IsSettled, LeavesBelow, KeepsUnlessSettled, StandIn}
+use Rattle.graphql_schema.specs.SchemaOf.{schema_tree}
+use Rattle.rule_selections.specs.Settled.{ApplyWhereNoted, IsSettled, LeavesBelow, KeepsUnlessSettled, StandIn}
 use Rattle.rule_selections.specs.Steps.{IsDefined, FieldBreaks, SelectionBreaks}
+use Rattle.rule_selections.specs.declared.quiet.Common.{Common}
 
 -- faults
 abbrev pub Faults : Type 0
 Faults = Vec Fault Global
+
+-- the schema of what operations have in common; and the conditions that are noted there apply
+abbrev pub schema_in : Common → SchemaTree Place
+schema_in common = schema_tree common.schema.now
+
+abbrev pub IsRight : Common → Type 0
+IsRight common = ApplyWhereNoted (schema_in common) common.applying.now
 
 -- a selection of a set on the type `parent`
 abbrev pub member_there : NameValue → Selection → Member Place

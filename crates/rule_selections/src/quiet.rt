@@ -1,28 +1,48 @@
-//! Whether of a selection by itself nothing is told, whatever the variables of an operation.
+//! Whether of a selection by itself nothing is told, whatever operation reaches it.
 ghost use Rattle.std.specs.Prelude.{◌≡◌, ◌↔◌, [], IfOk, IsTrue};
-ghost use Rattle.graphql_schema.specs.SchemaOf.{schema_tree};
-ghost use Rattle.document_typed_selections.specs.TypedTree.{typed_selection_tree};
-ghost use Rattle.document_meaning.specs.MeantTree.{meant};
 ghost use Rattle.fault_data.specs.FaultView.{faults_of};
-ghost use Rattle.rule_selections.specs.Settled.{enters_none, IsQuiet};
-ghost use Rattle.rule_selections.specs.Telling.{member_there};
+ghost use Rattle.rule_selections.specs.Settled.{EntersOnly, IsNoted, IsQuiet};
+ghost use Rattle.rule_selections.specs.Telling.{member_there, schema_in, IsRight};
 
 use crate::selections::check_selection;
 use document_typed_selections::Selection;
+use graphql_names::Name;
+use indexmap::{IndexMap, IndexSet};
+use rule_document_ground::has_name;
 use rule_uses::{DefinedVariables, Fault, IndexedSchema};
 use std::alloc::{AllocError, Global};
 use tree_literals::NamedType;
 
-/// Whether the selection enters no fragment that is on a type of its own: it is no spread, and no inline fragment with a
-/// condition.
-#[tactic(auto, using(crate::proofs::Members::entering_rules))]
-fn enters_none(selection: &Selection) -> bool
-    ensures { result ≡ enters_none (meant (typed_selection_tree selection.now)) }
+/// What the operations of a document have in common, under which selections are judged once for all of them.
+#[derive(Clone, Copy)]
+pub(crate) struct Common<'a> {
+    pub(crate) schema: &'a IndexedSchema<'a>,
+    /// Under names of types, conditions of inline fragments that may apply there.
+    pub(crate) applying: &'a IndexMap<Name, IndexSet<Name>>,
+}
+
+/// Whether an inline fragment with that condition is known to apply in sets on that type.
+fn applies(common: &Common<'_>, ty: &Name, condition: &Name) -> bool
+    ensures { IsTrue result → IsNoted common.now.applying.now ty.now.text condition.now.text }
+{
+    match common.applying.get(ty) {
+        None => false,
+        Some(conditions) => has_name(conditions, condition),
+    }
+}
+
+/// Whether the selection of a set on that type enters no fragment, or an inline one without a condition, or with one that
+/// applies there.
+fn enters_well(common: &Common<'_>, ty: &NamedType, selection: &Selection) -> bool
+    ensures { IsTrue result → EntersOnly (IsNoted common.now.applying.now) (member_there ty.now selection.now) }
 {
     match selection {
         Selection::Field(_) => true,
         Selection::FragmentSpread(_) => false,
-        Selection::InlineFragment(node) => node.content().type_condition.is_none(),
+        Selection::InlineFragment(node) => match &node.content().type_condition {
+            None => true,
+            Some(condition) => applies(common, ty, condition),
+        },
     }
 }
 
@@ -33,21 +53,22 @@ fn is_nothing(faults: &Vec<Fault>) -> bool
     faults.is_empty()
 }
 
-/// Whether the selection itself, under that type, breaks no rule where there are no variables, and enters no fragment on a type
-/// of its own; what it selects is not judged. So it uses no variable, and breaks none in any operation.
+/// Whether the selection itself, under that type, breaks no rule where there are no variables, and enters a fragment only where
+/// that applies; what it selects is not judged. So it uses no variable, and breaks none in any operation.
 pub(crate) fn is_quiet(
     alloc: Global,
-    schema: &IndexedSchema<'_>,
+    common: &Common<'_>,
     ty: &NamedType,
     selection: &Selection,
 ) -> Result<bool, AllocError>
-    ensures { IfOk result (λ b. IsTrue b → IsQuiet (schema_tree schema.now) (member_there ty.now selection.now)) }
+    requires { IsRight common.now }
+    ensures { IfOk result (λ b. IsTrue b → IsQuiet (schema_in common.now) (member_there ty.now selection.now)) }
 {
-    if !enters_none(selection) {
+    if !enters_well(common, ty, selection) {
         return Ok(false);
     }
     let mut faults = Vec::new(alloc);
     let variables = DefinedVariables::listed(&[]);
-    check_selection(schema, ty, selection, &variables, &mut faults)?;
+    check_selection(common.schema, ty, selection, &variables, &mut faults)?;
     Ok(is_nothing(&faults))
 }

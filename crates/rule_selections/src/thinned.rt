@@ -2,19 +2,17 @@
 //! without recursion, so it takes the same stack at any depth.
 ghost use Rattle.std.specs.Prelude.{◌≡◌, IfOk, IsTrue, OnOk, None};
 ghost use Rattle.graphql_names.specs.Placed.{name_tree};
-ghost use Rattle.graphql_schema.specs.SchemaOf.{schema_tree};
 ghost use Rattle.document_typed_selections.specs.TypedTree.{typed_selection_tree, typed_set_tree};
 ghost use Rattle.document_typed_selections.specs.TypedParts.{bare_inline, typed_field_node, typed_inline_node};
 ghost use Rattle.document_meaning.specs.MeantTree.{meant, meant_of_set};
 ghost use Rattle.rule_selections.specs.Settled.{filled, with_left, LeavesOfTyped};
-ghost use Rattle.rule_selections.specs.Telling.{SettlesIfLeft};
+ghost use Rattle.rule_selections.specs.Telling.{schema_in, IsRight, SettlesIfLeft};
 ghost use Rattle.rule_selections.specs.Within.{TakesBelow, TakesKept, TakesThinned, AreThinned};
 
-use crate::quiet::is_quiet;
+use crate::quiet::{Common, is_quiet};
 use crate::within::sets_within;
 use document_typed_selections::{Field, InlineFragment, Selection, SelectionSet};
 use graphql_names::Node;
-use rule_uses::IndexedSchema;
 use std::alloc::{AllocError, Global};
 use tree_literals::{NamedType, copies_of_three, copies_of_two};
 
@@ -106,15 +104,16 @@ fn selection_with(
 /// the selection itself is quiet.
 fn is_settled(
     alloc: Global,
-    schema: &IndexedSchema<'_>,
+    common: &Common<'_>,
     ty: &NamedType,
     selection: &Selection,
     left: &SelectionSet,
 ) -> Result<bool, AllocError>
-    ensures { IfOk result (λ b. IsTrue b → SettlesIfLeft (schema_tree schema.now) ty.now selection.now left.now) }
+    requires { IsRight common.now }
+    ensures { IfOk result (λ b. IsTrue b → SettlesIfLeft (schema_in common.now) ty.now selection.now left.now) }
 {
     if left.is_empty() {
-        return is_quiet(alloc, schema, ty, selection);
+        return is_quiet(alloc, common, ty, selection);
     }
     Ok(false)
 }
@@ -132,19 +131,20 @@ fn left_below(selection: &Selection, thin: &mut Vec<SelectionSet>) -> Option<Sel
 /// Puts what stays of a selection of a set on that type last, unless nothing is told of it, and of all that it selects.
 fn keep_unless_settled(
     alloc: Global,
-    schema: &IndexedSchema<'_>,
+    common: &Common<'_>,
     ty: &NamedType,
     selection: &Selection,
     thin: &mut Vec<SelectionSet>,
     kept: &mut SelectionSet,
 ) -> Result<(), AllocError>
-    ensures { OnOk result (TakesKept (schema_tree schema.now) ty.now selection.now thin.old.items thin.new.items kept.old kept.new) }
+    requires { IsRight common.now }
+    ensures { OnOk result (TakesKept (schema_in common.now) ty.now selection.now thin.old.items thin.new.items kept.old kept.new) }
 {
     let Some(left) = left_below(selection, thin) else {
         kept.push(selection.clone()?)?;
         return Ok(());
     };
-    if is_settled(alloc, schema, ty, selection, &left)? {
+    if is_settled(alloc, common, ty, selection, &left)? {
         return Ok(());
     }
     kept.push(selection_with(alloc, selection, left)?)?;
@@ -154,15 +154,16 @@ fn keep_unless_settled(
 /// What is left of a set. What is left of the sets of its selections is taken from these: that of the first one is the last.
 fn thinned_set(
     alloc: Global,
-    schema: &IndexedSchema<'_>,
+    common: &Common<'_>,
     set: &SelectionSet,
     thin: &mut Vec<SelectionSet>,
 ) -> Result<SelectionSet, AllocError>
-    ensures { IfOk result (λ r. TakesThinned (schema_tree schema.now) set.now r thin.old.items thin.new.items) }
+    requires { IsRight common.now }
+    ensures { IfOk result (λ r. TakesThinned (schema_in common.now) set.now r thin.old.items thin.new.items) }
 {
     let mut kept = SelectionSet::new(alloc, set.ty.clone()?);
     for selection in &set.selections {
-        keep_unless_settled(alloc, schema, &set.ty, selection, thin, &mut kept)?;
+        keep_unless_settled(alloc, common, &set.ty, selection, thin, &mut kept)?;
     }
     Ok(kept)
 }
@@ -171,30 +172,32 @@ fn thinned_set(
 /// end there is one for each that is in no other, the first one last.
 fn thinned_sets<'doc>(
     alloc: Global,
-    schema: &IndexedSchema<'_>,
+    common: &Common<'_>,
     mut sets: Vec<&'doc SelectionSet>,
 ) -> Result<Vec<SelectionSet>, AllocError>
-    ensures { IfOk result (λ thin. AreThinned (schema_tree schema.now) sets.entry.items thin.items) }
+    requires { IsRight common.now }
+    ensures { IfOk result (λ thin. AreThinned (schema_in common.now) sets.entry.items thin.items) }
 {
     let mut thin = Vec::new(alloc);
     while let Some(next) = sets.pop() {
-        let set = thinned_set(alloc, schema, next, &mut thin)?;
+        let set = thinned_set(alloc, common, next, &mut thin)?;
         thin.push(set)?;
     }
     Ok(thin)
 }
 
 /// The set without those of its selections, at any depth, of which nothing is told: they break no rule whatever the variables,
-/// and neither they nor what they select enters a fragment on a type of its own. A field keeps some selection if it has any.
+/// and neither they nor what they select enters a fragment but where that applies. A field keeps some selection if it has any.
 pub(crate) fn thinned(
     alloc: Global,
-    schema: &IndexedSchema<'_>,
+    common: &Common<'_>,
     set: &SelectionSet,
 ) -> Result<SelectionSet, AllocError>
-    ensures { IfOk result (λ r. LeavesOfTyped (schema_tree schema.now) (typed_set_tree set.now) (typed_set_tree r)) }
+    requires { IsRight common.now }
+    ensures { IfOk result (λ r. LeavesOfTyped (schema_in common.now) (typed_set_tree set.now) (typed_set_tree r)) }
 {
     let sets = sets_within(alloc, set)?;
-    let mut thin = thinned_sets(alloc, schema, sets)?;
+    let mut thin = thinned_sets(alloc, common, sets)?;
     match thin.pop() {
         Some(whole) => Ok(whole),
         None => set.clone(),
