@@ -7,10 +7,11 @@ pub mod Selecting
 pub mod TypedReached
 pub mod Typing
 pub mod NoArguments
-pub mod WithoutVariables
+pub mod CommonVariables
 pub mod Elsewhere
 pub mod Leaving
 pub mod Instead
+pub mod StillUsed
 pub mod SameFaults
 pub mod Thinning
 pub mod Standing
