@@ -203,10 +203,10 @@ module _ (s : Terms) (d : MeantDocument Place) (instead : Entries (MeantFragment
     quiet x l = settled_quiet s x.parent x.it l.1
 
     pub spreads_none : (x : Standing Place) → IsLeftOut (own o) x → spread_name x.it ≡ None
-    spreads_none x l = no_name (AppliesIn s) (member x) (quiet x l).enters
+    spreads_none x l = no_name (AppliesIn s.schema) (member x) (quiet x l).enters
 
-    pub condition_applies : (x : Standing Place) → IsLeftOut (own o) x → (c : List ℕ) → inline_condition x.it ≡ Some c → AppliesIn s x.parent c
-    condition_applies x l = its_condition (AppliesIn s) (member x) (quiet x l).enters
+    pub condition_applies : (x : Standing Place) → IsLeftOut (own o) x → (c : List ℕ) → inline_condition x.it ≡ Some c → AppliesIn s.schema x.parent c
+    condition_applies x l = its_condition (AppliesIn s.schema) (member x) (quiet x l).enters
 
     module _ (typed : ReachesTyped (meanings (plain s.schema)) d o) where
       -- what is reached with the others is typed too

@@ -16,4 +16,5 @@ pub mod SameFaults
 pub mod Thinning
 pub mod Standing
 pub mod SetsWithin
+pub mod Names
 pub use Rattle.document_typing.proofs as in_typing

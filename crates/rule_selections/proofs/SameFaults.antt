@@ -49,7 +49,7 @@ module _ (s : Terms) (d : MeantDocument Place) (instead : Entries (MeantFragment
     never_spread : (Q : List ℕ → Type 0) (x : Standing Place) → IsLeftOut s d instead in' (own o) x → Present (spread_name x.it) Q → ⊥
     never_spread Q x l (n, (is, q)) = true≢false (sym (ap is_some (sym (spreads_none s d instead in' o x l) ∙ is)))
 
-    never_condition : (Q : List ℕ → Type 0) (x : Standing Place) → IsLeftOut s d instead in' (own o) x → ((c : List ℕ) → AppliesIn s x.parent c → Q c → ⊥) → Present (inline_condition x.it) Q → ⊥
+    never_condition : (Q : List ℕ → Type 0) (x : Standing Place) → IsLeftOut s d instead in' (own o) x → ((c : List ℕ) → AppliesIn s.schema x.parent c → Q c → ⊥) → Present (inline_condition x.it) Q → ⊥
     never_condition Q x l never (n, (is, q)) = never n (condition_applies s d instead in' o x l n is) q
 
     -- UndefinedFragment

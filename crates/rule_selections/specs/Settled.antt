@@ -18,7 +18,7 @@ use Rattle.document_typed_selections.specs.TypedTree.{TypedSelection, TypedSet, 
 use Rattle.document_typed_selections.specs.TypedParts.{set_and}
 use Rattle.document_typed_operations.specs.TypedDocument.{typed_fragment_tree}
 use Rattle.document_typed_operations.specs.declared.operation.Fragment.{Fragment}
-use Rattle.document_meaning.specs.MeantTree.{MeantSelection, MeantField, MeantSpread, MeantInline, MeantSet, meant_set, MeantSelections, no_meant, meant_then, meant_of_set, MeantFragment, meant}
+use Rattle.document_meaning.specs.MeantTree.{MeantSelection, MeantField, MeantSpread, MeantInline, MeantSet, meant_set, MeantSelections, no_meant, meant_then, meant_of_set, MeantFragment, MeantDocument, MeantOperation, meant}
 use Rattle.rule_document_ground.specs.in_typed_operations.DocumentView.{meant_by_fragment}
 use Rattle.document_typing.specs.Meanings.{meanings}
 use Rattle.document_typing.specs.TypedByPlace.{IsTyped}
@@ -28,6 +28,7 @@ use Rattle.rule_definitions.specs.Judged.{judged}
 use Rattle.rule_definitions.specs.Names.{defined_name}
 use Rattle.rule_definitions.specs.Told.{PlacedFault}
 use Rattle.rule_document_definitions.specs.PossibleTypes.{IsNotComposite, MayApply}
+use Rattle.rule_document_definitions.specs.Selected.{operations}
 use Rattle.rule_document_definitions.specs.UsedVariables.{StandsInArguments, StandsInDirectives}
 use Rattle.rule_document_ground.specs.NotedNames.{noted_names}
 use Rattle.rule_document_ground.specs.Reach.{Member}
@@ -101,23 +102,24 @@ UsesAll left whole = (n : List ℕ) → StandsInSet n whole → StandsInSet n le
 
 -- ---- what may be left out
 
+module _ (s : SchemaTree Place) where
+  -- of an inline fragment with this condition nothing is told in a set on the type: it is on no type without fields, and may apply there
+  abbrev pub AppliesIn : List ℕ → List ℕ → Type 0
+  AppliesIn t c = (IsNotComposite (judged s) c → ⊥) × MayApply (judged s) t c
+
+  -- so it is with what a map has under names of types
+  abbrev pub ApplyWhereNoted : {S T : Type 0} → IndexMap NameValue (IndexSet NameValue S) T → Type 0
+  ApplyWhereNoted m = (t c : List ℕ) → IsNoted m t c → AppliesIn t c
+
 -- what operations have in common: a schema, and variables that each defines so
 pub record Terms : Type 0 where
   pub schema : SchemaTree Place
   pub variables : Variables Place
 
 module _ (s : Terms) where
-  -- of an inline fragment with this condition nothing is told in a set on the type: it is on no type without fields, and may apply there
-  abbrev pub AppliesIn : List ℕ → List ℕ → Type 0
-  AppliesIn t c = (IsNotComposite (judged s.schema) c → ⊥) × MayApply (judged s.schema) t c
-
-  -- so it is with what a map has under names of types
-  abbrev pub ApplyWhereNoted : {S T : Type 0} → IndexMap NameValue (IndexSet NameValue S) T → Type 0
-  ApplyWhereNoted m = (t c : List ℕ) → IsNoted m t c → AppliesIn t c
-
   -- the selection by itself enters a fragment only where that applies; and where it is typed, it breaks no rule where there are these variables
   pub record IsQuiet (e : Member Place) : Type 0 where
-    pub enters : EntersOnly AppliesIn e
+    pub enters : EntersOnly (AppliesIn s.schema) e
     pub keeps : IsTyped (meanings (plain s.schema)) e.0 e.1 → (f : PlacedFault) → SelectionBreaks s.schema s.variables e f → ⊥
 
   -- a selection of a set on the type of this name is quiet, and all that it selects, at any depth
@@ -176,3 +178,12 @@ module _ (s : Terms) where
   pub record StandIn (fragments instead : Entries (MeantFragment Place)) : Type 0 where
     pub there : (n : List ℕ) (g : MeantFragment Place) → under n fragments ≡ Some g → (h : MeantFragment Place) × ((under n instead ≡ Some h) × StandsInFor h g)
     pub absent : (n : List ℕ) → under n fragments ≡ None → under n instead ≡ None
+
+module _ (s : SchemaTree Place) where
+  -- in an operation with these variables: where some are common that it defines so
+  abbrev pub StandInWith : Variables Place → (fragments instead : Entries (MeantFragment Place)) → Type 0
+  StandInWith variables fragments instead = (common : Variables Place) × (AreDefinedIn common variables × StandIn (record { schema = s; variables = common }) fragments instead)
+
+  -- in each operation of a document
+  abbrev pub StandInEach : MeantDocument Place → Entries (MeantFragment Place) → Type 0
+  StandInEach d instead = (o : MeantOperation Place) → Contains (operations d) o → StandInWith o.variables d.fragments instead

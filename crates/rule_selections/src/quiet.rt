@@ -2,7 +2,7 @@
 ghost use Rattle.std.specs.Prelude.{◌≡◌, ◌↔◌, [], IfOk, IsTrue};
 ghost use Rattle.fault_data.specs.FaultView.{faults_of};
 ghost use Rattle.rule_selections.specs.Settled.{EntersOnly, IsNoted, IsQuiet};
-ghost use Rattle.rule_selections.specs.Telling.{member_there, schema_in, IsRight};
+ghost use Rattle.rule_selections.specs.Telling.{member_there, terms_of, IsRight};
 
 use crate::selections::check_selection;
 use document_typed_selections::Selection;
@@ -62,7 +62,7 @@ pub(crate) fn is_quiet(
     selection: &Selection,
 ) -> Result<bool, AllocError>
     requires { IsRight common.now }
-    ensures { IfOk result (λ b. IsTrue b → IsQuiet (schema_in common.now) (member_there ty.now selection.now)) }
+    ensures { IfOk result (λ b. IsTrue b → IsQuiet (terms_of common.now) (member_there ty.now selection.now)) }
 {
     if !enters_well(common, ty, selection) {
         return Ok(false);

@@ -4,7 +4,7 @@ ghost use Rattle.graphql_schema.specs.SchemaOf.{schema_tree};
 ghost use Rattle.rule_document_ground.specs.in_typed_operations.DocumentView.{document_meant};
 ghost use Rattle.rule_document_ground.specs.Reach.{meant_fragments};
 ghost use Rattle.rule_selections.specs.Settled.{fragment_meant, ApplyWhereNoted, StandsInFor, StandIn};
-ghost use Rattle.rule_selections.specs.Telling.{schema_in, IsRight, StillStandIn};
+ghost use Rattle.rule_selections.specs.Telling.{terms_of, IsRight, StillStandIn};
 
 use crate::quiet::Common;
 use crate::thinned::thinned;
@@ -21,7 +21,7 @@ fn thinned_fragment(
     fragment: &Node<Fragment>,
 ) -> Result<Node<Fragment>, AllocError>
     requires { IsRight common.now }
-    ensures { IfOk result (λ r. StandsInFor (schema_in common.now) (fragment_meant r) (fragment_meant fragment.now)) }
+    ensures { IfOk result (λ r. StandsInFor (terms_of common.now) (fragment_meant r) (fragment_meant fragment.now)) }
 {
     let own = fragment.content();
     let name = own.name.clone()?;
@@ -43,7 +43,7 @@ fn settle(
     instead: &mut FragmentMap,
 ) -> Result<(), AllocError>
     requires { IsRight common.now }
-    ensures { OnOk result (StillStandIn (schema_in common.now) (meant_fragments fragments.now) (meant_fragments instead.old) (meant_fragments instead.new)) }
+    ensures { OnOk result (StillStandIn (terms_of common.now) (meant_fragments fragments.now) (meant_fragments instead.old) (meant_fragments instead.new)) }
 {
     let Some(fragment) = fragments.get(name) else {
         return Ok(());

@@ -6,7 +6,7 @@ ghost use Rattle.document_typed_selections.specs.TypedTree.{typed_selection_tree
 ghost use Rattle.document_typed_selections.specs.TypedParts.{bare_inline, typed_field_node, typed_inline_node};
 ghost use Rattle.document_meaning.specs.MeantTree.{meant, meant_of_set};
 ghost use Rattle.rule_selections.specs.Settled.{filled, with_left, LeavesOfTyped};
-ghost use Rattle.rule_selections.specs.Telling.{schema_in, IsRight, SettlesIfLeft};
+ghost use Rattle.rule_selections.specs.Telling.{terms_of, IsRight, SettlesIfLeft};
 ghost use Rattle.rule_selections.specs.Within.{TakesBelow, TakesKept, TakesThinned, AreThinned};
 
 use crate::quiet::{Common, is_quiet};
@@ -110,7 +110,7 @@ fn is_settled(
     left: &SelectionSet,
 ) -> Result<bool, AllocError>
     requires { IsRight common.now }
-    ensures { IfOk result (λ b. IsTrue b → SettlesIfLeft (schema_in common.now) ty.now selection.now left.now) }
+    ensures { IfOk result (λ b. IsTrue b → SettlesIfLeft (terms_of common.now) ty.now selection.now left.now) }
 {
     if left.is_empty() {
         return is_quiet(alloc, common, ty, selection);
@@ -138,7 +138,7 @@ fn keep_unless_settled(
     kept: &mut SelectionSet,
 ) -> Result<(), AllocError>
     requires { IsRight common.now }
-    ensures { OnOk result (TakesKept (schema_in common.now) ty.now selection.now thin.old.items thin.new.items kept.old kept.new) }
+    ensures { OnOk result (TakesKept (terms_of common.now) ty.now selection.now thin.old.items thin.new.items kept.old kept.new) }
 {
     let Some(left) = left_below(selection, thin) else {
         kept.push(selection.clone()?)?;
@@ -159,7 +159,7 @@ fn thinned_set(
     thin: &mut Vec<SelectionSet>,
 ) -> Result<SelectionSet, AllocError>
     requires { IsRight common.now }
-    ensures { IfOk result (λ r. TakesThinned (schema_in common.now) set.now r thin.old.items thin.new.items) }
+    ensures { IfOk result (λ r. TakesThinned (terms_of common.now) set.now r thin.old.items thin.new.items) }
 {
     let mut kept = SelectionSet::new(alloc, set.ty.clone()?);
     for selection in &set.selections {
@@ -176,7 +176,7 @@ fn thinned_sets<'doc>(
     mut sets: Vec<&'doc SelectionSet>,
 ) -> Result<Vec<SelectionSet>, AllocError>
     requires { IsRight common.now }
-    ensures { IfOk result (λ thin. AreThinned (schema_in common.now) sets.entry.items thin.items) }
+    ensures { IfOk result (λ thin. AreThinned (terms_of common.now) sets.entry.items thin.items) }
 {
     let mut thin = Vec::new(alloc);
     while let Some(next) = sets.pop() {
@@ -194,7 +194,7 @@ pub(crate) fn thinned(
     set: &SelectionSet,
 ) -> Result<SelectionSet, AllocError>
     requires { IsRight common.now }
-    ensures { IfOk result (λ r. LeavesOfTyped (schema_in common.now) (typed_set_tree set.now) (typed_set_tree r)) }
+    ensures { IfOk result (λ r. LeavesOfTyped (terms_of common.now) (typed_set_tree set.now) (typed_set_tree r)) }
 {
     let sets = sets_within(alloc, set)?;
     let mut thin = thinned_sets(alloc, common, sets)?;

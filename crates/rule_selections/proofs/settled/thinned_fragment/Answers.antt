@@ -6,13 +6,13 @@ use Rattle.document_typed_selections.specs.TypedTree.{TypedSet, typed_set_tree}
 use Rattle.document_typed_operations.specs.TypedDocument.{typed_fragment_tree}
 use Rattle.document_typed_operations.specs.declared.operation.Fragment.{Fragment}
 use Rattle.rule_selections.specs.Settled.{LeavesOfTyped}
-use Rattle.rule_selections.specs.Telling.{schema_in}
+use Rattle.rule_selections.specs.Telling.{terms_of}
 use Rattle.rule_selections.proofs.Thinning.{stands_in}
 use Rattle.rule_selections.proofs.settled.thinned_fragment.Goals as goal
 
 pub returns : goal.returns
 returns c =
-    let s = schema_in c.args.common.now in
+    let s = terms_of c.args.common.now in
     let n = c.in_ok-same_location.field-0 in
     let g = c.args.fragment.now in
     let made = c.in_ok-same_location.ensures.content in

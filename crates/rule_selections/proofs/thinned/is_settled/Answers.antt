@@ -3,14 +3,14 @@ use Rattle.std.proofs.lemmas.Result.{IfOk-weaker}
 use Rattle.document_typed_selections.specs.TypedTree.{typed_selection_tree, typed_set_tree}
 use Rattle.document_meaning.specs.MeantTree.{meant, meant_of_set}
 use Rattle.rule_selections.specs.Settled.{IsQuiet}
-use Rattle.rule_selections.specs.Telling.{schema_in, member_there, SettlesIfLeft}
+use Rattle.rule_selections.specs.Telling.{terms_of, member_there, SettlesIfLeft}
 use Rattle.rule_selections.proofs.Leaving.{settled_if}
 use Rattle.rule_selections.proofs.Thinning.{none_meant}
 use Rattle.rule_selections.proofs.thinned.is_settled.Goals as goal
 
 pub returns-then-is_empty : goal.returns-then-is_empty
 returns-then-is_empty c =
-    let s = schema_in c.args.common.now in
+    let s = terms_of c.args.common.now in
     let t = c.args.ty.now.text in
     let x = meant (typed_selection_tree c.args.selection.now) in
     let left = typed_set_tree c.args.left.now in
