@@ -17,4 +17,6 @@ pub mod Thinning
 pub mod Standing
 pub mod SetsWithin
 pub mod Names
+pub mod DefinedAlike
+pub mod EachOperation
 pub use Rattle.document_typing.proofs as in_typing

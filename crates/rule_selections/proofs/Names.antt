@@ -1,16 +1,20 @@
 -- Which names are added: in a set, those of the variables that stand in it.
-use Rattle.std.proofs.Common.{◌≡◌, ◌↔◌, ◌⊎◌, inl, inr, ◌++◌, ℕ, zero, suc, Bool, true, false, ◌||◌, List, [], ◌∷◌, map, fold, Some, refl, ap, sym, ◌∙◌, subst, true≢false, is_some, Contains, slice_get, bytes_eq, if◌then◌else◌}
+use Rattle.std.proofs.Common.{◌≡◌, ◌↔◌, ◌⊎◌, inl, inr, ◌++◌, ◌<◌, ◌≤◌, ◌+◌, length, get_or, take, drop, ℕ, zero, suc, Bool, true, false, ◌||◌, List, [], ◌∷◌, map, fold, Some, refl, ap, sym, ◌∙◌, subst, true≢false, is_some, Contains, slice_get, bytes_eq, if◌then◌else◌}
 use Rattle.std.specs.List.{list_any}
 use Rattle.std.proofs.lemmas.List.Elements.{Contains-append_left, Contains-append_right, Contains-append_cases}
+use Rattle.std.proofs.lemmas.List.{drop_more, drop_all}
+use Rattle.std.proofs.lemmas.List.Sums.{fold-append}
 use Rattle.std.proofs.lemmas.Map.Views.{Contains-from_any}
 use Rattle.std.proofs.lemmas.Slice.Eq.{bytes_eq-Decides}
 use Rattle.indexmap.specs.IndexSet.{insert_key}
+use Rattle.graphql_names.specs.NameValue.{NameValue}
 use Rattle.graphql_names.specs.Placed.{Place}
 use Rattle.tree_literals.specs.ValueTree.{ValueTree, ItemTrees, EntryTrees, NullTree, EnumTree, VariableTree, StringTree, FloatTree, IntTree, BooleanTree, ListTree, ObjectTree, no_items, item_then, no_entries, entry_then}
 use Rattle.tree_directives.specs.DirectiveTree.{Arguments, Directives}
-use Rattle.document_typed_selections.specs.TypedTree.{TypedSelection, TypedField, TypedSpread, TypedInline, TypedSet, typed_set, TypedSelections, no_typed, typed_then}
+use Rattle.document_typed_selections.specs.TypedTree.{TypedSelection, TypedField, TypedSpread, TypedInline, TypedSet, typed_set, TypedSelections, no_typed, typed_then, typed_selections}
 use Rattle.document_meaning.specs.MeantTree.{MeantSelection, MeantField, MeantSpread, MeantInline, meant, meant_of_set, meant_of_all}
 use Rattle.rule_definitions.specs.Words.{AtSomeIndex}
+use Rattle.rule_definitions.proofs.Listing.{mapped_more}
 use Rattle.rule_definitions.proofs.Lists.{not_in_nil, Contains-cons, Contains-first}
 use Rattle.rule_document_definitions.specs.UsedVariables.{StandsInValue, StandsInItems, StandsInEntries, StandsInArguments, StandsInDirectives}
 use Rattle.rule_selections.specs.Settled.{StandsWithin, StandsInSet, StandsAlong, UsesAll}
@@ -208,3 +212,33 @@ pub uses_all : (left whole : TypedSet Place) (used wanted : List (List ℕ)) →
     → UsesAll (meant_of_set left) (meant_of_set whole)
 uses_all left whole used wanted here there all n u =
     (names_in n left).0 (subst (λ l. Contains l n) here (all n (subst (λ l. Contains l n) (sym there) ((names_in n whole).1 u))))
+
+-- ---- in a loop
+
+module _ {X : Type 0} (tree : X → TypedSelection Place) where
+  pub next_noted : (old new : List (List ℕ)) (xs : List X) (i : ℕ) (x : X) → i < length xs → x ≡ get_or xs i x → new ≡ with_selection old (meant (tree x))
+      → with_along old (typed_selections tree (drop i xs)) ≡ with_along new (typed_selections tree (drop (i + 1) xs))
+  next_noted old new xs i x h at is =
+      ap (λ l. with_along old (typed_selections tree l)) (drop_more xs i x h ∙ ap (λ y. y ∷ drop (i + 1) xs) (sym at))
+      ∙ ap (λ ns. with_along ns (typed_selections tree (drop (i + 1) xs))) (sym is)
+
+  pub all_noted : (ns : List (List ℕ)) (xs : List X) (i : ℕ) → length xs ≤ i → with_along ns (typed_selections tree (drop i xs)) ≡ ns
+  all_noted ns xs i h = ap (λ l. with_along ns (typed_selections tree l)) (drop_all i xs h)
+
+pub next_set : {X : Type 0} (tree : X → TypedSet Place) (start old new : List (List ℕ)) (xs : List X) (i : ℕ) (x : X) → i < length xs → x ≡ get_or xs i x → new ≡ with_set old (tree x)
+    → old ≡ with_sets start (map tree (take i xs)) → new ≡ with_sets start (map tree (take (i + 1) xs))
+next_set tree start old new xs i x h at is so_far =
+    is ∙ ap (λ ns. with_set ns (tree x)) so_far
+    ∙ sym (ap (with_sets start) (mapped_more tree xs i x h at) ∙ fold-append with_set start (map tree (take i xs)) (tree x ∷ []))
+
+-- names that are in a set, so far
+pub next_in : (set : List (List ℕ)) (xs : List NameValue) (i : ℕ) (x : NameValue) → i < length xs → x ≡ get_or xs i x → list_any (bytes_eq x.text) set ≡ true
+    → ((n : List ℕ) → Contains (map (λ k. k.text) (take i xs)) n → Contains set n) → (n : List ℕ) → Contains (map (λ k. k.text) (take (i + 1) xs)) n → Contains set n
+next_in set xs i x h at is so_far n c =
+    elim (Contains-append_cases (map (λ k. k.text) (take i xs)) (x.text ∷ []) n (subst (λ l. Contains l n) (mapped_more (λ (k : NameValue). k.text) xs i x h at) c)) [
+      | inl k ↦ so_far n k
+      | inr k ↦ elim (Contains-cons x.text [] n k) [
+        | inl e ↦ subst (Contains set) e (Contains-from_any (λ a b. (bytes_eq-Decides a b).0) x.text set is)
+        | inr none ↦ not_in_nil n none
+      ]
+    ]

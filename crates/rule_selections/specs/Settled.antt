@@ -75,9 +75,25 @@ with_left (MeantInline p c ds v) left = MeantInline p c ds left
 abbrev pub AreAlike : VariableDefinitionTree Place → VariableDefinitionTree Place → Type 0
 AreAlike x y = (unplaced_type x.ty.it ≡ unplaced_type y.ty.it) × (is_some x.default_value ≡ is_some y.default_value)
 
--- of each of these variables, the first of its name among the others is alike
+-- the first of its name among these variables is alike
+abbrev pub IsDefinedIn : Variables Place → Placed Place (VariableDefinitionTree Place) → Type 0
+IsDefinedIn variables x = Present (find (λ y. bytes_eq (defined_name y) (defined_name x)) variables) (λ y. AreAlike x.it y.it)
+
+-- of each variable
 abbrev pub AreDefinedIn : Variables Place → Variables Place → Type 0
-AreDefinedIn common variables = (x : Placed Place (VariableDefinitionTree Place)) → Contains common x → Present (find (λ y. bytes_eq (defined_name y) (defined_name x)) variables) (λ y. AreAlike x.it y.it)
+AreDefinedIn common variables = (x : Placed Place (VariableDefinitionTree Place)) → Contains common x → IsDefinedIn variables x
+
+-- in each operation of a document
+abbrev pub AreCommon : MeantDocument Place → Variables Place → Type 0
+AreCommon d common = (o : MeantOperation Place) → Contains (operations d) o → AreDefinedIn common o.variables
+
+-- the second ones are among the first, and are defined so
+abbrev pub AreThoseDefined : Variables Place → Variables Place → Variables Place → Type 0
+AreThoseDefined variables old new = (x : Placed Place (VariableDefinitionTree Place)) → Contains new x → Contains old x × IsDefinedIn variables x
+
+-- this one was added, if it is defined so
+abbrev pub KeepsIfDefined : Variables Place → Placed Place (VariableDefinitionTree Place) → Variables Place → Variables Place → Type 0
+KeepsIfDefined variables x old new = (y : Placed Place (VariableDefinitionTree Place)) → Contains new y → Contains old y ⊎ ((x ≡ y) × IsDefinedIn variables y)
 
 -- ---- variables that are used
 

@@ -30,9 +30,9 @@ use Rattle.rule_document_definitions.specs.Selections.{field_taker}
 use Rattle.rule_document_definitions.specs.Told.{place_or_built_in, places_in}
 use Rattle.rule_document_ground.specs.Reach.{Member}
 use Rattle.graphql_schema.specs.SchemaOf.{schema_tree}
-use Rattle.rule_selections.specs.Settled.{Terms, ApplyWhereNoted, IsSettled, LeavesBelow, KeepsUnlessSettled, StandIn}
+use Rattle.rule_selections.specs.Settled.{Terms, UsesAll, ApplyWhereNoted, IsSettled, LeavesBelow, LeavesOfTyped, KeepsUnlessSettled, StandIn}
 use Rattle.rule_selections.specs.Steps.{IsDefined, FieldBreaks, SelectionBreaks}
-use Rattle.rule_selections.specs.declared.quiet.Common.{Common}
+use Rattle.rule_selections.specs.declared.common.Common.{Common}
 
 -- faults
 abbrev pub Faults : Type 0
@@ -84,3 +84,7 @@ module _ (s : Terms) where
   -- if the old ones may stand in for these, so may the new ones
   abbrev pub StillStandIn : (fragments old new : Entries (MeantFragment Place)) → Type 0
   StillStandIn fragments old new = StandIn s fragments old → StandIn s fragments new
+
+  -- what is left of a set uses the same variables
+  abbrev pub SettlesSet : SelectionSet → SelectionSet → Type 0
+  SettlesSet whole left = LeavesOfTyped s (typed_set_tree whole) (typed_set_tree left) × UsesAll (meant_of_set (typed_set_tree left)) (meant_of_set (typed_set_tree whole))

@@ -4,22 +4,16 @@ ghost use Rattle.fault_data.specs.FaultView.{faults_of};
 ghost use Rattle.rule_selections.specs.Settled.{EntersOnly, IsNoted, IsQuiet};
 ghost use Rattle.rule_selections.specs.Telling.{member_there, terms_of, IsRight};
 
+use crate::common::Common;
 use crate::selections::check_selection;
+use crate::used::uses_new;
 use document_typed_selections::Selection;
 use graphql_names::Name;
-use indexmap::{IndexMap, IndexSet};
+use indexmap::IndexSet;
 use rule_document_ground::has_name;
-use rule_uses::{DefinedVariables, Fault, IndexedSchema};
+use rule_uses::Fault;
 use std::alloc::{AllocError, Global};
 use tree_literals::NamedType;
-
-/// What the operations of a document have in common, under which selections are judged once for all of them.
-#[derive(Clone, Copy)]
-pub(crate) struct Common<'a> {
-    pub(crate) schema: &'a IndexedSchema<'a>,
-    /// Under names of types, conditions of inline fragments that may apply there.
-    pub(crate) applying: &'a IndexMap<Name, IndexSet<Name>>,
-}
 
 /// Whether an inline fragment with that condition is known to apply in sets on that type.
 fn applies(common: &Common<'_>, ty: &Name, condition: &Name) -> bool
@@ -53,9 +47,9 @@ fn is_nothing(faults: &Vec<Fault>) -> bool
     faults.is_empty()
 }
 
-/// Whether the selection itself, under that type, breaks no rule where there are no variables, and enters a fragment only where
-/// that applies; what it selects is not judged. So it uses no variable, and breaks none in any operation.
-pub(crate) fn is_quiet(
+/// Whether the selection itself, under that type, breaks no rule where there are the common variables, and enters a fragment
+/// only where that applies; what it selects is not judged. So it breaks none in any operation.
+fn is_quiet(
     alloc: Global,
     common: &Common<'_>,
     ty: &NamedType,
@@ -68,7 +62,30 @@ pub(crate) fn is_quiet(
         return Ok(false);
     }
     let mut faults = Vec::new(alloc);
-    let variables = DefinedVariables::listed(&[]);
-    check_selection(common.schema, ty, selection, &variables, &mut faults)?;
+    check_selection(
+        common.schema,
+        ty,
+        selection,
+        common.variables,
+        &mut faults,
+    )?;
     Ok(is_nothing(&faults))
+}
+
+/// Whether that holds of a selection that may be left out: its own variables are used by what stays. They are noted, so a
+/// selection that uses a variable first stays.
+pub(crate) fn may_go(
+    alloc: Global,
+    common: &Common<'_>,
+    ty: &NamedType,
+    selection: &Selection,
+    used: &mut IndexSet<Name>,
+) -> Result<bool, AllocError>
+    requires { IsRight common.now }
+    ensures { IfOk result (λ b. IsTrue b → IsQuiet (terms_of common.now) (member_there ty.now selection.now)) }
+{
+    if !is_quiet(alloc, common, ty, selection)? {
+        return Ok(false);
+    }
+    Ok(!uses_new(selection, used)?)
 }

@@ -9,10 +9,12 @@ ghost use Rattle.rule_selections.specs.Settled.{filled, with_left, LeavesOfTyped
 ghost use Rattle.rule_selections.specs.Telling.{terms_of, IsRight, SettlesIfLeft};
 ghost use Rattle.rule_selections.specs.Within.{TakesBelow, TakesKept, TakesThinned, AreThinned};
 
-use crate::quiet::{Common, is_quiet};
+use crate::common::Common;
+use crate::quiet::may_go;
 use crate::within::sets_within;
 use document_typed_selections::{Field, InlineFragment, Selection, SelectionSet};
-use graphql_names::Node;
+use graphql_names::{Name, Node};
+use indexmap::IndexSet;
 use std::alloc::{AllocError, Global};
 use tree_literals::{NamedType, copies_of_three, copies_of_two};
 
@@ -100,20 +102,21 @@ fn selection_with(
     }
 }
 
-/// Whether nothing is told of the selection of a set on that type, of whose own set this is left: nothing is left of that, and
-/// the selection itself is quiet.
+/// Whether the selection of a set on that type may be left out, of whose own set this is left: nothing is left of that, nothing
+/// is told of the selection itself, and its variables are used by what stays, as these are.
 fn is_settled(
-    alloc: Global,
     common: &Common<'_>,
     ty: &NamedType,
     selection: &Selection,
     left: &SelectionSet,
+    used: &mut IndexSet<Name>,
 ) -> Result<bool, AllocError>
     requires { IsRight common.now }
     ensures { IfOk result (λ b. IsTrue b → SettlesIfLeft (terms_of common.now) ty.now selection.now left.now) }
 {
     if left.is_empty() {
-        return is_quiet(alloc, common, ty, selection);
+        let alloc = *used.allocator();
+        return may_go(alloc, common, ty, selection, used);
     }
     Ok(false)
 }
@@ -130,11 +133,11 @@ fn left_below(selection: &Selection, thin: &mut Vec<SelectionSet>) -> Option<Sel
 
 /// Puts what stays of a selection of a set on that type last, unless nothing is told of it, and of all that it selects.
 fn keep_unless_settled(
-    alloc: Global,
     common: &Common<'_>,
     ty: &NamedType,
     selection: &Selection,
     thin: &mut Vec<SelectionSet>,
+    used: &mut IndexSet<Name>,
     kept: &mut SelectionSet,
 ) -> Result<(), AllocError>
     requires { IsRight common.now }
@@ -144,9 +147,10 @@ fn keep_unless_settled(
         kept.push(selection.clone()?)?;
         return Ok(());
     };
-    if is_settled(alloc, common, ty, selection, &left)? {
+    if is_settled(common, ty, selection, &left, used)? {
         return Ok(());
     }
+    let alloc = *thin.allocator();
     kept.push(selection_with(alloc, selection, left)?)?;
     Ok(())
 }
@@ -157,13 +161,14 @@ fn thinned_set(
     common: &Common<'_>,
     set: &SelectionSet,
     thin: &mut Vec<SelectionSet>,
+    used: &mut IndexSet<Name>,
 ) -> Result<SelectionSet, AllocError>
     requires { IsRight common.now }
     ensures { IfOk result (λ r. TakesThinned (terms_of common.now) set.now r thin.old.items thin.new.items) }
 {
     let mut kept = SelectionSet::new(alloc, set.ty.clone()?);
     for selection in &set.selections {
-        keep_unless_settled(alloc, common, &set.ty, selection, thin, &mut kept)?;
+        keep_unless_settled(common, &set.ty, selection, thin, used, &mut kept)?;
     }
     Ok(kept)
 }
@@ -179,15 +184,17 @@ fn thinned_sets<'doc>(
     ensures { IfOk result (λ thin. AreThinned (terms_of common.now) sets.entry.items thin.items) }
 {
     let mut thin = Vec::new(alloc);
+    let mut used = IndexSet::new(alloc);
     while let Some(next) = sets.pop() {
-        let set = thinned_set(alloc, common, next, &mut thin)?;
+        let set = thinned_set(alloc, common, next, &mut thin, &mut used)?;
         thin.push(set)?;
     }
     Ok(thin)
 }
 
-/// The set without those of its selections, at any depth, of which nothing is told: they break no rule whatever the variables,
+/// The set without those of its selections, at any depth, of which nothing is told: they break no rule under the common variables,
 /// and neither they nor what they select enters a fragment but where that applies. A field keeps some selection if it has any.
+/// The first use of each variable should stay: that is not promised.
 pub(crate) fn thinned(
     alloc: Global,
     common: &Common<'_>,

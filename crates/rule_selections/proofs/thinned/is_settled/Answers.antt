@@ -15,5 +15,5 @@ returns-then-is_empty c =
     let x = meant (typed_selection_tree c.args.selection.now) in
     let left = typed_set_tree c.args.left.now in
     let none = sym (none_meant left) ∙ sym c.is_empty.ensures ∙ c.if-is_empty.true in
-    IfOk-weaker c.is_quiet.result (λ (b : Bool). IsTrue b → IsQuiet s (member_there c.args.ty.now c.args.selection.now)) (λ (b : Bool). IsTrue b → SettlesIfLeft s c.args.ty.now c.args.selection.now c.args.left.now)
-    (λ b quiet is l. settled_if s t x (meant_of_set left) none (quiet is) l) c.is_quiet.ensures
+    IfOk-weaker c.may_go.result (λ (b : Bool). IsTrue b → IsQuiet s (member_there c.args.ty.now c.args.selection.now)) (λ (b : Bool). IsTrue b → SettlesIfLeft s c.args.ty.now c.args.selection.now c.args.left.now)
+    (λ b quiet is l. settled_if s t x (meant_of_set left) none (quiet is) l) c.may_go.ensures
