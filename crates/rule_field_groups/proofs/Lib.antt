@@ -1,4 +1,5 @@
 pub mod Filing
+pub mod OneGroup
 pub mod Counts
 pub mod Parts
 pub mod Sharing

@@ -1,6 +1,6 @@
 -- Private: leads to `FieldsMerge`. Groups of a list of field selections.
-use Rattle.std.specs.Prelude.{◌≡◌, ℕ, Bool, List, [], map, filter, length, Vec, Contains, ◌⊎◌}
-use Rattle.std.specs.List.{sum}
+use Rattle.std.specs.Prelude.{◌≡◌, ◌≤◌, ℕ, Bool, List, [], map, filter, length, Vec, Contains, ◌⊎◌}
+use Rattle.std.specs.List.{sum, All}
 use Rattle.std.specs.Map.{lookup}
 use Rattle.std.specs.Option.{option_map_or}
 use Rattle.std.specs.Str.{bytes_eq}
@@ -37,6 +37,10 @@ parent_of x = (field_of x).parent
 -- it has this name
 abbrev pub has : {X : Type 0} → (X → List ℕ) → List ℕ → X → Bool
 has name n x = bytes_eq n (name x)
+
+-- the list has something, and all that it has is of one name
+abbrev pub HaveOneName : {X : Type 0} → (X → List ℕ) → List X → Type 0
+HaveOneName {X} name list = (n : List ℕ) × ((1 ≤ length list) × All (λ (x : X). name x ≡ n) list)
 
 -- those of the list that pass some test, in the list's order
 abbrev pub IsPartOf : {X : Type 0} → List X → List X → Type 0

@@ -1,5 +1,5 @@
 //! Groups of the fields of a list.
-ghost use Rattle.std.specs.Prelude.{◌≡◌, ◌≤◌, ◌+◌, ℕ, ◌++◌, ◌∷◌, [], List, map, filter, flat_map, not, length, if◌then◌else◌, IfOk, OnOk};
+ghost use Rattle.std.specs.Prelude.{◌≡◌, ◌≤◌, ◌+◌, ℕ, ◌++◌, ◌∷◌, [], List, map, filter, flat_map, not, length, if◌then◌else◌, IfOk, IsTrue, OnOk};
 ghost use Rattle.std.specs.List.{sum};
 ghost use Rattle.std.specs.Str.{bytes_eq};
 ghost use Rattle.indexmap.specs.IndexMap.{get, IsUnique};
@@ -11,7 +11,7 @@ ghost use Rattle.rule_same_values.specs.in_document_definitions.Groups.{AreGroup
 ghost use Rattle.rule_field_groups.specs.Members.{fields_of};
 ghost use Rattle.rule_field_groups.specs.Compared.{compared};
 ghost use Rattle.rule_field_groups.specs.Passes.{Together};
-ghost use Rattle.rule_field_groups.specs.Grouped.{items_under, count_in, has, lists_in, lists_of, AreFiled, ArePartsOf};
+ghost use Rattle.rule_field_groups.specs.Grouped.{items_under, count_in, has, lists_in, lists_of, parent_of, HaveOneName, AreFiled, ArePartsOf};
 ghost use Rattle.rule_field_groups.specs.KeyGroups.{filed_name, is_shared, own_lists, parts_of, parts_in, lists_in_group, compared_in, IsByParents, ArePartsFor};
 
 use crate::kinds::is_abstract;
@@ -75,6 +75,34 @@ fn filed_name<'doc>(filing: Filing, field: Member<'doc>) -> &'doc Name
     }
 }
 
+/// Whether the list has fields, all of them grouped by one name.
+fn is_one_group(filing: Filing, list: &[Member<'_>]) -> bool
+    ensures { IsTrue result → HaveOneName (filed_name filing) list.now }
+{
+    let Some((first, others)) = list.split_first() else {
+        return false;
+    };
+    let name = filed_name(filing, *first);
+    for other in others {
+        if *filed_name(filing, *other) != *name {
+            return false;
+        }
+    }
+    true
+}
+
+/// A group of the whole list.
+fn one_group<'doc>(
+    alloc: Global,
+    list: &[Member<'doc>],
+) -> Result<Vec<Vec<Member<'doc>>>, AllocError>
+    ensures { IfOk result (λ groups. lists_of groups ≡ list.now ∷ []) }
+{
+    let mut groups = Vec::with_capacity(alloc, 1)?;
+    groups.push(Vec::from_slice(alloc, list)?)?;
+    Ok(groups)
+}
+
 /// The fields of the list under the names that they are grouped by.
 fn index_of<'doc>(
     alloc: Global,
@@ -115,6 +143,10 @@ fn filed<'doc>(
     ensures filed { IfOk result (λ groups. AreFiled (filed_name filing) list.now (lists_of groups)) }
     ensures counted { IfOk result (λ groups. sum (map length (lists_of groups)) ≡ length list.now) }
 {
+    // Most lists are one group, which needs no index.
+    if is_one_group(filing, list) {
+        return one_group(alloc, list);
+    }
     let index = index_of(alloc, filing, list)?;
     groups_in(alloc, index)
 }
@@ -233,6 +265,27 @@ fn own_fields<'doc>(
     Ok(own)
 }
 
+/// The fields of one key that are all selected on one type.
+fn on_one_parent<'doc>(
+    alloc: Global,
+    schema: &Schema,
+    list: &[Member<'doc>],
+) -> Result<KeyGroup<'doc>, AllocError>
+    requires { HaveOneName parent_of list.now }
+    ensures parents { IfOk result (λ group. IsByParents (judged (schema_tree schema.now)) list.now group) }
+    ensures once { IfOk result (λ group. sum (map length (lists_in_group group)) ≡ length list.now) }
+{
+    let fields = Vec::from_slice(alloc, list)?;
+    if is_abstract(schema, list[0].selection.parent_type) {
+        return Ok(all_shared(alloc, fields));
+    }
+    let early = fields.len();
+    let mut own = Vec::with_capacity(alloc, 1)?;
+    own.push(OwnFields { fields, early })?;
+    let shared = Vec::new(alloc);
+    Ok(KeyGroup { shared, own })
+}
+
 /// The fields of one key by their parents ("the parent types are equal or either is not an Object Type").
 fn by_parents<'doc>(
     alloc: Global,
@@ -242,6 +295,9 @@ fn by_parents<'doc>(
     ensures parents { IfOk result (λ group. IsByParents (judged (schema_tree schema.now)) list.now group) }
     ensures once { IfOk result (λ group. sum (map length (lists_in_group group)) ≡ length list.now) }
 {
+    if is_one_group(Filing::Parent, list) {
+        return on_one_parent(alloc, schema, list);
+    }
     let shared = abstract_fields(alloc, schema, list)?;
     let objects = object_fields(alloc, schema, list)?;
     let filed = filed(alloc, Filing::Parent, &objects)?;

@@ -1,5 +1,5 @@
 //! Pairs of numbers that are remembered.
-ghost use Rattle.std.specs.Prelude.{◌≡◌, ℕ, Contains, [], ◌<◌, length, max, min, IfOk, OnOk, OnErr};
+ghost use Rattle.std.specs.Prelude.{◌≡◌, ℕ, Contains, [], ◌<◌, ◌≤◌, length, max, min, IfOk, IsTrue, OnOk, OnErr};
 
 use crate::bits::Bits;
 use std::alloc::{AllocError, Global};
@@ -37,8 +37,23 @@ impl NumberPairs {
     {
         let high = one.max(other);
         let low = one.min(other);
+        // Most pairs are asked for again: then no row is made longer.
+        if self.is_kept(high, low) {
+            return Ok(false);
+        }
         self.reach(high)?;
         self.rows[high].set(low)
+    }
+
+    /// Whether the pair is remembered, the greater number first.
+    fn is_kept(&self, high: usize, low: usize) -> bool
+        requires { low ≤ high }
+        ensures { IsTrue result → Contains (pairs_kept self.now) (high, low) }
+    {
+        match self.rows.get(high) {
+            None => false,
+            Some(row) => row.has(low),
+        }
     }
 
     /// Adds rows, until there is one for the number.

@@ -18,3 +18,6 @@ returns-clause-few c = rows_few (set c.reach.new.self.rows.items c.max-high.resu
 
 pub returns-in_err-reach-clause-few : goal.returns-in_err-reach-clause-few
 returns-in_err-reach-clause-few c = rows_few c.reach.new.self.rows.items
+
+pub returns-then-is_kept-clause-few : goal.returns-then-is_kept-clause-few
+returns-then-is_kept-clause-few c = rows_few c.args.self.now.rows.items
