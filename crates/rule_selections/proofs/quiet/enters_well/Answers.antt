@@ -8,7 +8,7 @@ pub returns-in-Field : goal.returns-in-Field
 returns-in-Field c = λ h. field_enters (IsNoted c.args.common.now.applying.now) c.args.ty.now.text c.args.selection.now c.in-Field.field-0 c.in-Field.is
 
 pub returns-in-None : goal.returns-in-None
-returns-in-None c = λ h. inline_enters (IsNoted c.args.common.now.applying.now) c.args.ty.now.text c.args.selection.now c.in-InlineFragment.node c.in-InlineFragment.is (ap (λ (x : InlineFragment). x.type_condition) (sym c.content.ensures) ∙ sym c.in-None.is)
+returns-in-None c = λ h. inline_enters (IsNoted c.args.common.now.applying.now) c.args.ty.now.text c.args.selection.now c.in-InlineFragment.node c.in-InlineFragment.is (ap (λ (x : InlineFragment). x.type_condition) (sym c.content.ensures) ∙ c.in-None.is)
 
 pub returns-in-Some : goal.returns-in-Some
-returns-in-Some c = λ h. inline_applies (IsNoted c.args.common.now.applying.now) c.args.ty.now.text c.args.selection.now c.in-InlineFragment.node c.in-InlineFragment.is c.in-Some.condition.now (ap (λ (x : InlineFragment). x.type_condition) (sym c.content.ensures) ∙ sym c.in-Some.is) (c.applies.ensures h)
+returns-in-Some c = λ h. inline_applies (IsNoted c.args.common.now.applying.now) c.args.ty.now.text c.args.selection.now c.in-InlineFragment.node c.in-InlineFragment.is c.in-Some.condition (ap (λ (x : InlineFragment). x.type_condition) (sym c.content.ensures) ∙ c.in-Some.is) (c.applies.ensures h)
