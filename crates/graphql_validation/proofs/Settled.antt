@@ -26,7 +26,7 @@ use Rattle.rule_fragments.specs.in_ground.Reach.{IsReachOf, meant_fragments}
 use Rattle.rule_fragments.specs.in_ground.declared.lists.Reach.{Reach}
 use Rattle.rule_fragments.proofs.in_ground.OfDocuments.{ReachesFrom}
 use Rattle.rule_selections.specs.Typed.{ReachesTyped}
-use Rattle.rule_selections.specs.Settled.{StandIn}
+use Rattle.rule_selections.specs.Settled.{Terms, StandInWith}
 use Rattle.rule_selections.proofs.Instead.{reaches_typed}
 use Rattle.rule_selections.proofs.SameFaults.{same_names, same_variables, same_selections, same_undefined, same_targets, same_spreads}
 use Rattle.rule_variables.specs.Parts.{VariablesBreakAlone, VariablesBreakUnder}
@@ -52,33 +52,36 @@ pub reached_instead : {S : Type 0} (d : MeantDocument Place) (fragments : IndexM
 reached_instead d fragments o r x is h =
     subst (λ (x : Operation). ReachesFrom (typed_set_tree x.selection_set) fragments r) is h (instead_of d (meant_fragments fragments)) (InOperation (operation_name (operation_meant o))) refl
 
-module _ (s : SchemaTree Place) (d : MeantDocument Place) (instead : Entries (MeantFragment Place)) (in' : StandIn s d.fragments instead) (o : MeantOperation Place) where
+module _ (s : SchemaTree Place) (d : MeantDocument Place) (instead : Entries (MeantFragment Place)) (o : MeantOperation Place) (in' : StandInWith s o.variables d.fragments instead) where
+  abbrev terms : Terms
+  terms = record { schema = s; variables = in'.0 }
+
   abbrev Other : MeantDocument Place
   Other = instead_of d instead
 
   pub named_instead : (n : List ℕ) → ReachesNamed Other o n ↔ ReachesNamed d o n
-  named_instead n = same_names s d instead in' o n
+  named_instead n = same_names terms d instead in'.1.1 o n
 
   pub typed_instead : ReachesTyped (meanings (plain s)) d o → ReachesTyped (meanings (plain s)) Other o
-  typed_instead typed = reaches_typed s d instead in' o typed
+  typed_instead typed = reaches_typed terms d instead in'.1.1 o typed
 
   module _ (typed : ReachesTyped (meanings (plain s)) d o) (f : PlacedFault) where
     same : OperationFails Other o s f ↔ OperationFails d o s f
     same = (there, here)
       where
         there : OperationFails Other o s f → OperationFails d o s f
-        there (inl h) = inl ((same_variables s d instead in' o typed f).0 h)
-        there (inr (inl h)) = inr (inl ((same_selections s d instead in' o typed f).0 h))
-        there (inr (inr (inl h))) = inr (inr (inl ((same_undefined s d instead in' o f).0 h)))
-        there (inr (inr (inr (inl h)))) = inr (inr (inr (inl ((same_targets s d instead in' o f).0 h))))
-        there (inr (inr (inr (inr h)))) = inr (inr (inr (inr ((same_spreads s d instead in' o f).0 h))))
+        there (inl h) = inl ((same_variables terms d instead in'.1.1 o f).0 h)
+        there (inr (inl h)) = inr (inl ((same_selections terms d instead in'.1.1 o in'.1.0 typed f).0 h))
+        there (inr (inr (inl h))) = inr (inr (inl ((same_undefined terms d instead in'.1.1 o f).0 h)))
+        there (inr (inr (inr (inl h)))) = inr (inr (inr (inl ((same_targets terms d instead in'.1.1 o f).0 h))))
+        there (inr (inr (inr (inr h)))) = inr (inr (inr (inr ((same_spreads terms d instead in'.1.1 o f).0 h))))
 
         here : OperationFails d o s f → OperationFails Other o s f
-        here (inl h) = inl ((same_variables s d instead in' o typed f).1 h)
-        here (inr (inl h)) = inr (inl ((same_selections s d instead in' o typed f).1 h))
-        here (inr (inr (inl h))) = inr (inr (inl ((same_undefined s d instead in' o f).1 h)))
-        here (inr (inr (inr (inl h)))) = inr (inr (inr (inl ((same_targets s d instead in' o f).1 h))))
-        here (inr (inr (inr (inr h)))) = inr (inr (inr (inr ((same_spreads s d instead in' o f).1 h))))
+        here (inl h) = inl ((same_variables terms d instead in'.1.1 o f).1 h)
+        here (inr (inl h)) = inr (inl ((same_selections terms d instead in'.1.1 o in'.1.0 typed f).1 h))
+        here (inr (inr (inl h))) = inr (inr (inl ((same_undefined terms d instead in'.1.1 o f).1 h)))
+        here (inr (inr (inr (inl h)))) = inr (inr (inr (inl ((same_targets terms d instead in'.1.1 o f).1 h))))
+        here (inr (inr (inr (inr h)))) = inr (inr (inr (inr ((same_spreads terms d instead in'.1.1 o f).1 h))))
 
     -- the checks of an operation in their order
     pub told_instead : (VariablesBreakAlone (place_or_built_in s) Other o f ⊎ (VariablesBreakUnder s o f ⊎ (SelectionsBreak (places_in s) (judged s) Other o f

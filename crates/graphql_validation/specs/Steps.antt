@@ -27,7 +27,7 @@ use Rattle.rule_fragments.specs.Possible.{ObjectsOfTypes, ArePossibleIfFound}
 use Rattle.rule_fragments.specs.UnlessFull.{IsFull, HasAll, AddsUnlessFull}
 use Rattle.rule_fragments.specs.Used.{AreUnderOwnNames, AreUsed}
 use Rattle.rule_merging.specs.Merged.{MergingFailsAt}
-use Rattle.rule_selections.specs.Settled.{StandIn}
+use Rattle.rule_selections.specs.Settled.{StandInWith, StandInEach}
 use Rattle.rule_selections.specs.Typed.{ReachesTyped}
 use Rattle.graphql_validation.specs.Operations.{OperationFailsAlone, OperationFails, ReachesNamed, AreReachesTyped, NotesNames, FragmentsTold, DataTold, AllAlone, AllUnder}
 use Rattle.graphql_validation.specs.declared.found.Found.{Found}
@@ -78,20 +78,20 @@ module _ (s : SchemaTree Place) where
 
   -- what is found of an operation, whatever the document for whose fragments these stand in
   abbrev pub FindsUnder : {S : Type 0} → FragmentsOf S → MeantOperation Place → Option ObjectsOfTypes → Found → Found → Type 0
-  FindsUnder fragments o possible old new = (d : MeantDocument Place) → StandIn s d.fragments (meant_fragments fragments) → ReachesTyped (meanings (plain s)) d o → ArePossibleIfFound (judged s) possible
+  FindsUnder fragments o possible old new = (d : MeantDocument Place) → StandInWith s o.variables d.fragments (meant_fragments fragments) → ReachesTyped (meanings (plain s)) d o → ArePossibleIfFound (judged s) possible
       → Adds old.faults new.faults (OperationFails d o s)
 
   abbrev pub NotesUnder : {S : Type 0} → FragmentsOf S → MeantOperation Place → Found → Found → Type 0
-  NotesUnder fragments o old new = (d : MeantDocument Place) → StandIn s d.fragments (meant_fragments fragments) → NotesReached d o old new
+  NotesUnder fragments o old new = (d : MeantDocument Place) → StandInWith s o.variables d.fragments (meant_fragments fragments) → NotesReached d o old new
 
   module _ (d : MeantDocument Place) where
     -- what is found of each operation of the document, if these stand in for its fragments
     abbrev pub FindsAllUnder : {S : Type 0} → FragmentsOf S → Option ObjectsOfTypes → Found → Found → Type 0
-    FindsAllUnder fragments possible old new = StandIn s d.fragments (meant_fragments fragments) → AreReachesTyped s d → ArePossibleIfFound (judged s) possible
+    FindsAllUnder fragments possible old new = StandInEach s d (meant_fragments fragments) → AreReachesTyped s d → ArePossibleIfFound (judged s) possible
         → FindsAll d (λ o. OperationFails d o s) old new
 
     abbrev pub NotesAllUnder : {S : Type 0} → FragmentsOf S → Found → Found → Type 0
-    NotesAllUnder fragments old new = StandIn s d.fragments (meant_fragments fragments) → NotesAllReached d old new
+    NotesAllUnder fragments old new = StandInEach s d (meant_fragments fragments) → NotesAllReached d old new
 
     abbrev pub TellsUnder : List PlacedFault → Type 0
     TellsUnder told = AreReachesTyped s d → AreUnderOwnNames d → DataTold d (AllUnder s d) (λ o. OperationFails d o s) told

@@ -13,7 +13,9 @@ use crate::found::{Found, check_fragments, note_fragments};
 use document_typed_operations::{ExecutableDocument, FragmentMap, Operation};
 use fault_data::{Fault, is_full};
 use graphql_names::Node;
-use rule_fragments::{PossibleTypes, check_applications, check_spreads, for_document, reach};
+use rule_fragments::{
+    PossibleTypes, applying_conditions, check_applications, check_spreads, for_document, reach,
+};
 use rule_selections::{IndexedSchema, check_selections, settled_fragments};
 use rule_variables::{check_variables, check_variables_alone};
 use std::alloc::{AllocError, Global};
@@ -71,9 +73,9 @@ fn check_operations(
 }
 
 /// The faults of a document under a schema: all, or 1,000. What several operations share is judged once, as far as it breaks
-/// no rule whatever their variables. `possible` has the possible types of the schema, if they are there already. Where they
-/// are not, they are found once, for the first operation in which a fragment is on another type than that where it stands; if
-/// there is none, never.
+/// no rule under the variables that all of them define alike. `possible` has the possible types of the schema, if they are
+/// there already. Where they are not, they are found once, where a fragment that several operations may share, or that an
+/// operation reaches, is on another type than that where it stands; if there is none, never.
 pub(crate) fn faults_under(
     alloc: Global,
     schema: &IndexedSchema<'_>,
@@ -85,7 +87,8 @@ pub(crate) fn faults_under(
 {
     let mut possible = for_document(alloc, possible)?;
     let mut found = Found::new(alloc);
-    let settled = settled_fragments(alloc, schema, document)?;
+    let applying = applying_conditions(alloc, schema.schema(), &mut possible, document)?;
+    let settled = settled_fragments(alloc, schema, &applying, document)?;
     let fragments = settled.as_ref().unwrap_or(&document.fragments);
     check_operations(schema, &mut possible, document, fragments, &mut found)?;
     check_fragments(document, found)

@@ -7,6 +7,7 @@ pub mod Objects
 pub mod Sharing
 pub mod Seen
 pub mod Applying
+pub mod WhatApplies
 pub mod Spread
 pub mod Named
 pub mod UnusedTold

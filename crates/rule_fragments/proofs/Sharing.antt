@@ -63,7 +63,7 @@ module _ (ks : List NameValue) (ys : List (List ℕ)) (i : ℕ) (k : NameValue) 
 -- ---- what the rule says
 
 module _ (s : Judged) (p : ObjectsOfTypes) (possible : ArePossible s p) (n c : List ℕ) where
-  applies : (may_apply p n c ≡ true) ↔ MayApply s n c
+  pub applies : (may_apply p n c ≡ true) ↔ MayApply s n c
   applies = by (bytes_eq c n) refl
     where
       common : Common (objects_of p n) (objects_of p c) ↔ ((object : List ℕ) × (CanBe s n object × CanBe s c object))

@@ -44,7 +44,7 @@ no_composite (Some t) = (
 )
 
 module _ (s : SchemaTree Place) where
-  not_composite : (n : List ℕ) → (is_no_composite s n ≡ true) ↔ IsNotComposite (judged s) n
+  pub not_composite : (n : List ℕ) → (is_no_composite s n ≡ true) ↔ IsNotComposite (judged s) n
   not_composite n = subst (λ (o : Option TypeLooks). (is_no_composite s n ≡ true) ↔ Present o (λ (t : TypeLooks). IsNoCompositeType t)) (sym (type_look s n)) (no_composite (under n s.types))
 
   lists_target : (at : Place) (name : Option (List ℕ)) (ty : List ℕ) → Lists (invalid_fragment_target s at name ty) (λ f. IsNotComposite (judged s) ty × (f ≡ wrong at (InvalidFragmentTarget name ty)))

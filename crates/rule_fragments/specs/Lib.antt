@@ -3,6 +3,7 @@ pub mod Possible
 pub mod Held
 pub mod Noting
 pub mod Applied
+pub mod Applying
 pub mod Used
 pub mod Unused
 pub mod Telling

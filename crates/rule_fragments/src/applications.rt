@@ -166,7 +166,7 @@ fn check_fragment_spreads<'doc>(
 }
 
 /// The possible types that were found, or those of the schema.
-fn found_or_new(
+pub(crate) fn found_or_new(
     alloc: Global,
     schema: &Schema,
     found: Option<PossibleTypes>,

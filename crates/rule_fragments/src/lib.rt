@@ -11,7 +11,8 @@
 //! objects that values of the type can be (`ArePossible` of `Possible.antt`). It is made once for a schema, and `for_document`
 //! shares it with each document; or at most once for a document: `check_applications` makes it where a fragment is on another
 //! type than that where it stands, and it stays for the operations that follow. For a document it keeps of two types whether
-//! they have an object in common, once that is found. `check_unused` tells each fragment that no operation reaches;
+//! they have an object in common, once that is found. `applying_conditions` gives conditions with which inline
+//! fragments may apply where they stand (`specs/Applying.antt`). `check_unused` tells each fragment that no operation reaches;
 //! `check_cycles` each fragment that an operation reaches and that spreads itself, or that the bound is passed
 //! (`specs/Told.antt`). Both take the names of the fragments that the operations reach. There fragments are numbers, and
 //! `rule_cycle_search` finds the ways of spreads from each back to it.
@@ -26,6 +27,7 @@
 #![tactic(auto)]
 
 mod applications;
+mod applying;
 mod breach;
 mod cycle_faults;
 mod cycles;
@@ -43,6 +45,7 @@ mod targets;
 mod unused;
 
 pub use applications::check_applications;
+pub use applying::applying_conditions;
 pub use cycles::check_cycles;
 pub use documents::{deferred_breaches, document_breaches};
 pub use path_bound::passes_path_bound;

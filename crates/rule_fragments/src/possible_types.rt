@@ -259,7 +259,7 @@ fn is_object(schema: &Schema, name: &Name) -> bool
 }
 
 /// Notes the object under the name of a type.
-fn note(
+pub(crate) fn note(
     noted: &mut IndexMap<Name, IndexSet<Name>>,
     ty: &Name,
     object: &Name,

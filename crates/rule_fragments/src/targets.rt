@@ -16,7 +16,7 @@ use rule_document_ground::Reach;
 use std::alloc::AllocError;
 
 /// Whether the type of that name is there and is no object, interface or union.
-fn is_no_composite(schema: &Schema, name: &Name) -> bool
+pub(crate) fn is_no_composite(schema: &Schema, name: &Name) -> bool
     ensures { result ≡ is_no_composite (schema_tree schema.now) name.now.text }
 {
     match schema.type_named(name) {

@@ -3,7 +3,6 @@ use Rattle.std.proofs.Common.{◌≡◌, ◌↔◌, ◌⊎◌, ◌∙◌, ℕ, t
 use Rattle.graphql_names.specs.Placed.{Place}
 use Rattle.schema_components.specs.Names.{Entries}
 use Rattle.schema_components.proofs.Places.{not_in_nil}
-use Rattle.schema_types.specs.SchemaTree.{SchemaTree}
 use Rattle.schema_types.specs.Plain.{plain}
 use Rattle.schema_types.specs.Addresses.{under}
 use Rattle.rule_selections.proofs.FieldPlaces.{some_is}
@@ -18,29 +17,29 @@ use Rattle.rule_document_definitions.specs.Selected.{Position, InOperation, InFr
 use Rattle.rule_document_definitions.specs.Reached.{Closed, first, next, LeadsInto, AtReached, AtReachedField, AtReachedFragment}
 use Rattle.rule_document_definitions.specs.Selections.{field_taker}
 use Rattle.rule_document_definitions.specs.Told.{place_or_built_in, places_in}
-use Rattle.rule_document_definitions.specs.UsedVariables.{StandsInArguments, StandsInDirectives}
 use Rattle.rule_document_ground.specs.Reach.{Member, field_of}
 use Rattle.rule_selections.specs.Steps.{MissesSubselection, ArgumentsOfBreak, SelectionBreaks}
 use Rattle.rule_selections.specs.Typed.{ReachesTyped}
-use Rattle.rule_selections.specs.Settled.{filler, filled, emptied, enters_none, IsQuiet, IsSettled, Thins, StandsInFor, StandIn}
+use Rattle.rule_selections.specs.Settled.{Terms, AreDefinedIn, filler, filled, emptied, EntersOnly, AppliesIn, IsQuiet, IsSettled, Thins, StandsInFor, StandIn}
 use Rattle.rule_selections.proofs.Elsewhere.{member, at, to_members, of_members, Look, look, outline, outline_of, bare, placed}
 use Rattle.rule_selections.proofs.Leaving.{IsFiller, StaysAs, stays_same, set_left_of, set_stays_in, filled_of, stays_filled, look_stays, stays_typed, filler_typed, settled_quiet, set_settled}
 use Rattle.rule_selections.proofs.SameUses.{same_uses}
-use Rattle.rule_selections.proofs.WithoutVariables.{gives_none, given_well, taken_well, used_well, unnamed_in_arguments, unnamed_in_directives}
+use Rattle.rule_selections.proofs.CommonVariables.{gives_known, given_well, taken_well, used_well}
 
--- a member that enters no fragment on a type
-no_name : (s : MeantSelection Place) → enters_none s ≡ true → spread_name s ≡ None
-no_name (MeantField p d h v) e = refl
-no_name (MeantSpread p n ds) e = absurd (true≢false (sym e))
-no_name (MeantInline p c ds v) e = refl
+-- a member that enters a fragment only so
+module _ (R : List ℕ → List ℕ → Type 0) where
+  no_name : (e : Member Place) → EntersOnly R e → spread_name e.1 ≡ None
+  no_name (t, MeantField p d h v) enters = refl
+  no_name (t, MeantSpread p n ds) enters = absurd enters
+  no_name (t, MeantInline p c ds v) enters = refl
 
-no_condition : (s : MeantSelection Place) → enters_none s ≡ true → inline_condition s ≡ None
-no_condition (MeantField p d h v) e = refl
-no_condition (MeantSpread p n ds) e = absurd (true≢false (sym e))
-no_condition (MeantInline p None ds v) e = refl
-no_condition (MeantInline p (Some c) ds v) e = absurd (true≢false (sym e))
+  its_condition : (e : Member Place) → EntersOnly R e → (c : List ℕ) → inline_condition e.1 ≡ Some c → R e.0 c
+  its_condition (t, MeantField p d h v) enters c is = absurd (true≢false (sym (ap is_some is)))
+  its_condition (t, MeantSpread p n ds) enters c is = absurd enters
+  its_condition (t, MeantInline p None ds v) enters c is = absurd (true≢false (sym (ap is_some is)))
+  its_condition (t, MeantInline p (Some k) ds v) enters c is = subst (R t) (some_is k.it c is) enters
 
-module _ (s : SchemaTree Place) (d : MeantDocument Place) (instead : Entries (MeantFragment Place)) (in' : StandIn s d.fragments instead) where
+module _ (s : Terms) (d : MeantDocument Place) (instead : Entries (MeantFragment Place)) (in' : StandIn s d.fragments instead) where
   -- the document with the others
   abbrev pub Other : MeantDocument Place
   Other = record { anonymous = d.anonymous; named = d.named; fragments = instead }
@@ -86,7 +85,7 @@ module _ (s : SchemaTree Place) (d : MeantDocument Place) (instead : Entries (Me
         by (inr (inl c)) = absurd (not_in_nil z c)
         by (inr (inr (m, (named, (h, (there, c)))))) =
             let g = stood_for m h there in
-            let r = set_left_of s g.0.set h.set g.1.1.1 (member z) (to_members (InFragment h.name.it) h.set z c) in
+            let r = set_left_of s g.0.set h.set g.1.1.1.0 (member z) (to_members (InFragment h.name.it) h.set z c) in
             let u = of_members (InFragment g.0.name.it) g.0.set r.0 r.1.0 in
             inl (u.0, (inr (inr (m, (named, (g.0, (g.1.0, u.1.0))))), subst (λ (e : Member Place). StaysAs s e (member z)) (sym u.1.1) r.1.1))
     leads_more (MeantInline pl k ds v) y (w, (l, is)) z leads = by (subst (λ (y : MeantSelection Place). LeadsInto Other (at q (t, y)) z) is leads)
@@ -119,7 +118,7 @@ module _ (s : SchemaTree Place) (d : MeantDocument Place) (instead : Entries (Me
         by (inr (inl c)) = absurd (not_in_nil z c)
         by (inr (inr (m, (named, (g, (there, c)))))) =
             let i = in'.there m g there in
-            elim (set_stays_in s g.set i.0.set i.1.1.1 (member z) (to_members (InFragment g.name.it) g.set z c)) [
+            elim (set_stays_in s g.set i.0.set i.1.1.1.0 (member z) (to_members (InFragment g.name.it) g.set z c)) [
               | inl r ↦ let u = of_members (InFragment i.0.name.it) i.0.set r.0 r.1.0 in inl (u.0, (inr (inr (m, (named, (i.0, (i.1.0, u.1.0))))), subst (StaysAs s (member z)) (sym u.1.1) r.1.1))
               | inr k ↦ inr k
             ]
@@ -141,7 +140,7 @@ module _ (s : SchemaTree Place) (d : MeantDocument Place) (instead : Entries (Me
         set_settled s v k.1 (member z) (to_members p v z (subst (λ (f : StandingField Place). Contains (standing_in f.position f.set) z) (sym (some_is old f same)) c))
     settled_leads (MeantField pl df h v) k z (inr (inl c)) = absurd (not_in_nil z c)
     settled_leads (MeantField pl df h v) k z (inr (inr (m, (named, rest)))) = absurd (true≢false (sym (ap is_some named)))
-    settled_leads (MeantSpread pl n ds) k z leads = absurd (true≢false (sym k.enters))
+    settled_leads (MeantSpread pl n ds) k z leads = absurd k.enters
     settled_leads (MeantInline pl c ds v) k z (inl (f, (same, h))) = absurd (true≢false (sym (ap is_some same)))
     settled_leads (MeantInline pl c ds v) k z (inr (inl h)) = set_settled s v k.1 (member z) (to_members p v z h)
     settled_leads (MeantInline pl c ds v) k z (inr (inr (m, (named, rest)))) = absurd (true≢false (sym (ap is_some named)))
@@ -204,47 +203,42 @@ module _ (s : SchemaTree Place) (d : MeantDocument Place) (instead : Entries (Me
     quiet x l = settled_quiet s x.parent x.it l.1
 
     pub spreads_none : (x : Standing Place) → IsLeftOut (own o) x → spread_name x.it ≡ None
-    spreads_none x l = no_name x.it (quiet x l).enters
+    spreads_none x l = no_name (AppliesIn s.schema) (member x) (quiet x l).enters
 
-    pub without_condition : (x : Standing Place) → IsLeftOut (own o) x → inline_condition x.it ≡ None
-    without_condition x l = no_condition x.it (quiet x l).enters
+    pub condition_applies : (x : Standing Place) → IsLeftOut (own o) x → (c : List ℕ) → inline_condition x.it ≡ Some c → AppliesIn s.schema x.parent c
+    condition_applies x l = its_condition (AppliesIn s.schema) (member x) (quiet x l).enters
 
-    module _ (typed : ReachesTyped (meanings (plain s)) d o) where
+    module _ (typed : ReachesTyped (meanings (plain s.schema)) d o) where
       -- what is reached with the others is typed too
-      pub reaches_typed : ReachesTyped (meanings (plain s)) Other o
+      pub reaches_typed : ReachesTyped (meanings (plain s.schema)) Other o
       reaches_typed y r = elim (reached_more (own o) y r) [
-        | inl m ↦ stays_typed s (meanings (plain s)) (member m.0) (member y) m.1.1 (typed m.0 m.1.0)
-        | inr k ↦ filler_typed s (meanings (plain s)) (member y) k
+        | inl m ↦ stays_typed s (meanings (plain s.schema)) (member m.0) (member y) m.1.1 (typed m.0 m.1.0)
+        | inr k ↦ filler_typed s (meanings (plain s.schema)) (member y) k
       ]
 
-      keeps : (x : Standing Place) → IsLeftOut (own o) x → (f : PlacedFault) → SelectionBreaks s [] (member x) f → ⊥
+      keeps : (x : Standing Place) → IsLeftOut (own o) x → (f : PlacedFault) → SelectionBreaks s.schema s.variables (member x) f → ⊥
       keeps x l f h = (quiet x l).keeps (typed x l.0) f h
 
-      given : (x : Standing Place) → IsLeftOut (own o) x → (t : StandingField Place) → field_of (member x) ≡ Some t → (f : PlacedFault) → GivenBreaks (place_or_built_in s) (judged s) [] t.head.arguments f → ⊥
+      given : (x : Standing Place) → IsLeftOut (own o) x → (t : StandingField Place) → field_of (member x) ≡ Some t → (f : PlacedFault) → GivenBreaks (place_or_built_in s.schema) (judged s.schema) s.variables t.head.arguments f → ⊥
       given x l t is f h = keeps x l f (inr (t, (is, inr (inl h))))
 
-      used : (x : Standing Place) → IsLeftOut (own o) x → (f : PlacedFault) → UsesBreak (place_or_built_in s) (judged s) [] (selection_location x.it) (selection_directives x.it) f → ⊥
-      used x l f h = keeps x l f (inl (subst (λ X. X) (same_uses s [] (selection_location x.it) (selection_directives x.it) f) h))
+      used : (x : Standing Place) → IsLeftOut (own o) x → (f : PlacedFault) → UsesBreak (place_or_built_in s.schema) (judged s.schema) s.variables (selection_location x.it) (selection_directives x.it) f → ⊥
+      used x l f h = keeps x l f (inl (subst (λ X. X) (same_uses s.schema s.variables (selection_location x.it) (selection_directives x.it) f) h))
 
-      pub misses_none : (x : Standing Place) → IsLeftOut (own o) x → (f : PlacedFault) → Present (field_of (member x)) (λ t. MissesSubselection s t f) → ⊥
+      pub misses_none : (x : Standing Place) → IsLeftOut (own o) x → (f : PlacedFault) → Present (field_of (member x)) (λ t. MissesSubselection s.schema t f) → ⊥
       misses_none x l f (t, (is, h)) = keeps x l f (inr (t, (is, inl h)))
 
-      -- with any variables
-      pub takes_well : (variables : Variables Place) (x : Standing Place) → IsLeftOut (own o) x → (f : PlacedFault) → Present (field_of (member x)) (λ t. ArgumentsOfBreak s variables t f) → ⊥
-      takes_well variables x l f (t, (is, inl h)) = given_well (place_or_built_in s) (judged s) variables t.head.arguments (given x l t is) f h
-      takes_well variables x l f (t, (is, inr h)) =
-          taken_well (place_or_built_in s) (judged s) variables (field_taker (places_in s) t) (gives_none (place_or_built_in s) (judged s) t.head.arguments (given x l t is))
-          (λ g u. keeps x l g (inr (t, (is, inr (inr u))))) f h
+      -- with the variables of an operation that defines these so
+      module _ (variables : Variables Place) (defined : AreDefinedIn s.variables variables) where
+        pub takes_well : (x : Standing Place) → IsLeftOut (own o) x → (f : PlacedFault) → Present (field_of (member x)) (λ t. ArgumentsOfBreak s.schema variables t f) → ⊥
+        takes_well x l f (t, (is, inl h)) = given_well s.variables variables defined (place_or_built_in s.schema) (judged s.schema) t.head.arguments (given x l t is) f h
+        takes_well x l f (t, (is, inr h)) =
+            taken_well s.variables variables defined (place_or_built_in s.schema) (judged s.schema) (field_taker (places_in s.schema) t)
+            (gives_known s.variables variables defined (place_or_built_in s.schema) (judged s.schema) t.head.arguments (given x l t is))
+            (λ g u. keeps x l g (inr (t, (is, inr (inr u))))) f h
 
-      pub uses_well : (variables : Variables Place) (x : Standing Place) → IsLeftOut (own o) x → (f : PlacedFault) → UsesBreak (place_or_built_in s) (judged s) variables (selection_location x.it) (selection_directives x.it) f → ⊥
-      uses_well variables x l f h = used_well (place_or_built_in s) (judged s) (selection_location x.it) (selection_directives x.it) (used x l) variables f h
-
-      -- no variable is used
-      pub names_none : (n : List ℕ) (x : Standing Place) → IsLeftOut (own o) x → StandsInDirectives n (selection_directives x.it) → ⊥
-      names_none n x l h = unnamed_in_directives (place_or_built_in s) (judged s) (selection_location x.it) (selection_directives x.it) (used x l) n h
-
-      pub gives_names_none : (n : List ℕ) (x : Standing Place) → IsLeftOut (own o) x → Present (field_of (member x)) (λ t. StandsInArguments n t.head.arguments) → ⊥
-      gives_names_none n x l (t, (is, u)) = unnamed_in_arguments n t.head.arguments (gives_none (place_or_built_in s) (judged s) t.head.arguments (given x l t is)) u
+        pub uses_well : (x : Standing Place) → IsLeftOut (own o) x → (f : PlacedFault) → UsesBreak (place_or_built_in s.schema) (judged s.schema) variables (selection_location x.it) (selection_directives x.it) f → ⊥
+        uses_well x l f h = used_well s.variables variables defined (place_or_built_in s.schema) (judged s.schema) (selection_location x.it) (selection_directives x.it) (used x l) f h
 
     -- ---- what is said of all that is reached
 
@@ -252,15 +246,15 @@ module _ (s : SchemaTree Place) (d : MeantDocument Place) (instead : Entries (Me
     abbrev pub FillsUnsaid : (Look → Type 0) → Type 0
     FillsUnsaid R = (t : List ℕ) → R (look (t, filler t)) → ⊥
 
-    pub at_all : (R : Look → Type 0) → FillsUnsaid R → ((x : Standing Place) → IsLeftOut (own o) x → R (look (member x)) → ⊥) → AtReached Other o (λ x. R (look (member x))) ↔ AtReached d o (λ x. R (look (member x)))
-    at_all R fills never = (there, here)
-      where
-        there : AtReached Other o (λ x. R (look (member x))) → AtReached d o (λ x. R (look (member x)))
-        there (y, (r, h)) = elim (reached_more (own o) y r) [
-          | inl m ↦ (m.0, (m.1.0, subst R (look_stays s (member m.0) (member y) m.1.1) h))
-          | inr k ↦ absurd (fills k.0 (subst (λ (e : Member Place). R (look e)) (sym k.1) h))
-        ]
+    pub at_more : (R : Look → Type 0) → FillsUnsaid R → AtReached Other o (λ x. R (look (member x))) → AtReached d o (λ x. R (look (member x)))
+    at_more R fills (y, (r, h)) = elim (reached_more (own o) y r) [
+      | inl m ↦ (m.0, (m.1.0, subst R (look_stays s (member m.0) (member y) m.1.1) h))
+      | inr k ↦ absurd (fills k.0 (subst (λ (e : Member Place). R (look e)) (sym k.1) h))
+    ]
 
+    pub at_all : (R : Look → Type 0) → FillsUnsaid R → ((x : Standing Place) → IsLeftOut (own o) x → R (look (member x)) → ⊥) → AtReached Other o (λ x. R (look (member x))) ↔ AtReached d o (λ x. R (look (member x)))
+    at_all R fills never = (at_more R fills, here)
+      where
         here : AtReached d o (λ x. R (look (member x))) → AtReached Other o (λ x. R (look (member x)))
         here (x, (r, h)) = elim (reached_less (own o) x r) [
           | inl m ↦ (m.0, (m.1.0, subst R (sym (look_stays s (member x) (member m.0) m.1.1)) h))

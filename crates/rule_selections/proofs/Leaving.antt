@@ -3,7 +3,6 @@ use Rattle.std.proofs.Common.{◌≡◌, ◌⊎◌, ◌∙◌, ℕ, List, [], tr
 use Rattle.graphql_names.specs.Placed.{Place}
 use Rattle.tree_directives.specs.declared.directive_location.DirectiveLocation.TheVariants as location
 use Rattle.schema_components.proofs.Places.{not_in_nil, Contains-cons, Contains-first, Contains-rest}
-use Rattle.schema_types.specs.SchemaTree.{SchemaTree}
 use Rattle.tree_operations.specs.SelectionTree.{FieldHead}
 use Rattle.document_meaning.specs.MeantTree.{Definition, MeantSelection, MeantField, MeantSpread, MeantInline, MeantSet, meant_set, MeantSelections, no_meant, meant_then}
 use Rattle.document_typing.specs.Meanings.{Meanings, inner_type}
@@ -11,7 +10,7 @@ use Rattle.document_typing.specs.TypedByPlace.{IsTyped, IsSetOn, AreTyped}
 use Rattle.rule_document_definitions.specs.Selected.{InOperation}
 use Rattle.rule_document_ground.specs.Reach.{Member}
 use Rattle.rule_selections.specs.Steps.{selects_none}
-use Rattle.rule_selections.specs.Settled.{filler, filled, with_left, IsQuiet, IsSettled, IsSettledSet, AreSettled, Thins, LeavesOf, Leaves, LeavesBelow}
+use Rattle.rule_selections.specs.Settled.{Terms, filler, filled, with_left, IsQuiet, IsSettled, IsSettledSet, AreSettled, Thins, LeavesOf, Leaves, LeavesBelow}
 use Rattle.rule_selections.proofs.Elsewhere.{along, own_members, hollow, Look, look}
 
 pub filled_same : (v : MeantSet Place) → filled v v ≡ v
@@ -34,7 +33,7 @@ of_field t p d h u = record {
   field = Some (record { position = InOperation None; parent = t; place = p; definition = d; head = h; set = u });
 }
 
-module _ (s : SchemaTree Place) where
+module _ (s : Terms) where
   -- ---- all may be left
 
   mutual

@@ -7,12 +7,16 @@ pub mod Selecting
 pub mod TypedReached
 pub mod Typing
 pub mod NoArguments
-pub mod WithoutVariables
+pub mod CommonVariables
 pub mod Elsewhere
 pub mod Leaving
 pub mod Instead
+pub mod StillUsed
 pub mod SameFaults
 pub mod Thinning
 pub mod Standing
 pub mod SetsWithin
+pub mod Names
+pub mod DefinedAlike
+pub mod EachOperation
 pub use Rattle.document_typing.proofs as in_typing

@@ -1,17 +1,19 @@
 -- A typed selection as a member of what is reached.
-use Rattle.std.proofs.Common.{◌≡◌, ◌↔◌, ◌<◌, ◌∙◌, ℕ, not, true, List, map, length, get_or, refl, ap, sym, subst, Option, None, Some, true≢false, is_some, is_none, option_map, Contains}
+use Rattle.std.proofs.Common.{◌≡◌, ◌↔◌, ◌<◌, ◌∙◌, ℕ, List, map, length, get_or, refl, ap, sym, subst, Option, None, Some, true≢false, is_some, option_map, Contains}
 use Rattle.graphql_names.specs.NameValue.{NameValue}
-use Rattle.graphql_names.specs.Node.{content as node_content}
+use Rattle.graphql_names.specs.Node.{content as node_content, place as node_place}
 use Rattle.graphql_names.specs.Placed.{Place, name_tree}
 use Rattle.graphql_names.specs.declared.node.Node.{Node}
 use Rattle.tree_directives.specs.declared.directive_location.DirectiveLocation.TheVariants as location
-use Rattle.document_typed_selections.specs.TypedTree.{TypedSelection, TypedField, TypedSpread, TypedInline, typed_selection_tree}
+use Rattle.tree_directives.specs.DirectiveTree.{directives_tree}
+use Rattle.document_typed_selections.specs.TypedTree.{TypedSelection, TypedField, TypedSpread, TypedInline, typed_selection_tree, typed_set_tree}
 use Rattle.document_typed_selections.specs.TypedParts.{typed_directives, as_typed_field, typed_field_node}
 use Rattle.document_typed_selections.specs.declared.selection.Field.{Field}
 use Rattle.document_typed_selections.specs.declared.selection.InlineFragment.{InlineFragment}
+use Rattle.document_typed_selections.specs.declared.selection.Selection.{Selection}
 use Rattle.document_typed_selections.specs.declared.selection.Selection.TheViews.{Field as Field', InlineFragment as InlineFragment'}
 use Rattle.document_typed_selections.proofs.TypedTrees.{typed_tree_field, typed_tree_inline}
-use Rattle.document_meaning.specs.MeantTree.{meant}
+use Rattle.document_meaning.specs.MeantTree.{MeantField, MeantSpread, MeantInline, meant}
 use Rattle.schema_types.specs.SchemaTree.{SchemaTree}
 use Rattle.schema_types.specs.Plain.{plain}
 use Rattle.document_typing.specs.Meanings.{meanings}
@@ -19,10 +21,10 @@ use Rattle.document_typing.specs.TypedByPlace.{IsTyped}
 use Rattle.rule_definitions.specs.Words.{Present}
 use Rattle.rule_document_definitions.specs.Selected.{StandingField, selection_directives, selection_location}
 use Rattle.rule_definitions.proofs.Listing.{present_known}
-use Rattle.rule_document_ground.specs.Reach.{field_of}
+use Rattle.rule_document_ground.specs.Reach.{Member, field_of}
 use Rattle.rule_document_ground.proofs.Bridge.{to_map}
 use Rattle.rule_selections.specs.Steps.{standing_field, IsDefined}
-use Rattle.rule_selections.specs.Settled.{enters_none}
+use Rattle.rule_selections.specs.Settled.{EntersOnly}
 
 -- ---- where its directives stand
 
@@ -36,17 +38,28 @@ pub ruleset location_rules = (field_location, inline_location)
 
 -- ---- whether it enters a fragment on a type
 
-pub field_enters : (n : Node Field) → enters_none (meant (typed_selection_tree (Field' n))) ≡ true
-field_enters n = ap (λ t. enters_none (meant t)) (typed_tree_field n)
+module _ (R : List ℕ → List ℕ → Type 0) (t : List ℕ) (s : Selection) where
+  pub field_enters : (n : Node Field) → s ≡ Field' n → EntersOnly R (t, meant (typed_selection_tree s))
+  field_enters n is = subst (λ (x : TypedSelection Place). EntersOnly R (t, meant x)) (sym (ap typed_selection_tree is ∙ typed_tree_field n)) tt
 
-without_condition : (o : Option NameValue) → not (is_some (option_map name_tree o)) ≡ is_none o
-without_condition None = refl
-without_condition (Some n) = refl
+  module _ (n : Node InlineFragment) (is : s ≡ InlineFragment' n) where
+    with_condition : (o : Option NameValue) → (node_content n).type_condition ≡ o → EntersOnly R (t, meant (TypedInline (node_place n) (option_map name_tree o) (directives_tree (node_content n).directives) (typed_set_tree (node_content n).selection_set))) → EntersOnly R (t, meant (typed_selection_tree s))
+    with_condition o has enters =
+        subst (λ (x : TypedSelection Place). EntersOnly R (t, meant x)) (sym (ap typed_selection_tree is ∙ typed_tree_inline n))
+        (subst (λ (o : Option NameValue). EntersOnly R (t, meant (TypedInline (node_place n) (option_map name_tree o) (directives_tree (node_content n).directives) (typed_set_tree (node_content n).selection_set)))) (sym has) enters)
 
-pub inline_enters : (n : Node InlineFragment) → enters_none (meant (typed_selection_tree (InlineFragment' n))) ≡ is_none (node_content n).type_condition
-inline_enters n = ap (λ t. enters_none (meant t)) (typed_tree_inline n) ∙ without_condition (node_content n).type_condition
+    pub inline_enters : (node_content n).type_condition ≡ None → EntersOnly R (t, meant (typed_selection_tree s))
+    inline_enters has = with_condition None has tt
 
-pub ruleset entering_rules = (field_enters, inline_enters)
+    pub inline_applies : (c : NameValue) → (node_content n).type_condition ≡ Some c → R t c.text → EntersOnly R (t, meant (typed_selection_tree s))
+    inline_applies c has applies = with_condition (Some c) has applies
+
+-- where one relation holds the other does
+pub enters_by : (R Q : List ℕ → List ℕ → Type 0) → ((t c : List ℕ) → R t c → Q t c) → (e : Member Place) → EntersOnly R e → EntersOnly Q e
+enters_by R Q by (t, MeantField p d h v) enters = tt
+enters_by R Q by (t, MeantSpread p n ds) enters = absurd enters
+enters_by R Q by (t, MeantInline p None ds v) enters = tt
+enters_by R Q by (t, MeantInline p (Some c) ds v) enters = by t c.it enters
 
 -- ---- its parts
 

@@ -11,7 +11,6 @@ use Rattle.graphql_names.specs.NameValue.{NameValue}
 use Rattle.graphql_names.specs.Placed.{Place, name_tree}
 use Rattle.graphql_names.specs.Node.{content}
 use Rattle.graphql_names.specs.declared.node.Node.{Node}
-use Rattle.schema_types.specs.SchemaTree.{SchemaTree}
 use Rattle.document_typed_selections.specs.TypedTree.{TypedSelection, TypedField, TypedSpread, TypedInline, TypedSet, typed_set, TypedSelections, no_typed, typed_then, typed_selections, typed_selection_tree, typed_set_tree}
 use Rattle.document_typed_selections.specs.TypedParts.{as_typed_spread, typed_spread_node, set_and}
 use Rattle.document_typed_selections.specs.declared.selection.Selection.{Selection}
@@ -23,8 +22,8 @@ use Rattle.document_typed_selections.specs.declared.selection.SelectionSet.{Sele
 use Rattle.document_typed_selections.proofs.TypedTrees.{typed_set_tree_out, typed_tree_field, typed_tree_inline}
 use Rattle.document_meaning.specs.MeantTree.{meant, meant_of_set}
 use Rattle.rule_definitions.proofs.Listing.{mapped_more}
-use Rattle.rule_selections.specs.Settled.{Thins, LeavesBelow, LeavesOf, LeavesOfTyped}
-use Rattle.rule_selections.specs.Telling.{KeepsSelection}
+use Rattle.rule_selections.specs.Settled.{Terms, StandsInSet, Thins, LeavesBelow, LeavesOf, LeavesOfTyped}
+use Rattle.rule_selections.specs.Telling.{KeepsSelection, SettlesSet}
 use Rattle.rule_selections.specs.Within.{own_sets, sets_along, sets_below, within, within_one, within_all, typed_sets, last_first, waiting_sets, thin_sets, AreLeft, Takes, TakesBelow, TakesKept, TakesThinned, AreThinned}
 use Rattle.rule_selections.proofs.Leaving.{thins_same, leaves_same}
 use Rattle.rule_selections.proofs.Thinning.{IsLeft, left_none, left_more, left_all}
@@ -120,7 +119,7 @@ is_spread x (Some n) is = ap is_some (sym is)
 pub spread_takes : (x : Selection) (old new : List SelectionSet) → is_some (as_typed_spread (typed_selection_tree x)) ≡ true → new ≡ old → TakesBelow x None old new
 spread_takes x old new is same s more left = (tt, subst (λ l. AreLeft s more (thin_sets l)) (sym same) (subst (λ l. AreLeft s (l ++ more) (thin_sets old)) (owns_none (typed_selection_tree x) is) left))
 
-module _ (s : SchemaTree Place) where
+module _ (s : Terms) where
   some_taken : (v : TypedSet Place) (old new : List SelectionSet) (w : SelectionSet) → old ≡ new ++ w ∷ [] → Takes s (v ∷ []) old new (LeavesOf s (meant_of_set v) (meant_of_set (typed_set_tree w)))
   some_taken v old new w is more left = let both = subst (AreLeft s (v ∷ more)) (pushed typed_set_tree new old w is) left in (both.0.1, both.1)
 
@@ -233,3 +232,7 @@ module _ (s : SchemaTree Place) where
   pub copy_left : {E : Type 0} (v : TypedSet Place) (r : Result SelectionSet E) (Q : E → Type 0) → MatchResult r (λ copy. typed_set_tree copy ≡ v) Q → IfOk r (λ copy. LeavesOfTyped s v (typed_set_tree copy))
   copy_left v (Ok copy) Q same = same_left v (typed_set_tree copy) same
   copy_left v (Err e) Q same = tt
+
+  pub copy_settles : {E : Type 0} (v : SelectionSet) (r : Result SelectionSet E) (Q : E → Type 0) → MatchResult r (λ copy. typed_set_tree copy ≡ typed_set_tree v) Q → IfOk r (λ copy. SettlesSet s v copy)
+  copy_settles v (Ok copy) Q same = (same_left (typed_set_tree v) (typed_set_tree copy) same, λ n u. subst (λ (x : TypedSet Place). StandsInSet n (meant_of_set x)) (sym same) u)
+  copy_settles v (Err e) Q same = tt

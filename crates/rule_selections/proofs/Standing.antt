@@ -9,7 +9,6 @@ use Rattle.graphql_names.specs.NameValue.{NameValue}
 use Rattle.graphql_names.specs.Placed.{Place, Placed, node_tree}
 use Rattle.graphql_names.specs.declared.node.Node.{Node}
 use Rattle.schema_components.specs.Names.{Entries, same_text}
-use Rattle.schema_types.specs.SchemaTree.{SchemaTree}
 use Rattle.schema_types.specs.TypeView.{name_text}
 use Rattle.schema_types.specs.Addresses.{under}
 use Rattle.rule_selections.proofs.FieldPlaces.{some_is}
@@ -17,7 +16,7 @@ use Rattle.document_typed_operations.specs.TypedDocument.{TypedFragment, typed_f
 use Rattle.document_typed_operations.specs.declared.operation.Fragment.{Fragment}
 use Rattle.document_meaning.specs.MeantTree.{MeantFragment}
 use Rattle.rule_document_ground.specs.in_typed_operations.DocumentView.{meant_by_fragment}
-use Rattle.rule_selections.specs.Settled.{fragment_meant, StandsInFor, StandIn}
+use Rattle.rule_selections.specs.Settled.{Terms, fragment_meant, StandsInFor, StandIn}
 use Rattle.rule_selections.proofs.Leaving.{leaves_same}
 
 -- what entries mean
@@ -25,8 +24,8 @@ abbrev pub meant_entries : List (NameValue × Node Fragment) → Entries (MeantF
 meant_entries es = map (λ (e : List ℕ × Placed Place (TypedFragment Place)). (e.0, meant_by_fragment e.1)) (map (λ (e : NameValue × Node Fragment). (e.0.text, node_tree typed_fragment_tree e.1)) es)
 
 -- the fragments of a document stand in for themselves
-pub stand_in_same : (s : SchemaTree Place) (fragments : Entries (MeantFragment Place)) → StandIn s fragments fragments
-stand_in_same s fragments = record { there = λ n g is. (g, (is, (refl, leaves_same s g.set))); absent = λ n is. is }
+pub stand_in_same : (s : Terms) (fragments : Entries (MeantFragment Place)) → StandIn s fragments fragments
+stand_in_same s fragments = record { there = λ n g is. (g, (is, (refl, (leaves_same s g.set, λ m u. u)))); absent = λ n is. is }
 
 -- ---- a copy
 
@@ -84,7 +83,7 @@ module _ (k : NameValue) (v : Node Fragment) (n : List ℕ) where
           (later_is (bytes_eq n e.0.text) e (under n (meant_entries (insert_entry (same_text name_text) es k v))) (under n (meant_entries es)) rest)
 
 -- another stands there for a fragment
-pub stand_in_more : (s : SchemaTree Place) (fragments old new : Entries (MeantFragment Place)) (k : NameValue) (g : MeantFragment Place) (v : Node Fragment) → under k.text fragments ≡ Some g → StandsInFor s (fragment_meant v) g
+pub stand_in_more : (s : Terms) (fragments old new : Entries (MeantFragment Place)) (k : NameValue) (g : MeantFragment Place) (v : Node Fragment) → under k.text fragments ≡ Some g → StandsInFor s (fragment_meant v) g
     → ((n : List ℕ) → Replaced k v n (under n new) (under n old)) → StandIn s fragments old → StandIn s fragments new
 stand_in_more s fragments old new k g v is stands write in' = record { there = there; absent = absent }
   where

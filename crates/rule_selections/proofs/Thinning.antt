@@ -6,7 +6,6 @@ use Rattle.graphql_names.specs.Placed.{Place, Text, name_tree}
 use Rattle.graphql_names.specs.declared.node.Node.{Node}
 use Rattle.tree_directives.specs.DirectiveTree.{directives_tree}
 use Rattle.schema_components.proofs.Places.{not_in_nil}
-use Rattle.schema_types.specs.SchemaTree.{SchemaTree}
 use Rattle.tree_type_members.specs.TypeSystemTree.{unplaced_field_definition}
 use Rattle.document_typed_selections.specs.TypedTree.{TypedSelection, TypedSet, typed_set, TypedSelections, no_typed, typed_then, typed_selections, typed_selection_tree, typed_set_tree, set_type, set_selections, holds_none}
 use Rattle.document_typed_selections.specs.TypedParts.{and_then, set_and, own_definition, typed_head, typed_field_node, typed_inline_node, bare_inline}
@@ -22,7 +21,7 @@ use Rattle.rule_definitions.specs.Told.{PlacedFault}
 use Rattle.rule_definitions.proofs.Room.{room_begins, room_silent}
 use Rattle.rule_definitions.proofs.Adding.{Gains}
 use Rattle.rule_selections.specs.Steps.{selects_none}
-use Rattle.rule_selections.specs.Settled.{filled, with_left, IsSettled, Thins, Leaves, LeavesOfTyped, KeepsUnlessSettled, StandsInFor}
+use Rattle.rule_selections.specs.Settled.{Terms, filled, with_left, IsSettled, Thins, Leaves, LeavesOfTyped, KeepsUnlessSettled, UsesAll, StandsInFor}
 
 -- where nothing was told, nothing breaks
 pub nothing_breaks : {R : PlacedFault → Type 0} (old new : List PlacedFault) → Gains old new R → new ≡ [] → (f : PlacedFault) → R f → ⊥
@@ -87,7 +86,7 @@ selections_after (typed_set t ss) y = last_meant ss y
 set_is : (v : TypedSet Place) → meant_of_set v ≡ meant_set (set_type v).it (meant_of_all (set_selections v))
 set_is (typed_set t ss) = refl
 
-module _ (s : SchemaTree Place) where
+module _ (s : Terms) where
   -- one that stays
   leaves_one : (t : List ℕ) (xs : List (MeantSelection Place)) (ws : MeantSelections Place) (x y : MeantSelection Place) → Thins s x y → Leaves s t (members xs) ws → Leaves s t (members (xs ++ x ∷ [])) (and_last ws y)
   leaves_one t [] ws x y thin none = inr (y, (no_meant, (ap (λ (l : MeantSelections Place). and_last l y) none, (thin, refl))))
@@ -137,7 +136,7 @@ module _ (s : SchemaTree Place) where
 
   -- ---- a fragment with what is left
 
-  pub stands_in : (h g : TypedFragment Place) (p q : Place) → h.name ≡ g.name → h.directives ≡ g.directives → p ≡ q → LeavesOfTyped s g.set h.set
+  pub stands_in : (h g : TypedFragment Place) (p q : Place) → h.name ≡ g.name → h.directives ≡ g.directives → p ≡ q → LeavesOfTyped s g.set h.set → UsesAll (meant_of_set h.set) (meant_of_set g.set)
       → StandsInFor s (meant_by_fragment (record { it = h; place = p })) (meant_by_fragment (record { it = g; place = q }))
-  stands_in h g p q name directives place l =
-      (λ i. record { place = place i; name = name i; type_condition = l.0 i; directives = directives i; set = meant_set (l.0 i).it no_meant }, l.1)
+  stands_in h g p q name directives place l uses =
+      (λ i. record { place = place i; name = name i; type_condition = l.0 i; directives = directives i; set = meant_set (l.0 i).it no_meant }, (l.1, uses))

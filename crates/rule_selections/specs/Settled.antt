@@ -1,7 +1,15 @@
--- Private: leads to `SelectionsBreak`. Fragments that may replace those of a document: of what they leave out, at any depth, nothing is told, whatever the variables.
-use Rattle.std.specs.Prelude.{◌≡◌, ℕ, Bool, true, false, not, is_some, List, [], None, Some, ◌⊎◌}
-use Rattle.graphql_names.specs.Placed.{Place, node_tree}
+-- Private: leads to `SelectionsBreak`. Fragments that may replace those of a document: of what they leave out, at any depth, nothing is told, and they use the same variables.
+use Rattle.std.specs.Prelude.{◌≡◌, ℕ, List, [], Contains, find, is_some, None, Some, ◌⊎◌}
+use Rattle.std.specs.Map.{lookup}
+use Rattle.std.specs.Option.{option_map_or}
+use Rattle.std.specs.Str.{bytes_eq}
+use Rattle.indexmap.specs.IndexMap.{IndexMap}
+use Rattle.indexmap.specs.IndexSet.{IndexSet}
+use Rattle.graphql_names.specs.NameValue.{NameValue}
+use Rattle.graphql_names.specs.Placed.{Placed, Place, node_tree}
 use Rattle.graphql_names.specs.declared.node.Node.{Node}
+use Rattle.tree_literals.specs.TypeTree.{unplaced_type}
+use Rattle.tree_operations.specs.OperationTree.{VariableDefinitionTree}
 use Rattle.schema_components.specs.Names.{Entries}
 use Rattle.schema_types.specs.SchemaTree.{SchemaTree}
 use Rattle.schema_types.specs.Addresses.{under}
@@ -10,19 +18,32 @@ use Rattle.document_typed_selections.specs.TypedTree.{TypedSelection, TypedSet, 
 use Rattle.document_typed_selections.specs.TypedParts.{set_and}
 use Rattle.document_typed_operations.specs.TypedDocument.{typed_fragment_tree}
 use Rattle.document_typed_operations.specs.declared.operation.Fragment.{Fragment}
-use Rattle.document_meaning.specs.MeantTree.{MeantSelection, MeantField, MeantSpread, MeantInline, MeantSet, meant_set, MeantSelections, no_meant, meant_then, meant_of_set, MeantFragment, meant}
+use Rattle.document_meaning.specs.MeantTree.{MeantSelection, MeantField, MeantSpread, MeantInline, MeantSet, meant_set, MeantSelections, no_meant, meant_then, meant_of_set, MeantFragment, MeantDocument, MeantOperation, meant}
 use Rattle.rule_document_ground.specs.in_typed_operations.DocumentView.{meant_by_fragment}
 use Rattle.document_typing.specs.Meanings.{meanings}
 use Rattle.document_typing.specs.TypedByPlace.{IsTyped}
+use Rattle.rule_definitions.specs.Words.{Present}
+use Rattle.rule_definitions.specs.GivenValues.{Variables}
+use Rattle.rule_definitions.specs.Judged.{judged}
+use Rattle.rule_definitions.specs.Names.{defined_name}
 use Rattle.rule_definitions.specs.Told.{PlacedFault}
+use Rattle.rule_document_definitions.specs.PossibleTypes.{IsNotComposite, MayApply}
+use Rattle.rule_document_definitions.specs.Selected.{operations}
+use Rattle.rule_document_definitions.specs.UsedVariables.{StandsInArguments, StandsInDirectives}
+use Rattle.rule_document_ground.specs.NotedNames.{noted_names}
 use Rattle.rule_document_ground.specs.Reach.{Member}
 use Rattle.rule_selections.specs.Steps.{SelectionBreaks}
 
--- a selection enters no fragment that is on a type of its own: it is a field, or an inline fragment without a condition
-abbrev pub enters_none : {P : Type 0} → MeantSelection P → Bool
-enters_none (MeantField p d h s) = true
-enters_none (MeantSpread p n ds) = false
-enters_none (MeantInline p c ds s) = not (is_some c)
+-- a selection of a set enters a fragment only so: it is a field, or an inline fragment without a condition, or with one for which R holds after the name of the set's type
+abbrev pub EntersOnly : (List ℕ → List ℕ → Type 0) → Member Place → Type 0
+EntersOnly R (t, MeantField p d h s) = Unit {0}
+EntersOnly R (t, MeantSpread p n ds) = ⊥
+EntersOnly R (t, MeantInline p None ds s) = Unit {0}
+EntersOnly R (t, MeantInline p (Some c) ds s) = R t c.it
+
+-- under the name of a type a map has this one
+abbrev pub IsNoted : {S T : Type 0} → IndexMap NameValue (IndexSet NameValue S) T → List ℕ → List ℕ → Type 0
+IsNoted m t c = Contains (option_map_or (λ names. noted_names names) (lookup (λ a. bytes_eq t a.text) m.entries) []) c
 
 -- what a fragment means
 abbrev pub fragment_meant : Node Fragment → MeantFragment Place
@@ -48,11 +69,74 @@ with_left (MeantField p d h v) left = MeantField p d h (filled v left)
 with_left (MeantSpread p n ds) left = MeantSpread p n ds
 with_left (MeantInline p c ds v) left = MeantInline p c ds left
 
+-- ---- variables that operations define alike
+
+-- values of the one may stand where those of the other may: types are the same, and both have a default, or none
+abbrev pub AreAlike : VariableDefinitionTree Place → VariableDefinitionTree Place → Type 0
+AreAlike x y = (unplaced_type x.ty.it ≡ unplaced_type y.ty.it) × (is_some x.default_value ≡ is_some y.default_value)
+
+-- the first of its name among these variables is alike
+abbrev pub IsDefinedIn : Variables Place → Placed Place (VariableDefinitionTree Place) → Type 0
+IsDefinedIn variables x = Present (find (λ y. bytes_eq (defined_name y) (defined_name x)) variables) (λ y. AreAlike x.it y.it)
+
+-- of each variable
+abbrev pub AreDefinedIn : Variables Place → Variables Place → Type 0
+AreDefinedIn common variables = (x : Placed Place (VariableDefinitionTree Place)) → Contains common x → IsDefinedIn variables x
+
+-- in each operation of a document
+abbrev pub AreCommon : MeantDocument Place → Variables Place → Type 0
+AreCommon d common = (o : MeantOperation Place) → Contains (operations d) o → AreDefinedIn common o.variables
+
+-- the second ones are among the first, and are defined so
+abbrev pub AreThoseDefined : Variables Place → Variables Place → Variables Place → Type 0
+AreThoseDefined variables old new = (x : Placed Place (VariableDefinitionTree Place)) → Contains new x → Contains old x × IsDefinedIn variables x
+
+-- this one was added, if it is defined so
+abbrev pub KeepsIfDefined : Variables Place → Placed Place (VariableDefinitionTree Place) → Variables Place → Variables Place → Type 0
+KeepsIfDefined variables x old new = (y : Placed Place (VariableDefinitionTree Place)) → Contains new y → Contains old y ⊎ ((x ≡ y) × IsDefinedIn variables y)
+
+-- ---- variables that are used
+
+-- the variable stands in a selection or in what it selects, at any depth; what is spread is not entered
+module _ (n : List ℕ) where
+  abbrev mutual
+    pub StandsWithin : MeantSelection Place → Type 0
+    StandsWithin (MeantField p d h v) = (StandsInDirectives n h.directives ⊎ StandsInArguments n h.arguments) ⊎ StandsInSet v
+    StandsWithin (MeantSpread p m ds) = StandsInDirectives n ds
+    StandsWithin (MeantInline p c ds v) = StandsInDirectives n ds ⊎ StandsInSet v
+
+    pub StandsInSet : MeantSet Place → Type 0
+    StandsInSet (meant_set t ss) = StandsAlong ss
+
+    pub StandsAlong : MeantSelections Place → Type 0
+    StandsAlong no_meant = ⊥
+    StandsAlong (meant_then x xs) = StandsWithin x ⊎ StandsAlong xs
+
+-- what stands in the second set stands in the first
+abbrev pub UsesAll : MeantSet Place → MeantSet Place → Type 0
+UsesAll left whole = (n : List ℕ) → StandsInSet n whole → StandsInSet n left
+
+-- ---- what may be left out
+
 module _ (s : SchemaTree Place) where
-  -- the selection by itself enters no fragment on a type; and where it is typed, it breaks no rule where there are no variables
+  -- of an inline fragment with this condition nothing is told in a set on the type: it is on no type without fields, and may apply there
+  abbrev pub AppliesIn : List ℕ → List ℕ → Type 0
+  AppliesIn t c = (IsNotComposite (judged s) c → ⊥) × MayApply (judged s) t c
+
+  -- so it is with what a map has under names of types
+  abbrev pub ApplyWhereNoted : {S T : Type 0} → IndexMap NameValue (IndexSet NameValue S) T → Type 0
+  ApplyWhereNoted m = (t c : List ℕ) → IsNoted m t c → AppliesIn t c
+
+-- what operations have in common: a schema, and variables that each defines so
+pub record Terms : Type 0 where
+  pub schema : SchemaTree Place
+  pub variables : Variables Place
+
+module _ (s : Terms) where
+  -- the selection by itself enters a fragment only where that applies; and where it is typed, it breaks no rule where there are these variables
   pub record IsQuiet (e : Member Place) : Type 0 where
-    pub enters : enters_none e.1 ≡ true
-    pub keeps : IsTyped (meanings (plain s)) e.0 e.1 → (f : PlacedFault) → SelectionBreaks s [] e f → ⊥
+    pub enters : EntersOnly (AppliesIn s.schema) e
+    pub keeps : IsTyped (meanings (plain s.schema)) e.0 e.1 → (f : PlacedFault) → SelectionBreaks s.schema s.variables e f → ⊥
 
   -- a selection of a set on the type of this name is quiet, and all that it selects, at any depth
   abbrev mutual
@@ -102,11 +186,20 @@ module _ (s : SchemaTree Place) where
       ((y : TypedSelection Place) × ((new ≡ set_and (typed_then y no_typed) old) × Thins (meant x) (meant y)))
       ⊎ ((new ≡ old) × IsSettled ty (meant x))
 
-  -- the fragment, maybe without selections that are settled
+  -- the fragment, maybe without selections that are settled; the variables that it uses, it uses still
   abbrev pub StandsInFor : MeantFragment Place → MeantFragment Place → Type 0
-  StandsInFor h g = (emptied h ≡ emptied g) × LeavesOf g.set h.set
+  StandsInFor h g = (emptied h ≡ emptied g) × (LeavesOf g.set h.set × UsesAll h.set g.set)
 
   -- under each name is what may replace the fragment of that name, and no more
   pub record StandIn (fragments instead : Entries (MeantFragment Place)) : Type 0 where
     pub there : (n : List ℕ) (g : MeantFragment Place) → under n fragments ≡ Some g → (h : MeantFragment Place) × ((under n instead ≡ Some h) × StandsInFor h g)
     pub absent : (n : List ℕ) → under n fragments ≡ None → under n instead ≡ None
+
+module _ (s : SchemaTree Place) where
+  -- in an operation with these variables: where some are common that it defines so
+  abbrev pub StandInWith : Variables Place → (fragments instead : Entries (MeantFragment Place)) → Type 0
+  StandInWith variables fragments instead = (common : Variables Place) × (AreDefinedIn common variables × StandIn (record { schema = s; variables = common }) fragments instead)
+
+  -- in each operation of a document
+  abbrev pub StandInEach : MeantDocument Place → Entries (MeantFragment Place) → Type 0
+  StandInEach d instead = (o : MeantOperation Place) → Contains (operations d) o → StandInWith o.variables d.fragments instead

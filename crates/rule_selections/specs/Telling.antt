@@ -20,6 +20,7 @@ use Rattle.document_typing.specs.Meanings.{meanings}
 use Rattle.document_typing.specs.TypedByPlace.{IsTyped}
 use Rattle.fault_data.specs.Adds.{Adds}
 use Rattle.fault_data.specs.declared.fault.Fault.{Fault}
+use Rattle.rule_uses.specs.in_rule_values.Wanting.{variables_of}
 use Rattle.rule_definitions.specs.GivenValues.{Variables}
 use Rattle.rule_definitions.specs.Judged.{judged}
 use Rattle.rule_definitions.specs.Uses.{TakerBreaks, UsesBreak}
@@ -28,12 +29,21 @@ use Rattle.rule_document_definitions.specs.Selected.{StandingField}
 use Rattle.rule_document_definitions.specs.Selections.{field_taker}
 use Rattle.rule_document_definitions.specs.Told.{place_or_built_in, places_in}
 use Rattle.rule_document_ground.specs.Reach.{Member}
-use Rattle.rule_selections.specs.Settled.{IsSettled, LeavesBelow, KeepsUnlessSettled, StandIn}
+use Rattle.graphql_schema.specs.SchemaOf.{schema_tree}
+use Rattle.rule_selections.specs.Settled.{Terms, UsesAll, ApplyWhereNoted, IsSettled, LeavesBelow, LeavesOfTyped, KeepsUnlessSettled, StandIn}
 use Rattle.rule_selections.specs.Steps.{IsDefined, FieldBreaks, SelectionBreaks}
+use Rattle.rule_selections.specs.declared.common.Common.{Common}
 
 -- faults
 abbrev pub Faults : Type 0
 Faults = Vec Fault Global
+
+-- what operations have in common; and the conditions that are noted there apply
+abbrev pub terms_of : Common → Terms
+terms_of common = record { schema = schema_tree common.schema.now; variables = variables_of common.variables.now }
+
+abbrev pub IsRight : Common → Type 0
+IsRight common = ApplyWhereNoted (schema_tree common.schema.now) common.applying.now
 
 -- a selection of a set on the type `parent`
 abbrev pub member_there : NameValue → Selection → Member Place
@@ -62,6 +72,7 @@ module _ (s : SchemaTree Place) where
     abbrev pub AddsOfFragments : List (MeantFragment Place) → Faults → Faults → Type 0
     AddsOfFragments fragments old new = Adds old new (λ f. AtSomeIndex fragments (λ i x. UsesBreak (place_at s) (judged s) variables location.FragmentDefinition x.directives f))
 
+module _ (s : Terms) where
   -- what stays of a selection is put last, or nothing is told of it and of what it selects
   abbrev pub KeepsSelection : NameValue → Selection → SelectionSet → SelectionSet → Type 0
   KeepsSelection ty selection old new = KeepsUnlessSettled s ty.text (typed_selection_tree selection) (typed_set_tree old) (typed_set_tree new)
@@ -73,3 +84,7 @@ module _ (s : SchemaTree Place) where
   -- if the old ones may stand in for these, so may the new ones
   abbrev pub StillStandIn : (fragments old new : Entries (MeantFragment Place)) → Type 0
   StillStandIn fragments old new = StandIn s fragments old → StandIn s fragments new
+
+  -- what is left of a set uses the same variables
+  abbrev pub SettlesSet : SelectionSet → SelectionSet → Type 0
+  SettlesSet whole left = LeavesOfTyped s (typed_set_tree whole) (typed_set_tree left) × UsesAll (meant_of_set (typed_set_tree left)) (meant_of_set (typed_set_tree whole))

@@ -3,12 +3,11 @@ use Rattle.std.specs.Prelude.{◌≡◌, ◌++◌, ◌∷◌, List, [], map, fol
 use Rattle.std.specs.Borrow.{Bor}
 use Rattle.graphql_names.specs.NameValue.{NameValue}
 use Rattle.graphql_names.specs.Placed.{Place}
-use Rattle.schema_types.specs.SchemaTree.{SchemaTree}
 use Rattle.document_typed_selections.specs.TypedTree.{TypedSelection, TypedField, TypedSpread, TypedInline, TypedSet, typed_set, TypedSelections, no_typed, typed_then, typed_selection_tree, typed_set_tree}
 use Rattle.document_typed_selections.specs.declared.selection.Selection.{Selection}
 use Rattle.document_typed_selections.specs.declared.selection.SelectionSet.{SelectionSet}
 use Rattle.document_meaning.specs.MeantTree.{meant, meant_of_set}
-use Rattle.rule_selections.specs.Settled.{LeavesBelow, LeavesOfTyped}
+use Rattle.rule_selections.specs.Settled.{Terms, LeavesBelow, LeavesOfTyped}
 use Rattle.rule_selections.specs.Telling.{KeepsSelection}
 
 -- the set of a selection; a spread has none
@@ -52,7 +51,7 @@ waiting_sets sets = last_first (λ (v : Bor SelectionSet). typed_set_tree v.now)
 abbrev pub thin_sets : List SelectionSet → List (TypedSet Place)
 thin_sets sets = last_first typed_set_tree sets
 
-module _ (s : SchemaTree Place) where
+module _ (s : Terms) where
   -- the second ones begin with what is left of the first ones, in order
   abbrev pub AreLeft : List (TypedSet Place) → List (TypedSet Place) → Type 0
   AreLeft [] ws = Unit {0}
@@ -78,5 +77,5 @@ module _ (s : SchemaTree Place) where
 -- for what is left of the set of a selection, if it has one
 abbrev pub TakesBelow : Selection → Option SelectionSet → (old new : List SelectionSet) → Type 0
 TakesBelow selection below old new =
-    (s : SchemaTree Place)
+    (s : Terms)
     → Takes s (own_sets (typed_selection_tree selection)) old new (MatchOption below (Unit {0}) (λ left. LeavesBelow s (meant (typed_selection_tree selection)) (meant_of_set (typed_set_tree left))))

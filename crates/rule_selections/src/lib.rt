@@ -6,18 +6,22 @@
 //! What is reached in a typed document, or in a typed field set, is typed (`proofs/TypedReached.antt`).
 //!
 //! What operations share is judged once: `settled_fragments` gives what replaces the fragments of a document (`StandIn` of
-//! `specs/Settled.antt`), each without those of its selections, at any depth, of which nothing is told, whatever the variables.
-//! So a walk from an operation does not meet them, and the same is told (`proofs/SameFaults.antt`).
+//! `specs/Settled.antt`), each without those of its selections, at any depth, of which nothing is told, under the variables that
+//! all operations define alike, and which use no variable but those that what is left of the fragment uses. So a walk from an
+//! operation does not meet them, and the same is told (`proofs/SameFaults.antt`).
 //!
-//! Begin with `selections.rt`, then `fields.rt`; `settled.rt`, then `thinned.rt`, `within.rt` and `quiet.rt`.
+//! Begin with `selections.rt`, then `fields.rt`; `settled.rt`, then `thinned.rt`, `within.rt`, `quiet.rt`,
+//! `common.rt` and `used.rt`.
 #![tactic(auto)]
 
 mod alone;
+mod common;
 mod fields;
 mod quiet;
 mod selections;
 mod settled;
 mod thinned;
+mod used;
 mod within;
 
 pub use alone::check_selections_alone;

@@ -1,28 +1,42 @@
-//! Whether of a selection by itself nothing is told, whatever the variables of an operation.
+//! Whether of a selection by itself nothing is told, whatever operation reaches it.
 ghost use Rattle.std.specs.Prelude.{◌≡◌, ◌↔◌, [], IfOk, IsTrue};
-ghost use Rattle.graphql_schema.specs.SchemaOf.{schema_tree};
-ghost use Rattle.document_typed_selections.specs.TypedTree.{typed_selection_tree};
-ghost use Rattle.document_meaning.specs.MeantTree.{meant};
 ghost use Rattle.fault_data.specs.FaultView.{faults_of};
-ghost use Rattle.rule_selections.specs.Settled.{enters_none, IsQuiet};
-ghost use Rattle.rule_selections.specs.Telling.{member_there};
+ghost use Rattle.rule_selections.specs.Settled.{EntersOnly, IsNoted, IsQuiet};
+ghost use Rattle.rule_selections.specs.Telling.{member_there, terms_of, IsRight};
 
+use crate::common::Common;
 use crate::selections::check_selection;
+use crate::used::uses_new;
 use document_typed_selections::Selection;
-use rule_uses::{DefinedVariables, Fault, IndexedSchema};
+use graphql_names::Name;
+use indexmap::IndexSet;
+use rule_document_ground::has_name;
+use rule_uses::Fault;
 use std::alloc::{AllocError, Global};
 use tree_literals::NamedType;
 
-/// Whether the selection enters no fragment that is on a type of its own: it is no spread, and no inline fragment with a
-/// condition.
-#[tactic(auto, using(crate::proofs::Members::entering_rules))]
-fn enters_none(selection: &Selection) -> bool
-    ensures { result ≡ enters_none (meant (typed_selection_tree selection.now)) }
+/// Whether an inline fragment with that condition is known to apply in sets on that type.
+fn applies(common: &Common<'_>, ty: &Name, condition: &Name) -> bool
+    ensures { IsTrue result → IsNoted common.now.applying.now ty.now.text condition.now.text }
+{
+    match common.applying.get(ty) {
+        None => false,
+        Some(conditions) => has_name(conditions, condition),
+    }
+}
+
+/// Whether the selection of a set on that type enters no fragment, or an inline one without a condition, or with one that
+/// applies there.
+fn enters_well(common: &Common<'_>, ty: &NamedType, selection: &Selection) -> bool
+    ensures { IsTrue result → EntersOnly (IsNoted common.now.applying.now) (member_there ty.now selection.now) }
 {
     match selection {
         Selection::Field(_) => true,
         Selection::FragmentSpread(_) => false,
-        Selection::InlineFragment(node) => node.content().type_condition.is_none(),
+        Selection::InlineFragment(node) => match &node.content().type_condition {
+            None => true,
+            Some(condition) => applies(common, ty, condition),
+        },
     }
 }
 
@@ -33,21 +47,45 @@ fn is_nothing(faults: &Vec<Fault>) -> bool
     faults.is_empty()
 }
 
-/// Whether the selection itself, under that type, breaks no rule where there are no variables, and enters no fragment on a type
-/// of its own; what it selects is not judged. So it uses no variable, and breaks none in any operation.
-pub(crate) fn is_quiet(
+/// Whether the selection itself, under that type, breaks no rule where there are the common variables, and enters a fragment
+/// only where that applies; what it selects is not judged. So it breaks none in any operation.
+fn is_quiet(
     alloc: Global,
-    schema: &IndexedSchema<'_>,
+    common: &Common<'_>,
     ty: &NamedType,
     selection: &Selection,
 ) -> Result<bool, AllocError>
-    ensures { IfOk result (λ b. IsTrue b → IsQuiet (schema_tree schema.now) (member_there ty.now selection.now)) }
+    requires { IsRight common.now }
+    ensures { IfOk result (λ b. IsTrue b → IsQuiet (terms_of common.now) (member_there ty.now selection.now)) }
 {
-    if !enters_none(selection) {
+    if !enters_well(common, ty, selection) {
         return Ok(false);
     }
     let mut faults = Vec::new(alloc);
-    let variables = DefinedVariables::listed(&[]);
-    check_selection(schema, ty, selection, &variables, &mut faults)?;
+    check_selection(
+        common.schema,
+        ty,
+        selection,
+        common.variables,
+        &mut faults,
+    )?;
     Ok(is_nothing(&faults))
+}
+
+/// Whether that holds of a selection that may be left out: its own variables are used by what stays. They are noted, so a
+/// selection that uses a variable first stays.
+pub(crate) fn may_go(
+    alloc: Global,
+    common: &Common<'_>,
+    ty: &NamedType,
+    selection: &Selection,
+    used: &mut IndexSet<Name>,
+) -> Result<bool, AllocError>
+    requires { IsRight common.now }
+    ensures { IfOk result (λ b. IsTrue b → IsQuiet (terms_of common.now) (member_there ty.now selection.now)) }
+{
+    if !is_quiet(alloc, common, ty, selection)? {
+        return Ok(false);
+    }
+    Ok(!uses_new(selection, used)?)
 }

@@ -2,19 +2,19 @@
 //! without recursion, so it takes the same stack at any depth.
 ghost use Rattle.std.specs.Prelude.{◌≡◌, IfOk, IsTrue, OnOk, None};
 ghost use Rattle.graphql_names.specs.Placed.{name_tree};
-ghost use Rattle.graphql_schema.specs.SchemaOf.{schema_tree};
 ghost use Rattle.document_typed_selections.specs.TypedTree.{typed_selection_tree, typed_set_tree};
 ghost use Rattle.document_typed_selections.specs.TypedParts.{bare_inline, typed_field_node, typed_inline_node};
 ghost use Rattle.document_meaning.specs.MeantTree.{meant, meant_of_set};
 ghost use Rattle.rule_selections.specs.Settled.{filled, with_left, LeavesOfTyped};
-ghost use Rattle.rule_selections.specs.Telling.{SettlesIfLeft};
+ghost use Rattle.rule_selections.specs.Telling.{terms_of, IsRight, SettlesIfLeft};
 ghost use Rattle.rule_selections.specs.Within.{TakesBelow, TakesKept, TakesThinned, AreThinned};
 
-use crate::quiet::is_quiet;
+use crate::common::Common;
+use crate::quiet::may_go;
 use crate::within::sets_within;
 use document_typed_selections::{Field, InlineFragment, Selection, SelectionSet};
-use graphql_names::Node;
-use rule_uses::IndexedSchema;
+use graphql_names::{Name, Node};
+use indexmap::IndexSet;
 use std::alloc::{AllocError, Global};
 use tree_literals::{NamedType, copies_of_three, copies_of_two};
 
@@ -102,19 +102,21 @@ fn selection_with(
     }
 }
 
-/// Whether nothing is told of the selection of a set on that type, of whose own set this is left: nothing is left of that, and
-/// the selection itself is quiet.
+/// Whether the selection of a set on that type may be left out, of whose own set this is left: nothing is left of that, nothing
+/// is told of the selection itself, and its variables are used by what stays, as these are.
 fn is_settled(
-    alloc: Global,
-    schema: &IndexedSchema<'_>,
+    common: &Common<'_>,
     ty: &NamedType,
     selection: &Selection,
     left: &SelectionSet,
+    used: &mut IndexSet<Name>,
 ) -> Result<bool, AllocError>
-    ensures { IfOk result (λ b. IsTrue b → SettlesIfLeft (schema_tree schema.now) ty.now selection.now left.now) }
+    requires { IsRight common.now }
+    ensures { IfOk result (λ b. IsTrue b → SettlesIfLeft (terms_of common.now) ty.now selection.now left.now) }
 {
     if left.is_empty() {
-        return is_quiet(alloc, schema, ty, selection);
+        let alloc = *used.allocator();
+        return may_go(alloc, common, ty, selection, used);
     }
     Ok(false)
 }
@@ -131,22 +133,24 @@ fn left_below(selection: &Selection, thin: &mut Vec<SelectionSet>) -> Option<Sel
 
 /// Puts what stays of a selection of a set on that type last, unless nothing is told of it, and of all that it selects.
 fn keep_unless_settled(
-    alloc: Global,
-    schema: &IndexedSchema<'_>,
+    common: &Common<'_>,
     ty: &NamedType,
     selection: &Selection,
     thin: &mut Vec<SelectionSet>,
+    used: &mut IndexSet<Name>,
     kept: &mut SelectionSet,
 ) -> Result<(), AllocError>
-    ensures { OnOk result (TakesKept (schema_tree schema.now) ty.now selection.now thin.old.items thin.new.items kept.old kept.new) }
+    requires { IsRight common.now }
+    ensures { OnOk result (TakesKept (terms_of common.now) ty.now selection.now thin.old.items thin.new.items kept.old kept.new) }
 {
     let Some(left) = left_below(selection, thin) else {
         kept.push(selection.clone()?)?;
         return Ok(());
     };
-    if is_settled(alloc, schema, ty, selection, &left)? {
+    if is_settled(common, ty, selection, &left, used)? {
         return Ok(());
     }
+    let alloc = *thin.allocator();
     kept.push(selection_with(alloc, selection, left)?)?;
     Ok(())
 }
@@ -154,15 +158,17 @@ fn keep_unless_settled(
 /// What is left of a set. What is left of the sets of its selections is taken from these: that of the first one is the last.
 fn thinned_set(
     alloc: Global,
-    schema: &IndexedSchema<'_>,
+    common: &Common<'_>,
     set: &SelectionSet,
     thin: &mut Vec<SelectionSet>,
+    used: &mut IndexSet<Name>,
 ) -> Result<SelectionSet, AllocError>
-    ensures { IfOk result (λ r. TakesThinned (schema_tree schema.now) set.now r thin.old.items thin.new.items) }
+    requires { IsRight common.now }
+    ensures { IfOk result (λ r. TakesThinned (terms_of common.now) set.now r thin.old.items thin.new.items) }
 {
     let mut kept = SelectionSet::new(alloc, set.ty.clone()?);
     for selection in &set.selections {
-        keep_unless_settled(alloc, schema, &set.ty, selection, thin, &mut kept)?;
+        keep_unless_settled(common, &set.ty, selection, thin, used, &mut kept)?;
     }
     Ok(kept)
 }
@@ -171,30 +177,34 @@ fn thinned_set(
 /// end there is one for each that is in no other, the first one last.
 fn thinned_sets<'doc>(
     alloc: Global,
-    schema: &IndexedSchema<'_>,
+    common: &Common<'_>,
     mut sets: Vec<&'doc SelectionSet>,
 ) -> Result<Vec<SelectionSet>, AllocError>
-    ensures { IfOk result (λ thin. AreThinned (schema_tree schema.now) sets.entry.items thin.items) }
+    requires { IsRight common.now }
+    ensures { IfOk result (λ thin. AreThinned (terms_of common.now) sets.entry.items thin.items) }
 {
     let mut thin = Vec::new(alloc);
+    let mut used = IndexSet::new(alloc);
     while let Some(next) = sets.pop() {
-        let set = thinned_set(alloc, schema, next, &mut thin)?;
+        let set = thinned_set(alloc, common, next, &mut thin, &mut used)?;
         thin.push(set)?;
     }
     Ok(thin)
 }
 
-/// The set without those of its selections, at any depth, of which nothing is told: they break no rule whatever the variables,
-/// and neither they nor what they select enters a fragment on a type of its own. A field keeps some selection if it has any.
+/// The set without those of its selections, at any depth, of which nothing is told: they break no rule under the common variables,
+/// and neither they nor what they select enters a fragment but where that applies. A field keeps some selection if it has any.
+/// The first use of each variable should stay: that is not promised.
 pub(crate) fn thinned(
     alloc: Global,
-    schema: &IndexedSchema<'_>,
+    common: &Common<'_>,
     set: &SelectionSet,
 ) -> Result<SelectionSet, AllocError>
-    ensures { IfOk result (λ r. LeavesOfTyped (schema_tree schema.now) (typed_set_tree set.now) (typed_set_tree r)) }
+    requires { IsRight common.now }
+    ensures { IfOk result (λ r. LeavesOfTyped (terms_of common.now) (typed_set_tree set.now) (typed_set_tree r)) }
 {
     let sets = sets_within(alloc, set)?;
-    let mut thin = thinned_sets(alloc, schema, sets)?;
+    let mut thin = thinned_sets(alloc, common, sets)?;
     match thin.pop() {
         Some(whole) => Ok(whole),
         None => set.clone(),

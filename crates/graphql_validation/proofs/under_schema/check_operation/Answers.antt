@@ -38,10 +38,10 @@ returns-clause-told c =
     (λ h d in' typed possible.
     let other = instead_of d fs in
     let reaches = reached_instead d c.args.fragments.now c.args.operation.now r c.content.result.now c.content.ensures c.in_ok-reach.ensures in
-    gains_same old new (λ f. told_instead s d fs in' o typed f)
+    gains_same old new (λ f. told_instead s d fs o in' typed f)
     (gains_both old alone new (c.in_ok-check_variables_alone.ensures (place_or_built_in s) other reaches)
     (gains_both alone variables new c.in_ok-check_variables.ensures
-    (gains_both variables selections new (c.in_ok-check_selections.ensures other reaches (typed_instead s d fs in' o typed))
+    (gains_both variables selections new (c.in_ok-check_selections.ensures other reaches (typed_instead s d fs o in' typed))
     (gains_both selections spreads new (c.in_ok-check_spreads.ensures other o reaches refl) (applications other o reaches refl possible))))))
     c.note_fragments.ensures
 
@@ -57,7 +57,7 @@ returns-clause-noted c =
     (λ h d in'.
     let other = instead_of d fs in
     let reaches = reached_instead d c.args.fragments.now c.args.operation.now r c.content.result.now c.content.ensures c.in_ok-reach.ensures in
-    notes_same (λ x n. ReachesNamed other x n) old new (ReachesNamed other o) (ReachesNamed d o) (named_instead s d fs in' o) (fragments_noted other o (reached_members r) (reached_fragments_of r) reaches old new h))
+    notes_same (λ x n. ReachesNamed other x n) old new (ReachesNamed other o) (ReachesNamed d o) (named_instead s d fs o in') (fragments_noted other o (reached_members r) (reached_fragments_of r) reaches old new h))
     c.note_fragments.ensures
 
 pub returns-clause-right : goal.returns-clause-right

@@ -44,9 +44,9 @@ loop-operation-preserved c =
     let among = lent_among at.yielded x (operations d) left rest c.in-Some.ensures.steps at.invariant.3 in (
       λ in' typed possible. each_more (λ o. OperationFails d o s) (λ (o : MeantOperation Place) (f g : PlacedFault). f ≡ g) {Right = λ f. AtOperation d (λ o. OperationFails d o s f)} (faults_of c.args.found.now.faults) mid new before behind (lent_operation x)
           (one_behind at.yielded x) (at.invariant.0 in' typed possible)
-          (exactly_one (λ o. OperationFails d o s) mid new (operations d) (lent_operation x) among (c.in_ok-check_operation.ensures.told d in' (typed (lent_operation x) among) (at.invariant.2 possible))),
+          (exactly_one (λ o. OperationFails d o s) mid new (operations d) (lent_operation x) among (c.in_ok-check_operation.ensures.told d (in' (lent_operation x) among) (typed (lent_operation x) among) (at.invariant.2 possible))),
       λ in'. notes_more (λ o n. ReachesNamed d o n) (noted_names c.args.found.now.used) (noted_names at.found.used) (noted_names c.check_operation.new.found.used) before behind (lent_operation x)
-          (one_behind at.yielded x) (at.invariant.1 in') (c.in_ok-check_operation.ensures.noted d in'),
+          (one_behind at.yielded x) (at.invariant.1 in') (c.in_ok-check_operation.ensures.noted d (in' (lent_operation x) among)),
       λ possible. c.in_ok-check_operation.ensures.right (at.invariant.2 possible),
       lent_more at.yielded x (operations d) left rest c.in-Some.ensures.steps at.invariant.3,
     )

@@ -1,7 +1,7 @@
 use Rattle.rule_field_groups.specs.Grouped.{lists_of}
 use Rattle.rule_field_groups.specs.KeyGroups.{filed_name}
 use Rattle.std.proofs.Common.{◌∷◌, [], List, sym, subst}
-use Rattle.std.proofs.lemmas.Result.{if_ok_weaker}
+use Rattle.std.proofs.lemmas.Result.{IfOk-weaker}
 use Rattle.rule_field_sets.specs.declared.member.Member.{Member}
 use Rattle.rule_field_groups.specs.Grouped.{AreFiled}
 use Rattle.rule_field_groups.proofs.OneGroup.{one_filed}
@@ -16,4 +16,4 @@ returns-clause-filed c =
 pub returns-then-is_one_group-clause-filed : goal.returns-then-is_one_group-clause-filed
 returns-then-is_one_group-clause-filed c =
     let name = filed_name c.args.filing in
-    if_ok_weaker c.one_group.result (λ is. subst (AreFiled name c.args.list.now) (sym is) (one_filed name c.args.list.now (c.is_one_group.ensures c.if-is_one_group.true))) c.one_group.ensures
+    IfOk-weaker c.one_group.result (λ is. subst (AreFiled name c.args.list.now) (sym is) (one_filed name c.args.list.now (c.is_one_group.ensures c.if-is_one_group.true))) c.one_group.ensures

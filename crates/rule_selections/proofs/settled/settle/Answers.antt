@@ -4,16 +4,16 @@ use Rattle.indexmap.specs.IndexMap.{insert_entry}
 use Rattle.schema_components.specs.Names.{same_text}
 use Rattle.schema_types.specs.TypeView.{name_text}
 use Rattle.schema_types.specs.Addresses.{under}
-use Rattle.graphql_schema.specs.SchemaOf.{schema_tree}
 use Rattle.rule_document_ground.specs.Reach.{meant_fragments}
 use Rattle.rule_document_ground.proofs.Found.{meant_node, found_under}
 use Rattle.rule_selections.specs.Settled.{fragment_meant}
+use Rattle.rule_selections.specs.Telling.{terms_of}
 use Rattle.rule_selections.proofs.Standing.{meant_entries, Replaced, replaced, stand_in_more}
 use Rattle.rule_selections.proofs.settled.settle.Goals as goal
 
 pub returns : goal.returns
 returns c = λ in'.
-    let s = schema_tree c.args.schema.now in
+    let s = terms_of c.args.common.now in
     let fs = meant_fragments c.args.fragments.now in
     let name = c.args.name.now in
     let f = c.in-Some.fragment.now in

@@ -1,24 +1,24 @@
 use Rattle.std.proofs.Common.{refl, inl, inr}
-use Rattle.graphql_schema.specs.SchemaOf.{schema_tree}
 use Rattle.document_typed_selections.specs.TypedTree.{typed_selection_tree, typed_set_tree}
 use Rattle.document_meaning.specs.MeantTree.{meant, meant_of_set}
+use Rattle.rule_selections.specs.Telling.{terms_of}
 use Rattle.rule_selections.proofs.Leaving.{stays_with}
 use Rattle.rule_selections.proofs.SetsWithin.{stays_whole, stays_by}
 use Rattle.rule_selections.proofs.thinned.keep_unless_settled.Goals as goal
 
 pub returns-in_default : goal.returns-in_default
 returns-in_default c =
-    stays_whole (schema_tree c.args.schema.now) c.args.ty.now c.args.selection.now c.in_ok-clone.field-0 c.left_below.result c.args.thin.now.items c.left_below.new.thin.items c.args.kept.now c.push.new.self
+    stays_whole (terms_of c.args.common.now) c.args.ty.now c.args.selection.now c.in_ok-clone.field-0 c.left_below.result c.args.thin.now.items c.left_below.new.thin.items c.args.kept.now c.push.new.self
     c.left_below.ensures c.in_ok-clone.ensures.cases c.in_ok-push.ensures.set
 
 pub returns-then-branch : goal.returns-then-branch
 returns-then-branch c =
-    stays_by (schema_tree c.args.schema.now) c.args.ty.now c.args.selection.now c.left_below.result c.in-Some.left c.args.thin.now.items c.left_below.new.thin.items c.args.kept.now c.args.kept.now
+    stays_by (terms_of c.args.common.now) c.args.ty.now c.args.selection.now c.left_below.result c.in-Some.left c.args.thin.now.items c.left_below.new.thin.items c.args.kept.now c.args.kept.now
     c.left_below.ensures c.in-Some.is (λ l. inr (refl, c.in_ok-is_settled.ensures c.if-branch.true l))
 
 pub returns : goal.returns
 returns c =
-    let s = schema_tree c.args.schema.now in
+    let s = terms_of c.args.common.now in
     let x = meant (typed_selection_tree c.args.selection.now) in
     let y = typed_selection_tree c.in_ok-selection_with.field-0 in
     let left = meant_of_set (typed_set_tree c.in-Some.left) in

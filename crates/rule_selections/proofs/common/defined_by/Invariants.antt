@@ -1,0 +1,6 @@
+use Rattle.rule_uses.specs.in_rule_values.Wanting.{variables_of}
+use Rattle.rule_selections.specs.Settled.{AreThoseDefined}
+use Rattle.rule_selections.proofs.common.defined_by.Given as goal
+
+abbrev pub invariant-loop-variable : goal.invariant-loop-variable
+invariant-loop-variable l = AreThoseDefined (variables_of l.variables) (variables_of l.common) (variables_of l.kept.items)
