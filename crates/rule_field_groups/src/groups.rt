@@ -282,8 +282,8 @@ fn on_one_parent<'doc>(
     let early = fields.len();
     let mut own = Vec::with_capacity(alloc, 1)?;
     own.push(OwnFields { fields, early })?;
-    let shared = Vec::new(alloc);
-    Ok(KeyGroup { shared, own })
+    let none = Vec::new(alloc);
+    Ok(KeyGroup { shared: none, own })
 }
 
 /// The fields of one key by their parents ("the parent types are equal or either is not an Object Type").

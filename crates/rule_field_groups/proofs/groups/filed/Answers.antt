@@ -16,4 +16,4 @@ returns-clause-filed c =
 pub returns-then-is_one_group-clause-filed : goal.returns-then-is_one_group-clause-filed
 returns-then-is_one_group-clause-filed c =
     let name = filed_name c.args.filing in
-    IfOk-weaker c.one_group.result (λ is. subst (AreFiled name c.args.list.now) (sym is) (one_filed name c.args.list.now (c.is_one_group.ensures c.if-is_one_group.true))) c.one_group.ensures
+    IfOk-weaker c.one_group.result _ _ (λ groups is. subst (AreFiled name c.args.list.now) (sym is) (one_filed name c.args.list.now (c.is_one_group.ensures c.if-is_one_group.true))) c.one_group.ensures

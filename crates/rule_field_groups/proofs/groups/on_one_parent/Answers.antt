@@ -20,6 +20,6 @@ returns-clause-parents c =
     let s = judged (schema_tree c.args.schema.now) in
     let first : Contains c.args.list.now c.index-list-0.result = (0, c.requires.1.0, sym c.index-list-0.is) in
     let one : OwnFields = record { fields = c.in_ok-fields.fields; early = c.len-early.result } in
-    group_on_object s c.args.list.now c.requires (parent_of c.index-list-0.result) (c.index-list-0.result, (first, refl)) (record { shared = c.new-shared.result; own = c.push.new.self })
-    (ap (λ (x : Member). is_abstract s (parent_of x)) c.index-list-0.is ∙ sym c.is_abstract.ensures ∙ c.if-is_abstract.false) c.new-shared.ensures.items
+    group_on_object s c.args.list.now c.requires (parent_of c.index-list-0.result) (c.index-list-0.result, (first, refl)) (record { shared = c.new-none.result; own = c.push.new.self })
+    (ap (λ (x : Member). is_abstract s (parent_of x)) c.index-list-0.is ∙ sym c.is_abstract.ensures ∙ c.if-is_abstract.false) c.new-none.ensures.items
     (ap (map (λ (o : OwnFields). o.fields.items)) (c.in_ok-push.ensures.items ∙ ap (λ (l : List OwnFields). l ++ one ∷ []) c.in_ok-own.ensures.items) ∙ ap (λ l. l ∷ []) c.in_ok-fields.ensures.items)
