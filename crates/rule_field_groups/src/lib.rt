@@ -26,8 +26,8 @@ mod pass;
 mod remembered;
 mod shapes;
 
-pub use below::lists_below;
-pub use conflicts::{Breach, check_key_group};
+pub use below::{lists_below, push_below};
+pub use conflicts::{Breach, check_group, check_key_group};
 pub use groups::{KeyGroup, groups_of};
 pub use node_walk::{MergedList, Toll, merged_list};
 pub use nodes::{node_of, starts_of};
