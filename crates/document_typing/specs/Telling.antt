@@ -1,6 +1,7 @@
 -- Private: leads to `KeptSelections.antt`, `TypingFaults.antt` and `DefinedByPlace.antt`. What is kept and told of selections as the program has them.
-use Rattle.std.specs.Prelude.{◌≡◌, ◌++◌, ◌∷◌, [], ℕ, List, Option, Vec}
-use Rattle.std.specs.Option.{option_map}
+use Rattle.std.specs.Prelude.{◌≡◌, ◌++◌, ◌∷◌, [], ℕ, Bool, false, List, Option, Vec, option_and_then}
+use Rattle.std.specs.Borrow.{Bor}
+use Rattle.std.specs.Option.{option_map, option_map_or}
 use Rattle.std.specs.declared.alloc.Global.{Global}
 use Rattle.graphql_names.specs.Node.{content, place}
 use Rattle.graphql_names.specs.NameValue.{NameValue}
@@ -13,7 +14,10 @@ use Rattle.tree_operations.specs.declared.selection.FragmentSpread.{FragmentSpre
 use Rattle.tree_operations.specs.declared.selection.InlineFragment.{InlineFragment}
 use Rattle.tree_type_members.specs.TypeSystemTree.{field_definition_tree}
 use Rattle.tree_type_members.specs.declared.field_definition.FieldDefinition.{FieldDefinition}
-use Rattle.schema_types.specs.SchemaTree.{SchemaTree}
+use Rattle.schema_types.specs.SchemaTree.{SchemaTree, is_leaf_kind}
+use Rattle.schema_types.specs.Addresses.{type_at}
+use Rattle.schema_types.specs.TypeView.{extended_type}
+use Rattle.schema_types.specs.declared.extended_type.ExtendedType.{ExtendedType}
 use Rattle.document_typed_selections.specs.TypedTree.{typed_set_tree}
 use Rattle.document_typed_selections.specs.declared.selection.Selection.{Selection}
 use Rattle.document_typed_selections.specs.declared.selection.SelectionSet.{SelectionSet}
@@ -36,6 +40,14 @@ schema_for typing = schema_under typing.schema
 
 abbrev pub meanings_for : Typing → Meanings
 meanings_for typing = meanings_under typing.schema
+
+-- this is the type of that name of the schema; without a schema there is none
+abbrev pub IsTypeUnder : Option (SchemaTree Place) → List ℕ → Option (Bor ExtendedType) → Type 0
+IsTypeUnder schema n ty = option_map (λ t. extended_type t.now) ty ≡ option_and_then (λ s. type_at s n) schema
+
+-- values of the type have no fields
+abbrev pub is_leaf_type : Option (Bor ExtendedType) → Bool
+is_leaf_type ty = option_map_or (λ t. is_leaf_kind (extended_type t.now).kind) ty false
 
 -- ---- what is told
 

@@ -6,6 +6,7 @@ ghost use Rattle.graphql_names.specs.Node.{content};
 ghost use Rattle.graphql_names.specs.Placed.{name_tree, node_tree};
 ghost use Rattle.tree_type_members.specs.TypeSystemTree.{field_definition_tree, unplaced_field_definition};
 ghost use Rattle.schema_types.specs.Plain.{plain, plain_type};
+ghost use Rattle.schema_types.specs.Addresses.{type_at};
 ghost use Rattle.schema_types.specs.TypeView.{extended_type};
 ghost use Rattle.graphql_schema.specs.SchemaOf.{schema_tree};
 ghost use Rattle.tree_operations.specs.OperationQueries.{default_root_name};
@@ -14,7 +15,7 @@ ghost use Rattle.document_typing.specs.KeptSelections.{is_leaf};
 ghost use Rattle.document_typing.specs.DefinedField.{definition_view};
 ghost use Rattle.document_typing.specs.DefinedByPlace.{unknown_field};
 ghost use Rattle.document_typing.specs.MeaningView.{schema_under, meanings_under};
-ghost use Rattle.document_typing.specs.Telling.{IsDefinitionNamed};
+ghost use Rattle.document_typing.specs.Telling.{IsTypeUnder, is_leaf_type, IsDefinitionNamed};
 
 use graphql_names::{Name, Node};
 use graphql_schema::Schema;
@@ -28,9 +29,24 @@ use tree_type_members::FieldDefinition;
 /// The type of that name, if there is one: what a schema without places has under the name.
 // The call of the schema with another contract: typing knows a schema by what it says without places.
 fn type_named<'schema>(schema: &'schema Schema, name: &Name) -> Option<&'schema ExtendedType>
-    ensures { option_map (λ t. plain_type (extended_type t.now)) result ≡ fin.get (plain (schema_tree schema.now)).types name.now.text }
+    ensures found { option_map (λ t. extended_type t.now) result ≡ type_at (schema_tree schema.now) name.now.text }
+    ensures unplaced { option_map (λ t. plain_type (extended_type t.now)) result ≡ fin.get (plain (schema_tree schema.now)).types name.now.text }
 {
     schema.type_named(name)
+}
+
+/// The type of that name, if there is a schema that has one. It is looked up once a set: the name may be long.
+pub(crate) fn type_under<'schema>(
+    schema: Option<&'schema Schema>,
+    name: &Name,
+) -> Option<&'schema ExtendedType>
+    ensures found { IsTypeUnder (schema_under schema.entry) name.now.text result }
+    ensures leaf { is_leaf_type result ≡ is_leaf (meanings_under schema.entry) name.now.text }
+{
+    match schema {
+        None => None,
+        Some(schema) => type_named(schema, name),
+    }
 }
 
 /// Whether a type of that name is there. Without a schema each is.
@@ -56,16 +72,13 @@ pub(crate) fn is_scalar(schema: Option<&Schema>, name: &Name) -> bool
     }
 }
 
-/// Whether values of the type of that name have no fields: it is a scalar or an enum. Without a schema none is.
-pub(crate) fn is_leaf(schema: Option<&Schema>, name: &Name) -> bool
-    ensures { result ≡ is_leaf (meanings_under schema.entry) name.now.text }
+/// Whether values of the type have no fields: it is a scalar or an enum. Without a schema none is.
+pub(crate) fn is_leaf(ty: Option<&ExtendedType>) -> bool
+    ensures { result ≡ is_leaf_type ty.entry }
 {
-    match schema {
+    match ty {
         None => false,
-        Some(schema) => match type_named(schema, name) {
-            None => false,
-            Some(ty) => ty.is_scalar() || ty.is_enum(),
-        },
+        Some(ty) => ty.is_scalar() || ty.is_enum(),
     }
 }
 
@@ -85,25 +98,30 @@ fn unknown_field(alloc: Global, name: &Name) -> Result<Node<FieldDefinition>, Al
     Ok(Node::new(alloc, definition)?)
 }
 
-/// The definition of the field of that name on the type of that name, if there is one. It is shared with the schema;
-/// without a schema each field has one.
+/// The definition of the field of that name on the type of that name, which is the one given, if there is one. It is shared
+/// with the schema; without a schema each field has one.
 // It is not inlined, so that what it holds takes no stack at each level of selections.
 #[inline(never)]
 pub(crate) fn definition_of(
     alloc: Global,
     schema: Option<&Schema>,
     type_name: &Name,
+    ty: Option<&ExtendedType>,
     field_name: &Name,
 ) -> Result<Option<Node<FieldDefinition>>, AllocError>
+    requires { IsTypeUnder (schema_under schema) type_name.now.text ty }
     ensures view { IfOk result (λ r. option_map definition_view r ≡ (meanings_under schema.entry).field type_name.now.text field_name.now.text) }
     ensures defined { IfOk result (λ r. IfSome r (λ d. IsDefinitionNamed (schema_under schema.entry) type_name.now.text field_name.now d)) }
 {
     let Some(schema) = schema else {
         return Ok(Some(unknown_field(alloc, field_name)?));
     };
-    match schema.type_field(type_name, field_name) {
-        Ok(field) => Ok(Some(field.node.clone()?)),
-        Err(_) => Ok(None),
+    let Some(ty) = ty else {
+        return Ok(None);
+    };
+    match schema.field_on(type_name, ty, field_name) {
+        Some(field) => Ok(Some(field.node.clone()?)),
+        None => Ok(None),
     }
 }
 

@@ -1,18 +1,20 @@
 //! The rules of typing on selections: each gives what breaks it. What tells is not inlined, so that it takes no stack at each
 //! level of selections.
-ghost use Rattle.std.specs.Prelude.{◌≡◌, true, OnOk};
+ghost use Rattle.std.specs.Prelude.{◌≡◌, true, not, ◌&&◌, OnOk};
 ghost use Rattle.fault_document_data.specs.DocumentBreaches as breach;
 ghost use Rattle.fault_document_data.specs.DocumentBreachView.{document_breach_of};
 ghost use Rattle.tree_operations.specs.SelectionTree.{selection_tree, selection_trees};
-ghost use Rattle.document_typing.specs.KeptSelections.{is_leaf, may_select};
+ghost use Rattle.tree_operations.specs.OperationWritable.{has_selection};
+ghost use Rattle.document_typing.specs.KeptSelections.{is_leaf};
 ghost use Rattle.document_typing.specs.SetFaults.{leaf_faults};
 ghost use Rattle.document_typing.specs.MeaningView.{meanings_under};
-ghost use Rattle.document_typing.specs.Telling.{Tells, TellsOne};
+ghost use Rattle.document_typing.specs.Telling.{Tells, TellsOne, is_leaf_type};
 
 use crate::look_ups::{is_leaf, is_scalar};
 use fault_document_data::BuildError;
 use graphql_names::{Name, SourceSpan};
 use graphql_schema::Schema;
+use schema_types::ExtendedType;
 use std::alloc::AllocError;
 use tree_operations::Selection;
 
@@ -51,14 +53,10 @@ pub(crate) fn undefined_field(
 }
 
 /// Whether a field of that inner type may select so: on a leaf there is no set (section 5.3.3).
-pub(crate) fn may_select(
-    schema: Option<&Schema>,
-    type_name: &Name,
-    selections: &[Selection],
-) -> bool
-    ensures { result ≡ may_select (meanings_under schema.entry) type_name.now.text (selection_trees selection_tree selections.now) }
+pub(crate) fn may_select(ty: Option<&ExtendedType>, selections: &[Selection]) -> bool
+    ensures { result ≡ not (has_selection (selection_trees selection_tree selections.now) && is_leaf_type ty.entry) }
 {
-    selections.is_empty() || !is_leaf(schema, type_name)
+    selections.is_empty() || !is_leaf(ty)
 }
 
 /// SubselectionOnScalarType: a field whose values are scalars is valid only if it selects nothing (section 5.3.3).

@@ -13,10 +13,10 @@ ghost use Rattle.document_typing.specs.SetFaults.{selection_faults, set_faults};
 ghost use Rattle.document_typing.specs.DefinedField.{definition_view, kept_defined, defined_faults};
 ghost use Rattle.document_typing.specs.DefinedByPlace.{IsDefinedSet};
 ghost use Rattle.document_typing.specs.SetView.{given_set};
-ghost use Rattle.document_typing.specs.Telling.{schema_for, meanings_for, Tells, Keeps, StayDefined, StayDefinedWith};
+ghost use Rattle.document_typing.specs.Telling.{schema_for, meanings_for, IsTypeUnder, Tells, Keeps, StayDefined, StayDefinedWith};
 
 use crate::keep::{keep_field, keep_inline, keep_spread};
-use crate::look_ups::{definition_of, has_type, inner_name};
+use crate::look_ups::{definition_of, has_type, inner_name, type_under};
 use crate::rules::{
     may_select, subselection_on_leaf, undefined_field,
     undefined_type_in_inline_fragment_type_condition,
@@ -25,12 +25,12 @@ use crate::typing::Typing;
 use document_typed_selections as typed;
 use fault_document_data::BuildError;
 use graphql_names::{Name, Node, SourceSpan};
+use schema_types::ExtendedType;
 use std::alloc::{AllocError, Global};
 use tree_operations::{Field, InlineFragment, Selection};
 use tree_type_members::FieldDefinition;
 
-/// The set on the type of those selections that have a meaning under it, with it; the others are told.
-#[cycle(typing)]
+/// The set on the type of that name of those selections that have a meaning under it, with it; the others are told.
 pub(crate) fn type_set(
     typing: &Typing<'_>,
     type_name: &Name,
@@ -42,9 +42,28 @@ pub(crate) fn type_set(
     ensures defined { IfOk result (λ s. IsDefinedSet (schema_for typing.now) (typed_set_tree s)) }
     ensures faults { OnOk result (Tells faults.old faults.new (set_faults (meanings_for typing.now) (given_set selections.now) type_name.now.text)) }
 {
+    let ty = type_under(typing.schema, type_name);
+    type_set_on(typing, type_name, ty, selections, faults)
+}
+
+/// The set on the type of that name, which is the one given: the type is looked up once a set.
+#[cycle(typing)]
+fn type_set_on(
+    typing: &Typing<'_>,
+    type_name: &Name,
+    ty: Option<&ExtendedType>,
+    selections: &[Selection],
+    faults: &mut Vec<(Option<SourceSpan>, BuildError)>,
+) -> Result<typed::SelectionSet, AllocError>
+    requires { IsTypeUnder (schema_for typing.now) type_name.now.text ty }
+    ensures kept { IfOk result (λ s. IsKeptSet (meanings_for typing.now) type_name.now.text (given_set selections.now) (typed_set_tree s)) }
+    ensures ty { IfOk result (λ s. set_type (typed_set_tree s) ≡ name_tree type_name.now) }
+    ensures defined { IfOk result (λ s. IsDefinedSet (schema_for typing.now) (typed_set_tree s)) }
+    ensures faults { OnOk result (Tells faults.old faults.new (set_faults (meanings_for typing.now) (given_set selections.now) type_name.now.text)) }
+{
     let mut kept = Vec::new(typing.alloc);
     for selection in selections {
-        type_selection(typing, type_name, selection, &mut kept, faults)?;
+        type_selection(typing, type_name, ty, selection, &mut kept, faults)?;
     }
     Ok(typed::SelectionSet {
         ty: type_name.clone()?,
@@ -58,19 +77,21 @@ pub(crate) fn type_set(
 fn type_selection(
     typing: &Typing<'_>,
     parent: &Name,
+    ty: Option<&ExtendedType>,
     selection: &Selection,
     out: &mut Vec<typed::Selection>,
     faults: &mut Vec<(Option<SourceSpan>, BuildError)>,
 ) -> Result<(), AllocError>
+    requires { IsTypeUnder (schema_for typing.now) parent.now.text ty }
     ensures kept { OnOk result (Keeps out.old out.new (kept (meanings_for typing.now) (selection_tree selection.now) parent.now.text)) }
     ensures defined { OnOk result (StayDefined (schema_for typing.now) parent.now.text out.old out.new) }
     ensures faults { OnOk result (Tells faults.old faults.new (selection_faults (meanings_for typing.now) (selection_tree selection.now) parent.now.text)) }
 {
     match selection {
-        Selection::Field(field) => type_field(typing, parent, field, out, faults),
+        Selection::Field(field) => type_field(typing, parent, ty, field, out, faults),
         // Kept whether or not its fragment is there: that is a rule on what was typed.
         Selection::FragmentSpread(spread) => keep_spread(typing.alloc, spread, out),
-        Selection::InlineFragment(inline) => type_inline(typing, parent, inline, out, faults),
+        Selection::InlineFragment(inline) => type_inline(typing, parent, ty, inline, out, faults),
     }
 }
 
@@ -79,10 +100,12 @@ fn type_selection(
 fn type_field(
     typing: &Typing<'_>,
     parent: &Name,
+    ty: Option<&ExtendedType>,
     field: &Node<Field>,
     out: &mut Vec<typed::Selection>,
     faults: &mut Vec<(Option<SourceSpan>, BuildError)>,
 ) -> Result<(), AllocError>
+    requires { IsTypeUnder (schema_for typing.now) parent.now.text ty }
     ensures kept { OnOk result (Keeps out.old out.new (kept (meanings_for typing.now) (field_node_tree field.now) parent.now.text)) }
     ensures defined { OnOk result (StayDefined (schema_for typing.now) parent.now.text out.old out.new) }
     ensures faults { OnOk result (Tells faults.old faults.new (selection_faults (meanings_for typing.now) (field_node_tree field.now) parent.now.text)) }
@@ -90,9 +113,9 @@ fn type_field(
     let tree = field.content();
     // A leaf has a function of its own: nothing that it calls recurs.
     if tree.selection_set.is_empty() {
-        return type_leaf(typing, parent, field, out, faults);
+        return type_leaf(typing, parent, ty, field, out, faults);
     }
-    match definition_of(typing.alloc, typing.schema, parent, &tree.name)? {
+    match definition_of(typing.alloc, typing.schema, parent, ty, &tree.name)? {
         // What it selects is not judged, as the type of its values is not known.
         None => undefined_field(field.location(), parent, &tree.name, faults),
         Some(definition) => type_defined_field(typing, definition, field, out, faults),
@@ -104,17 +127,19 @@ fn type_field(
 fn type_leaf(
     typing: &Typing<'_>,
     parent: &Name,
+    ty: Option<&ExtendedType>,
     field: &Node<Field>,
     out: &mut Vec<typed::Selection>,
     faults: &mut Vec<(Option<SourceSpan>, BuildError)>,
 ) -> Result<(), AllocError>
+    requires found { IsTypeUnder (schema_for typing.now) parent.now.text ty }
     requires leaf { (content field.now).selection_set.items ≡ [] }
     ensures kept { OnOk result (Keeps out.old out.new (kept (meanings_for typing.now) (field_node_tree field.now) parent.now.text)) }
     ensures defined { OnOk result (StayDefined (schema_for typing.now) parent.now.text out.old out.new) }
     ensures faults { OnOk result (Tells faults.old faults.new (selection_faults (meanings_for typing.now) (field_node_tree field.now) parent.now.text)) }
 {
     let name = &field.content().name;
-    match definition_of(typing.alloc, typing.schema, parent, name)? {
+    match definition_of(typing.alloc, typing.schema, parent, ty, name)? {
         None => undefined_field(field.location(), parent, name, faults),
         Some(definition) => {
             let set = empty_set(typing.alloc, inner_name(&definition))?;
@@ -154,14 +179,15 @@ fn type_defined_field(
     ensures faults { OnOk result (Tells faults.old faults.new (defined_faults (meanings_for typing.now) (definition_view definition) field.now)) }
 {
     let inner = inner_name(&definition);
+    let ty = type_under(typing.schema, inner);
     let selections = &field.content().selection_set;
-    if !may_select(typing.schema, inner, selections) {
+    if !may_select(ty, selections) {
         // Where no field is kept the definition is let go by hand: `drop_definition` is not inlined.
         let told = subselection_on_leaf(typing.schema, field.location(), inner, faults);
         drop_definition(definition);
         return told;
     }
-    match type_set(typing, inner, selections, faults) {
+    match type_set_on(typing, inner, ty, selections, faults) {
         Ok(set) => keep_field(typing.alloc, definition, field, set, out),
         Err(error) => {
             drop_definition(definition);
@@ -177,10 +203,12 @@ fn type_defined_field(
 fn type_inline(
     typing: &Typing<'_>,
     parent: &Name,
+    ty: Option<&ExtendedType>,
     inline: &Node<InlineFragment>,
     out: &mut Vec<typed::Selection>,
     faults: &mut Vec<(Option<SourceSpan>, BuildError)>,
 ) -> Result<(), AllocError>
+    requires { IsTypeUnder (schema_for typing.now) parent.now.text ty }
     ensures kept { OnOk result (Keeps out.old out.new (kept (meanings_for typing.now) (inline_node_tree inline.now) parent.now.text)) }
     ensures defined { OnOk result (StayDefined (schema_for typing.now) parent.now.text out.old out.new) }
     ensures faults { OnOk result (Tells faults.old faults.new (selection_faults (meanings_for typing.now) (inline_node_tree inline.now) parent.now.text)) }
@@ -188,7 +216,7 @@ fn type_inline(
     let selections = &inline.content().selection_set;
     match &inline.content().type_condition {
         None => {
-            let set = type_set(typing, parent, selections, faults)?;
+            let set = type_set_on(typing, parent, ty, selections, faults)?;
             keep_inline(typing.alloc, inline, set, out)
         }
         Some(condition) => {
@@ -199,7 +227,8 @@ fn type_inline(
                     faults,
                 );
             }
-            let set = type_set(typing, condition, selections, faults)?;
+            let found = type_under(typing.schema, condition);
+            let set = type_set_on(typing, condition, found, selections, faults)?;
             keep_inline(typing.alloc, inline, set, out)
         }
     }

@@ -1,13 +1,16 @@
 -- What look-ups in a schema answer (GraphQL, October 2021, sections 2.5, 3.4.2, 3.7, 3.8, 4.1 and 4.2).
 use Rattle.std.specs.Prelude.{◌≡◌, ℕ, Bool, false, ◌&&◌, ◌||◌, List, map, Option, None, Some, option_and_then, if◌then◌else◌}
+use Rattle.std.specs.Borrow.{Bor}
 use Rattle.std.specs.Option.{option_map, option_map_or, option_or}
 use Rattle.std.specs.Str.{bytes_eq}
 use Rattle.graphql_names.specs.Placed.{Placed, Place}
 use Rattle.tree_literals.specs.TypeTree.{TypeTree}
 use Rattle.tree_literals.specs.TypeQueries.{inner_name}
-use Rattle.tree_type_members.specs.TypeSystemTree.{FieldDefinitionTree}
+use Rattle.tree_type_members.specs.TypeSystemTree.{FieldDefinitionTree, field_definition_tree}
+use Rattle.tree_type_members.specs.declared.field_definition.FieldDefinition.{FieldDefinition}
 use Rattle.schema_components.specs.Lists.{is_among}
-use Rattle.schema_components.specs.Given.{Given, given_name}
+use Rattle.schema_components.specs.Given.{Given, given_name, component_tree}
+use Rattle.schema_components.specs.declared.component.Component.{Component}
 use Rattle.schema_building.specs.in_schema_types.SchemaTree.{SchemaType, SchemaTree, same_kind}
 use Rattle.schema_building.specs.in_schema_types.Addresses.{under, type_at, root_at}
 use Rattle.schema_building.specs.in_schema_types.TypeView.{extended_type}
@@ -46,6 +49,10 @@ module _ (s : SchemaTree Place) where
   -- the field of that name of a type that stands under the name n: an explicit field comes before a meta-field
   abbrev pub field_on : List ℕ → SchemaType Place → List ℕ → Option (Given Place (Placed Place (FieldDefinitionTree Place)))
   field_on n t m = option_or (under m t.fields) (meta_field_on n t m)
+
+  -- this is what is lent of it
+  abbrev pub IsFieldOn : List ℕ → SchemaType Place → List ℕ → Option (Bor (Component FieldDefinition)) → Type 0
+  IsFieldOn n t m lent = option_map (λ f. component_tree field_definition_tree f.now) lent ≡ field_on n t m
 
   -- the field of that name of the type of that name: the explicit one, else the meta-field
   abbrev pub field_named : List ℕ → List ℕ → Option (Given Place (Placed Place (FieldDefinitionTree Place)))

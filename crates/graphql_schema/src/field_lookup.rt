@@ -6,7 +6,7 @@ ghost use Rattle.schema_building.specs.in_schema_types.Addresses.{under};
 ghost use Rattle.schema_building.specs.in_schema_types.TypeView.{extended_type};
 ghost use Rattle.graphql_schema.specs.SchemaOf.{schema_tree};
 ghost use Rattle.graphql_schema.specs.FieldView.{lent_field};
-ghost use Rattle.graphql_schema.specs.LookUps.{is_query_root, field_on, IsFieldNamed, FieldIsMissing};
+ghost use Rattle.graphql_schema.specs.LookUps.{is_query_root, IsFieldOn, IsFieldNamed, FieldIsMissing};
 
 use crate::schema::Schema;
 use graphql_names::Name;
@@ -44,14 +44,15 @@ impl Schema {
         }
     }
 
-    /// The field of that name of a type, which stands under the name `type_name`: its own, or else the meta-field.
-    fn field_on<'schema>(
+    /// The field of that name of a type, which the schema has under the name `type_name`: its own, or else the meta-field.
+    /// It is that of [`Schema::type_field`], without another lookup of the type.
+    pub fn field_on<'schema>(
         &'schema self,
         type_name: &Name,
         ty: &'schema ExtendedType,
         name: &Name,
     ) -> Option<&'schema Component<FieldDefinition>>
-        ensures { lent_field result ≡ field_on (schema_tree self.now) type_name.now.text (extended_type ty.now) name.now.text }
+        ensures { IsFieldOn (schema_tree self.now) type_name.now.text (extended_type ty.now) name.now.text result }
     {
         let is_composite = matches!(
             ty,

@@ -10,8 +10,8 @@ twice : {X A B : Type 0} (f : X → A) (g : A → B) (r : Option X) → option_m
 twice f g None = refl
 twice f g (Some x) = refl
 
-pub returns : goal.returns
-returns c =
+pub returns-clause-unplaced : goal.returns-clause-unplaced
+returns-clause-unplaced c =
     twice (λ t. extended_type t.now) plain_type c.type_named.result
     ∙ ap (option_map plain_type) c.type_named.ensures
     ∙ sym (get_under plain_type c.args.name.now.text (schema_tree c.args.schema.now).types)

@@ -1,12 +1,11 @@
 use Rattle.std.proofs.Common.{arith, ◌<◌, ◌&&◌, not, length, sym, ap, ◌∙◌}
 use Rattle.std.proofs.lemmas.Grind.{common_steps}
 use Rattle.tree_operations.proofs.PrintedSelections.{has_selection-some}
-use Rattle.document_typing.specs.KeptSelections.{is_leaf}
-use Rattle.document_typing.specs.MeaningView.{meanings_under}
+use Rattle.document_typing.specs.Telling.{is_leaf_type}
 use Rattle.document_typing.proofs.rules.may_select.Goals as goal
 
 pub returns-else-is_empty : goal.returns-else-is_empty
 returns-else-is_empty c =
     let some : 0 < length c.args.selections.now = grind (arith, common_steps) in
     ap not c.is_leaf.ensures
-    ∙ sym (ap (λ b. not (b && is_leaf (meanings_under c.args.schema) c.args.type_name.now.text)) (has_selection-some c.args.selections.now some))
+    ∙ sym (ap (λ b. not (b && is_leaf_type c.args.ty)) (has_selection-some c.args.selections.now some))

@@ -11,8 +11,8 @@ use Rattle.document_typing.proofs.DefinedPlaces.{set-defined}
 use Rattle.document_typing.proofs.Outcomes.{on-ok}
 use Rattle.document_typing.proofs.selections.+typing.Goals as goal
 
-pub type_set-returns-clause-kept : goal.type_set-returns-clause-kept
-type_set-returns-clause-kept size c =
+pub type_set_on-returns-clause-kept : goal.type_set_on-returns-clause-kept
+type_set_on-returns-clause-kept size c =
     let t = c.args.type_name.now.text in
     let m = meanings_under c.args.typing.now.schema in
     let rest = drop_all c.loop-selection.selection-index c.args.selections.now (omega arith) in
@@ -24,8 +24,8 @@ type_set-returns-clause-kept size c =
     ∙ ap (λ n. set_on n.text (meant_selections c.loop-selection.kept)) c.in_ok-clone.ensures.same
     ∙ ap (set_on t) kept
 
-pub type_set-returns-clause-defined : goal.type_set-returns-clause-defined
-type_set-returns-clause-defined size c = set-defined (schema_under c.args.typing.now.schema) _ c.args.type_name.now.text (ap (λ n. n.text) c.in_ok-clone.ensures.same) c.loop-selection.invariant.2
+pub type_set_on-returns-clause-defined : goal.type_set_on-returns-clause-defined
+type_set_on-returns-clause-defined size c = set-defined (schema_under c.args.typing.now.schema) _ c.args.type_name.now.text (ap (λ n. n.text) c.in_ok-clone.ensures.same) c.loop-selection.invariant.2
 
 pub type_field-returns-in-Some-clause-defined : goal.type_field-returns-in-Some-clause-defined
 type_field-returns-in-Some-clause-defined size c =
