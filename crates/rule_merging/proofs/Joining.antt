@@ -56,9 +56,12 @@ together_sym Selections s f g (key, inr (inl a)) = (sym key, inr (inr a))
 together_sym Selections s f g (key, inr (inr b)) = (sym key, inr (inl b))
 
 -- the list is of both, or of one where the numbers are one
-pub is_list_of_two : (one other : Member) (list : List Member) (is_one : Bool) → is_one ≡ (one.number == other.number) → list ≡ cond is_one (take 1 (one ∷ other ∷ [])) (one ∷ other ∷ []) → IsListOfTwo one other list
-is_list_of_two one other list true e is = inl ((Decides-eqb one.number other.number).0 (sym e), is)
-is_list_of_two one other list false e is = inr ((λ same. true≢false (sym ((Decides-eqb one.number other.number).1 same) ∙ sym e)), is)
+pub is_list_of_two : (one other : Member) (list : List Member) → list ≡ cond (one.number == other.number) (take 1 (one ∷ other ∷ [])) (one ∷ other ∷ []) → IsListOfTwo one other list
+is_list_of_two one other list is = by (one.number == other.number) refl
+  where
+    by : (b : Bool) → (one.number == other.number) ≡ b → IsListOfTwo one other list
+    by true e = inl ((Decides-eqb one.number other.number).0 e, is ∙ ap (λ c. cond c (take 1 (one ∷ other ∷ [])) (one ∷ other ∷ [])) e)
+    by false e = inr ((λ same. true≢false (sym ((Decides-eqb one.number other.number).1 same) ∙ e)), is ∙ ap (λ c. cond c (take 1 (one ∷ other ∷ [])) (one ∷ other ∷ [])) e)
 
 -- any two of it go together where the two do
 pub all_together : (pass : Pass) (s : Judged) (one other : Member) (list : List Member) → IsListOfTwo one other list → Together pass s (field_of one) (field_of other) → GoAllTogether pass s list
