@@ -1,6 +1,5 @@
-use Rattle.std.proofs.Common.{◌≡◌, ◌∙◌, ◌<◌, List, [], length, refl, sym, ap, subst, arith}
+use Rattle.std.proofs.Common.{◌≡◌, ◌∙◌, ◌<◌, ◌==◌, List, [], length, refl, sym, ap, subst, arith}
 use Rattle.std.proofs.lemmas.List.{take_all}
-use Rattle.std.proofs.lemmas.List.Elements.{Contains-get_or}
 use Rattle.rule_field_sets.specs.declared.member.Member.{Member}
 use Rattle.rule_field_groups.specs.Members.{fields_of, meant_sets}
 use Rattle.rule_field_groups.specs.Grouped.{lists_of}
@@ -30,7 +29,7 @@ returns-then-is_empty c =
     let nodes = c.loop-field.nodes.items in
     let all : AreSetsOf (fields_of c.args.fields.now) (meant_sets w nodes) = subst (λ (l : List Member). AreSetsOf (fields_of l) (meant_sets w nodes)) (take_all c.loop-field.field-index c.args.fields.now c.loop-field-test.false) c.loop-field.invariant in
     below_pushed w (fields_of c.args.fields.now) nodes (lists_of c.args.lists.now) (lists_of c.args.lists.now) all
-    (joins_none [] nodes (lists_of c.args.lists.now) (sym c.is_empty.ensures ∙ c.if-is_empty.true))
+    (joins_none [] nodes (lists_of c.args.lists.now) (ap (λ n. n == 0) (sym c.loop-field.nodes.ok.0) ∙ sym c.is_empty.ensures ∙ c.if-is_empty.true))
 
 pub returns : goal.returns
 returns c =
@@ -38,4 +37,4 @@ returns c =
     let nodes = c.loop-field.nodes.items in
     let all : AreSetsOf (fields_of c.args.fields.now) (meant_sets w nodes) = subst (λ (l : List Member). AreSetsOf (fields_of l) (meant_sets w nodes)) (take_all c.loop-field.field-index c.args.fields.now c.loop-field-test.false) c.loop-field.invariant in
     below_pushed w (fields_of c.args.fields.now) nodes (lists_of c.args.lists.now) (lists_of c.push.new.self) all
-    (joins_some [] nodes (sym c.is_empty.ensures ∙ c.if-is_empty.false) c.args.lists.now.items c.push.new.self.items c.loop-field.nodes refl c.in_ok-push.ensures.items)
+    (joins_some [] nodes (ap (λ n. n == 0) (sym c.loop-field.nodes.ok.0) ∙ sym c.is_empty.ensures ∙ c.if-is_empty.false) c.args.lists.now.items c.push.new.self.items c.loop-field.nodes refl c.in_ok-push.ensures.items)
