@@ -75,7 +75,7 @@ returns-then-not-branch-clause-counted c =
 
 pub examine_together-requires-clause-members : goal.examine_together-requires-clause-members
 examine_together-requires-clause-members c =
-    members_of_two (sets_of c.args.self.now) c.args.one.now c.args.other.now c.list_of_two.result.now c.requires.one c.requires.other (is_list_of_two c.args.one.now c.args.other.now c.list_of_two.result.now c.list_of_two.ensures)
+    members_of_two (sets_of c.args.self.now) c.args.one.now c.args.other.now c.list_of_two-fields.result.now c.requires.one c.requires.other (is_list_of_two c.args.one.now c.args.other.now c.list_of_two-fields.result.now c.list_of_two-fields.ensures)
 
 pub examine_together-requires-clause-together : goal.examine_together-requires-clause-together
 examine_together-requires-clause-together c =
@@ -83,7 +83,7 @@ examine_together-requires-clause-together c =
     let s = schema_of e in
     let one = c.args.one.now in
     let other = c.args.other.now in
-    all_together e.pass s one other c.list_of_two.result.now (is_list_of_two one other c.list_of_two.result.now c.list_of_two.ensures)
+    all_together e.pass s one other c.list_of_two-fields.result.now (is_list_of_two one other c.list_of_two-fields.result.now c.list_of_two-fields.ensures)
     (together_so (sets_of e) c.requires.sets.are s c.requires.sets.schema one other c.requires.one c.requires.other e.pass (c.go_together.ensures.0 c.if-not-go_together.false))
 
 pub returns-clause-examined : goal.returns-clause-examined
@@ -92,10 +92,10 @@ returns-clause-examined c =
     let w = sets_of e in
     let one = c.args.one.now in
     let other = c.args.other.now in
-    let list = c.list_of_two.result.now in
+    let list = c.list_of_two-fields.result.now in
     let old = kept_of w c.args.examined.now in
     let new = kept_of w c.remember_two.new.self in
-    let two : IsListOfTwo one other list = is_list_of_two one other list c.list_of_two.ensures in
+    let two : IsListOfTwo one other list = is_list_of_two one other list c.list_of_two-fields.ensures in
     let fresh : Remembers old (contents_of list) true new = read_so one other list old new true two
     (subst (λ b. Remembers old (contents_of_two one other) b new) c.if-not-branch.false (c.in_ok-remember_two.ensures.remembers w c.requires.sets.are c.requires.one c.requires.other)) in
     on_ok_weaker c.examine_together.result
@@ -120,10 +120,10 @@ returns-clause-counted c =
     let w = sets_of e in
     let one = c.args.one.now in
     let other = c.args.other.now in
-    let list = c.list_of_two.result.now in
+    let list = c.list_of_two-fields.result.now in
     let old = kept_of w c.args.examined.now in
     let new = kept_of w c.remember_two.new.self in
-    let two : IsListOfTwo one other list = is_list_of_two one other list c.list_of_two.ensures in
+    let two : IsListOfTwo one other list = is_list_of_two one other list c.list_of_two-fields.ensures in
     let fresh : Remembers old (contents_of list) true new = read_so one other list old new true two
     (subst (λ b. Remembers old (contents_of_two one other) b new) c.if-not-branch.false (c.in_ok-remember_two.ensures.remembers w c.requires.sets.are c.requires.one c.requires.other)) in
     grows_two (document_of e) e.pass one other list fresh.1.0 (account_of w c.args.examined.now) (account_of w c.remember_two.new.self) _
