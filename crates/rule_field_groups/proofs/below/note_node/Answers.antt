@@ -1,4 +1,4 @@
-use Rattle.std.proofs.Common.{◌≡◌, ◌∙◌, ℕ, Option, Some, Contains, sym, ap}
+use Rattle.std.proofs.Common.{◌∙◌, ℕ, Option, Contains, sym, ap}
 use Rattle.std.specs.Prelude.{slice_get, option_map}
 use Rattle.std.specs.Borrow.{Bor}
 use Rattle.rule_field_groups.specs.Members.{field_of, meant_sets}

@@ -1,6 +1,5 @@
 use Rattle.std.proofs.lemmas.Result.{on_ok_weaker}
-use Rattle.rule_field_groups.specs.Under.{sets_in}
-use Rattle.rule_merging.specs.Examined.{schema_of, document_of, sets_of}
+use Rattle.rule_merging.specs.Examined.{schema_of, document_of}
 use Rattle.rule_merging.proofs.Joining.{together_examined}
 use Rattle.rule_merging.proofs.examination.Examination.examine_together.Goals as goal
 

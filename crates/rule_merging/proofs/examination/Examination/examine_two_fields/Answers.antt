@@ -1,4 +1,4 @@
-use Rattle.std.proofs.Common.{◌≡◌, ◌∙◌, ◌++◌, Bool, true, false, List, refl, ap, sym, subst, arith, true≢false}
+use Rattle.std.proofs.Common.{◌≡◌, ◌∙◌, ◌++◌, Bool, true, false, List, refl, ap, sym, subst, true≢false}
 use Rattle.std.proofs.lemmas.Result.{on_ok_weaker}
 use Rattle.rule_field_groups.specs.in_sets.in_ground.Broken.{brokens_of}
 use Rattle.rule_field_groups.specs.in_document_definitions.ReadFields.{ReadField}
