@@ -165,3 +165,25 @@ module _ (w : FieldSets) where
       where
         by : {ns is : List ℕ} → ns ≡ new.numbers.keys → is ≡ new.nodes.items → AllZip reads_so ns is → AllZip reads_so new.numbers.keys new.nodes.items
         by {ns} {is} e f all = subst (λ l. AllZip reads_so l new.nodes.items) e (subst (AllZip reads_so ns) f all)
+
+  -- ---- the set of a node that is put last, unless one with the same contents is there
+
+  pub known_noted : (nodes : List ℕ) (one other : ℕ) (first node : ℕ) → Contains nodes first → set_content_at w one ≡ node_read w first → set_content_at w other ≡ node_read w node → other ≡ one
+      → (field : StandingField Place) → set_at w node ≡ field.set → NotesSet field (meant_sets w nodes) (meant_sets w nodes)
+  known_noted nodes one other first node there reads reads_too equal field same = record {
+    added = [];
+    is = sym (append-nil (meant_sets w nodes));
+    its = λ s c. not_in_nil s c;
+    there = inr (subst (Contains (read_sets (meant_sets w nodes))) (sym reads ∙ ap (set_content_at w) (sym equal) ∙ reads_too ∙ ap list_read same)
+        (contains_map list_read (meant_sets w nodes) (set_at w first) (contains_map (set_at w) nodes first there)));
+  }
+
+  pub last_noted : (old new : List ℕ) (node : ℕ) → new ≡ old ++ node ∷ [] → (field : StandingField Place) → set_at w node ≡ field.set → NotesSet field (meant_sets w old) (meant_sets w new)
+  last_noted old new node puts field same = record {
+    added = set_at w node ∷ [];
+    is = ap (meant_sets w) puts ∙ map-append (set_at w) old (node ∷ []);
+    its = λ s c. sym same ∙ sym (only (set_at w node) s c);
+    there = inr (subst (λ l. Contains (read_sets (meant_sets w l)) (list_read field.set)) (sym puts)
+        (subst (Contains (read_sets (meant_sets w (old ++ node ∷ [])))) (ap list_read same)
+        (contains_map list_read (meant_sets w (old ++ node ∷ [])) (set_at w node) (contains_map (set_at w) (old ++ node ∷ []) node (in_last old node)))));
+  }

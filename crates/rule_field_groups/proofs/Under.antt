@@ -20,7 +20,7 @@ use Rattle.rule_field_groups.specs.declared.groups.OwnFields.{OwnFields}
 use Rattle.rule_field_groups.specs.Grouped.{ArePartsOf}
 use Rattle.rule_field_groups.specs.KeyGroups.{with_own, own_lists, lists_in_group}
 use Rattle.rule_field_groups.specs.Below.{IsBare, AreSetsOf, NotesSet}
-use Rattle.rule_field_groups.specs.Under.{Sets, all_sets, joined, each_with, twos_of, JoinsSets, JoinsTwos, HaveAnyTwo, PutsTogether, AreOf, IsAmong, AreFurther, AddsFurther, HaveBoth, BelowSoFar, JoinsEach, AreListsBelow, IsGroupOf}
+use Rattle.rule_field_groups.specs.Under.{Sets, all_sets, joined, each_with, twos_of, JoinsSets, JoinsTwos, HaveAnyTwo, PutsTogether, AreOf, IsAmong, AreFurther, AddsFurther, AddsBelow, HaveBoth, BelowSoFar, JoinsEach, AreListsBelow, IsGroupOf}
 use Rattle.rule_field_groups.proofs.Counts.{front_with, flat_push}
 use Rattle.rule_field_groups.proofs.Filing.{of_filter}
 use Rattle.rule_field_groups.proofs.Lists.{taken_more}
@@ -308,3 +308,15 @@ pub parts_below : (shared : List Member) (owns : List OwnFields) (first : Sets) 
 parts_below shared owns first begun lists are is joins =
     subst (λ gs. AreListsBelow gs lists) (sym (own_fields_parts shared owns))
     (are_below (fields_of shared) first (map (λ o. fields_of o.fields.items) owns) lists are (joins (fields_of shared) are (shared_below (fields_of shared) first begun are is)))
+
+-- the list below fields that go together, if there is one
+pub below_pushed : (w : FieldSets) (fields : List (StandingField Place)) (nodes : List ℕ) (old new : List (List ℕ)) → AreSetsOf fields (meant_sets w nodes) → JoinsSets [] nodes old new
+    → AddsBelow fields (all_sets w old) (all_sets w new)
+below_pushed w fields nodes old new are joins =
+    let first = meant_sets w nodes in (
+      joined [] first,
+      (
+        ap (all_sets w) joins ∙ map-append (meant_sets w) old (joined [] nodes) ∙ ap (λ l. all_sets w old ++ l) (joined_map (λ n. set_at w n) [] nodes),
+        are_below fields first [] (joined [] first) are (shared_below fields first (joined [] first) are refl),
+      ),
+    )

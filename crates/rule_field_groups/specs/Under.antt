@@ -93,6 +93,10 @@ pub record AreListsBelow (groups : List (List (StandingField Place))) (lists : L
   pub under : (sets : Sets) → Contains lists sets → (group : List (StandingField Place)) × (Contains groups group × AreOf group sets)
   pub below : (group : List (StandingField Place)) → Contains groups group → (f g : StandingField Place) → Contains group f → Contains group g → HaveBoth lists f g
 
+-- such lists of sets of the fields of one group come last
+abbrev pub AddsBelow : List (StandingField Place) → List Sets → List Sets → Type 0
+AddsBelow group old new = (below : List Sets) × ((new ≡ old ++ below) × AreListsBelow (group ∷ []) below)
+
 -- the set of each node is read as the number that stands beside it
 abbrev pub AreNumbered : FieldSets → SetsBelow → Type 0
 AreNumbered w found = AllZip (λ n i. set_content_at w n ≡ node_read w i) found.numbers.keys found.nodes.items

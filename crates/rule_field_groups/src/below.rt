@@ -4,7 +4,7 @@ ghost use Rattle.rule_field_sets.specs.Nodes.{AreSets, HasMember};
 ghost use Rattle.rule_field_groups.specs.Members.{field_of, fields_of, meant_sets, AreMembersOf};
 ghost use Rattle.rule_field_groups.specs.Below.{AreSetsOf, NotesSet};
 ghost use Rattle.rule_field_groups.specs.Grouped.{lists_of};
-ghost use Rattle.rule_field_groups.specs.Under.{sets_in, each_with, AreFurther, AddsFurther, JoinsSets, JoinsTwos, PutsTogether, JoinsEach, AreListsBelow, AreNumbered, AddsNode, IsGroupOf};
+ghost use Rattle.rule_field_groups.specs.Under.{sets_in, each_with, AddsBelow, AreFurther, AddsFurther, JoinsSets, JoinsTwos, PutsTogether, JoinsEach, AreListsBelow, AreNumbered, AddsNode, IsGroupOf};
 ghost use Rattle.rule_field_groups.specs.KeyGroups.{parts_of};
 
 use crate::groups::{KeyGroup, OwnFields};
@@ -239,4 +239,48 @@ pub fn lists_below(
     push_joined(&[], &shared.nodes, &mut lists)?;
     push_own_lists(sets, &group.own, &shared, &mut lists)?;
     Ok(lists)
+}
+
+/// Adds the node of a field's set, unless the set has no selections, or the same contents as that of the first node.
+fn note_node(
+    sets: &FieldSets<'_>,
+    field: Member<'_>,
+    nodes: &mut Vec<usize>,
+) -> Result<(), AllocError>
+    requires sets { AreSets sets.now }
+    requires member { HasMember sets.now field }
+    ensures { OnOk result (NotesSet (field_of field.entry) (meant_sets sets.now nodes.old.items) (meant_sets sets.now nodes.new.items)) }
+{
+    let Some(node) = field.below else {
+        return Ok(());
+    };
+    if let Some(first) = nodes.first() {
+        let noted = number_of(sets, *first)?;
+        if number_of(sets, node)? == noted {
+            return Ok(());
+        }
+    }
+    nodes.push(node)?;
+    Ok(())
+}
+
+/// Adds a list of the sets below a few fields that go together, unless none of them has selections. No index is made.
+pub fn push_below(
+    sets: &FieldSets<'_>,
+    fields: &[Member<'_>],
+    lists: &mut Vec<Vec<usize>>,
+) -> Result<(), AllocError>
+    requires sets { AreSets sets.now }
+    requires members { AreMembersOf sets.now fields.now }
+    ensures { OnOk result (AddsBelow (fields_of fields.now) (sets_in sets.now lists.old) (sets_in sets.now lists.new)) }
+{
+    let mut nodes = Vec::new(*lists.allocator());
+    for field in fields {
+        note_node(sets, *field, &mut nodes)?;
+    }
+    if nodes.is_empty() {
+        return Ok(());
+    }
+    lists.push(nodes)?;
+    Ok(())
 }

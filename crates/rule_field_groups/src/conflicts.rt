@@ -283,7 +283,7 @@ fn check_others(
 }
 
 /// Tells each further field of a list that does not agree with the first one.
-fn check_group(
+pub fn check_group(
     pass: Pass,
     schema: &Schema,
     group: &[Member<'_>],

@@ -6,7 +6,8 @@
 //! response key in shape, and fields that one object may have in name and arguments. `groups_of` splits the fields of one key once by
 //! the types that they are selected on (`KeyGroup` of `groups.rt`). `check_key_group` compares those on abstract types with their first,
 //! and those on an object type with that one too, or else with their own first (`conflicts.rt`). `lists_below` gives the sets below a
-//! group as lists of sets for the next level (`AreListsBelow` of `specs/Under.antt`).
+//! group as lists of sets for the next level (`AreListsBelow` of `specs/Under.antt`). A few fields that are known to go together need no
+//! index: `check_group` compares them, and `push_below` gives the list of the sets below them.
 //!
 //! A `Remembered` has what was compared and looked at (`specs/Remembered.antt`): lists of fields, lists of sets and pairs of sets, each
 //! once, in whatever order they stand. A list is compared where fields that are new pay for it (`budget.rt`, `specs/Paid.antt`).
@@ -26,8 +27,8 @@ mod pass;
 mod remembered;
 mod shapes;
 
-pub use below::lists_below;
-pub use conflicts::{Breach, check_key_group};
+pub use below::{lists_below, push_below};
+pub use conflicts::{Breach, check_group, check_key_group};
 pub use groups::{KeyGroup, groups_of};
 pub use node_walk::{MergedList, Toll, merged_list};
 pub use nodes::{node_of, starts_of};

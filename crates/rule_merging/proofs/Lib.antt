@@ -4,6 +4,7 @@ pub mod PairedFacts
 pub mod Bare
 pub mod Examining
 pub mod Pairing
+pub mod Joining
 pub mod PairStep
 pub mod TwoByTwo
 pub mod OpenedNodes

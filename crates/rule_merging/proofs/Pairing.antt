@@ -10,14 +10,12 @@ use Rattle.rule_field_groups.specs.in_meaning.MeantTree.{MeantDocument}
 use Rattle.rule_field_groups.specs.in_definitions.Judged.{Judged}
 use Rattle.rule_field_groups.specs.in_document_definitions.DocumentFaults.{Broken}
 use Rattle.rule_field_groups.specs.in_document_definitions.Selected.{StandingField}
-use Rattle.rule_field_groups.specs.in_document_definitions.Merging.{SameKey}
 use Rattle.rule_field_groups.specs.in_sets.in_ground.Broken.{broken_of, brokens_of}
 use Rattle.rule_field_groups.specs.Members.{field_of, fields_of, content_of, contents_of_two, contents_of, read_sets, AreMembersOf}
 use Rattle.rule_field_groups.specs.in_sets.declared.member.Member.{Member}
 use Rattle.rule_field_groups.specs.in_sets.declared.field_sets.FieldSets.{FieldSets}
 use Rattle.rule_field_groups.specs.in_sets.Nodes.{HasMember}
 use Rattle.rule_field_groups.specs.declared.pass.Pass.{Pass}
-use Rattle.rule_field_groups.specs.declared.pass.Pass.TheVariants.{Shapes, Selections}
 use Rattle.rule_field_groups.specs.Passes.{Together}
 use Rattle.rule_field_groups.proofs.Lists.{taken_more}
 use Rattle.rule_number_lists.specs.NumberLists.{HaveSame}
@@ -35,11 +33,6 @@ more_told told later added is none longer = omega (arith, ap length is, length-a
 -- so it is of breaches
 pub brokens_long : (old new : Breaches) → length old.items < length new.items → length (brokens_of old) < length (brokens_of new)
 brokens_long old new longer = omega (arith, longer, length-map old.items broken_of, length-map new.items broken_of)
-
--- fields that go together are of one key
-together_key : (pass : Pass) (s : Judged) (f g : StandingField Place) → Together pass s f g → SameKey f g
-together_key Shapes s f g t = t
-together_key Selections s f g t = t.0
 
 module _ (pass : Pass) (s : Judged) (d : MeantDocument Place) where
   plain_left : (left more : List Sets) → HasMore (all_read left) (all_read (left ++ more))
@@ -141,11 +134,11 @@ module _ (pass : Pass) (s : Judged) (d : MeantDocument Place) where
   -- ---- two fields
 
   module _ (one other : Member) where
-    -- that are not of one key
-    pub paired_apart : (old : Kept) (told : List (Broken Place)) (next : List Sets) → (SameKey (field_of one) (field_of other) → ⊥) → PairedTold (are_two one other) old old told told next next
+    -- that do not go together
+    pub paired_apart : (old : Kept) (told : List (Broken Place)) (next : List Sets) → (Together pass s (field_of one) (field_of other) → ⊥) → PairedTold (are_two one other) old old told told next next
     paired_apart old told next apart =
-        told_none (are_two one other) (λ p q w. apart (together_key pass s (field_of one) (field_of other)
-        (subst (λ (x : Member). Together pass s (field_of x) (field_of other)) w.0.0 (subst (λ (y : Member). Together pass s (field_of p) (field_of y)) w.0.1 w.1)))) old told next
+        told_none (are_two one other) (λ p q w. apart
+        (subst (λ (x : Member). Together pass s (field_of x) (field_of other)) w.0.0 (subst (λ (y : Member). Together pass s (field_of p) (field_of y)) w.0.1 w.1))) old told next
 
     -- the list has both, and no more
     has_one : (list : List Member) → IsListOf one other list → Contains (contents_of list) (content_of one)

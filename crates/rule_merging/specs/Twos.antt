@@ -1,5 +1,5 @@
 -- Private: leads to `FieldsMerge`. What the examination of two fields comes to, each an own one of one of two sets that are looked at together.
-use Rattle.std.specs.Prelude.{◌≡◌, ◌++◌, ◌∷◌, ◌⊎◌, List, [], Contains}
+use Rattle.std.specs.Prelude.{◌≡◌, ◌++◌, ◌∷◌, ◌⊎◌, IsTrue, List, [], Contains}
 use Rattle.graphql_names.specs.Placed.{Place}
 use Rattle.rule_field_groups.specs.in_meaning.MeantTree.{MeantDocument}
 use Rattle.rule_field_groups.specs.in_definitions.Judged.{Judged}
@@ -8,10 +8,11 @@ use Rattle.rule_field_groups.specs.in_document_definitions.Selected.{StandingFie
 use Rattle.rule_field_groups.specs.in_document_definitions.ReadFields.{ReadField}
 use Rattle.rule_field_groups.specs.in_document_definitions.Settled.{StandIn}
 use Rattle.rule_field_groups.specs.in_sets.in_ground.Broken.{brokens_of}
-use Rattle.rule_field_groups.specs.Members.{field_of, content_of}
+use Rattle.rule_field_groups.specs.Members.{field_of, fields_of, content_of}
 use Rattle.rule_field_groups.specs.in_sets.declared.member.Member.{Member}
 use Rattle.rule_field_groups.specs.Passes.{Together, Conflict}
 use Rattle.rule_field_groups.specs.declared.pass.Pass.{Pass}
+use Rattle.rule_field_groups.specs.declared.pass.Pass.TheVariants.{Shapes, Selections}
 use Rattle.rule_field_groups.specs.Remembered.{Kept, account_of}
 use Rattle.rule_merging.specs.Counted.{IsLast, Grows}
 use Rattle.rule_merging.specs.Examined.{Sets, Breaches, AreOf, IsFresh, all_read, schema_of, document_of, sets_of}
@@ -37,6 +38,23 @@ IsListOf one other list = ((content_of one ≡ content_of other) × (list ≡ on
 -- the same by their numbers
 abbrev pub IsListOfTwo : Member → Member → List Member → Type 0
 IsListOfTwo one other list = ((one.number ≡ other.number) × (list ≡ one ∷ [])) ⊎ ((one.number ≡ other.number → ⊥) × (list ≡ one ∷ other ∷ []))
+
+-- one object may have both, by their numbers: they are on one type, or on an abstract one
+abbrev pub HaveOneObject : Member → Member → Type 0
+HaveOneObject p q = (p.parent ≡ q.parent) ⊎ (IsTrue p.is_shared ⊎ IsTrue q.is_shared)
+
+-- which is asked where shapes are not compared
+abbrev pub IsAsked : Pass → Member → Member → Type 0
+IsAsked Shapes p q = Unit {0}
+IsAsked Selections p q = HaveOneObject p q
+
+-- they go together, by their numbers
+abbrev pub GoByNumbers : Pass → Member → Member → Type 0
+GoByNumbers pass p q = (p.key ≡ q.key) × IsAsked pass p q
+
+-- any two of these go together
+abbrev pub GoAllTogether : Pass → Judged → List Member → Type 0
+GoAllTogether pass s list = (f g : StandingField Place) → Contains (fields_of list) f → Contains (fields_of list) g → Together pass s f g
 
 abbrev pub both_of : Member → Member → List (StandingField Place)
 both_of p q = field_of p ∷ field_of q ∷ []

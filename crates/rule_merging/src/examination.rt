@@ -71,7 +71,7 @@ impl<'doc> Examination<'_, 'doc> {
     }
 
     /// Examines a list: compares the fields of each group, and adds the sets below the groups.
-    pub(crate) fn examine_list(
+    fn examine_list(
         &self,
         list: &[Member<'doc>],
         next: &mut Vec<Vec<usize>>,

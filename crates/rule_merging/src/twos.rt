@@ -1,23 +1,40 @@
 //! The examination of two sets that are looked at together.
-ghost use Rattle.std.specs.Prelude.{◌≡◌, ◌↔◌, ◌<◌, ◌∷◌, [], length, IsTrue, OnOk, IfOk};
+ghost use Rattle.std.specs.Prelude.{◌≡◌, ◌↔◌, ◌<◌, ◌∷◌, ◌≤◌, ◌+◌, [], cond, length, take, IsTrue, OnOk};
 ghost use Rattle.rule_field_groups.specs.in_sets.Nodes.{HasMember};
 ghost use Rattle.rule_field_groups.specs.in_sets.Read.{set_at};
 ghost use Rattle.rule_field_groups.specs.Members.{meant_sets, AreMembersOf};
 ghost use Rattle.rule_field_groups.specs.Remembered.{two_of};
-ghost use Rattle.rule_merging.specs.Twos.{are_two, are_of, IsListOfTwo, GrowsByTwo};
-ghost use Rattle.rule_merging.specs.Examined.{sets_of, HasSets, ExaminesPair, ExaminesPairs, ExaminesTwos, GrowsOver, GrowsOverTwo, GrowsHere};
+ghost use Rattle.rule_merging.specs.Twos.{HaveOneObject, GoByNumbers, GoAllTogether, are_two, are_of, GrowsByTwo};
+ghost use Rattle.rule_field_groups.specs.Compared.{compared};
+ghost use Rattle.rule_field_groups.specs.Under.{sets_in};
+ghost use Rattle.rule_merging.specs.Examined.{schema_of, sets_of, HasSets, ExaminesList, ExaminesPair, ExaminesPairs, ExaminesTwos, GrowsOver, GrowsOverTwo, GrowsHere};
 ghost use Rattle.rule_field_groups.specs.Pairs.{each_with};
 ghost use Rattle.rule_merging.specs.OfProgram.{Comes, ExaminesThese, PairsOf};
 
 use crate::examination::Examination;
-use rule_field_groups::{Breach, Member, Pair, Remembered, node_of, starts_of};
-use std::alloc::{AllocError, Global};
+use rule_field_groups::{
+    Breach, Member, Pair, Pass, Remembered, check_group, node_of, push_below, starts_of,
+};
+use std::alloc::AllocError;
 
-/// Whether two fields are answered under one key.
-fn have_one_key(one: &Member<'_>, other: &Member<'_>) -> bool
-    ensures { IsTrue result ↔ (one.now.key ≡ other.now.key) }
+/// Whether one object may have both of two fields of one key ("the parent types are equal or either is not an Object Type").
+fn may_share(one: &Member<'_>, other: &Member<'_>) -> bool
+    ensures { IsTrue result ↔ HaveOneObject one.now other.now }
 {
-    one.key == other.key
+    one.parent == other.parent || one.is_shared || other.is_shared
+}
+
+/// Whether two fields go together: they are answered under one key, and one object may have both, where not shapes are compared.
+fn go_together(pass: Pass, one: &Member<'_>, other: &Member<'_>) -> bool
+    ensures { IsTrue result ↔ GoByNumbers pass one.now other.now }
+{
+    if one.key != other.key {
+        return false;
+    }
+    match pass {
+        Pass::Shapes => true,
+        Pass::Selections => may_share(one, other),
+    }
 }
 
 /// Whether both lists are empty.
@@ -27,20 +44,15 @@ fn are_empty(ones: &[usize], others: &[usize]) -> bool
     ones.is_empty() && others.is_empty()
 }
 
-/// Two fields, or one of them where both say the same.
-fn list_of_two<'doc>(
-    alloc: Global,
-    one: Member<'doc>,
-    other: Member<'doc>,
-) -> Result<Vec<Member<'doc>>, AllocError>
-    ensures { IfOk result (λ list. IsListOfTwo one.entry other.entry list.items) }
+/// Two fields, or the first of them where both say the same.
+fn list_of_two<'a, 'doc>(both: &'a [Member<'doc>], is_one: bool) -> &'a [Member<'doc>]
+    requires { 1 ≤ length both.now }
+    ensures { result.now ≡ cond is_one (take 1 both.now) both.now }
 {
-    let mut list = Vec::new(alloc);
-    list.push(one)?;
-    if one.number != other.number {
-        list.push(other)?;
+    if is_one {
+        return &both[..1];
     }
-    Ok(list)
+    both
 }
 
 /// Whether more is told than so many breaches.
@@ -51,7 +63,26 @@ fn is_told(breaches: &[Breach], told: usize) -> bool
 }
 
 impl<'doc> Examination<'_, 'doc> {
-    /// Compares two fields of one key, if they were not compared before, and adds the lists of sets below them.
+    /// Compares fields that go together, and adds a list of the sets below them.
+    fn examine_together(
+        &self,
+        fields: &[Member<'doc>],
+        next: &mut Vec<Vec<usize>>,
+        breaches: &mut Vec<Breach>,
+        comparisons: &mut u128,
+    ) -> Result<(), AllocError>
+        requires sets { HasSets self.now }
+        requires members { AreMembersOf (sets_of self.now) fields.now }
+        requires together { GoAllTogether self.now.pass (schema_of self.now) fields.now }
+        ensures examined { OnOk result (ExaminesList self.now fields.now breaches.old breaches.new (sets_in (sets_of self.now) next.old) (sets_in (sets_of self.now) next.new)) }
+        ensures more { comparisons.old ≤ comparisons.new }
+        ensures counted { comparisons.new ≤ comparisons.old + compared self.now.pass fields.now }
+    {
+        check_group(self.pass, self.schema, fields, breaches, comparisons)?;
+        push_below(self.sets, fields, next)
+    }
+
+    /// Compares two fields that go together, if they were not compared before, and adds a list of the sets below them.
     fn examine_two_fields(
         &self,
         one: &Member<'doc>,
@@ -65,15 +96,16 @@ impl<'doc> Examination<'_, 'doc> {
         ensures examined { OnOk result (PairsOf self.now (are_two one.now other.now) examined.old examined.new breaches.old breaches.new) }
         ensures counted { GrowsByTwo self.now (are_two one.now other.now) examined.old examined.new }
     {
-        if !have_one_key(one, other) {
+        if !go_together(self.pass, one, other) {
             return Ok(());
         }
         if !examined.remember_two(*one, *other)? {
             return Ok(());
         }
-        let list = list_of_two(*breaches.allocator(), *one, *other)?;
+        let both = [*one, *other];
+        let fields = list_of_two(&both, one.number == other.number);
         let comparisons = &mut examined.comparisons;
-        self.examine_list(&list, &mut examined.next, breaches, comparisons)
+        self.examine_together(fields, &mut examined.next, breaches, comparisons)
     }
 
     /// Compares a field with each of the others.
@@ -198,13 +230,13 @@ impl<'doc> Examination<'_, 'doc> {
         ensures counted { GrowsOver self.now (meant_sets (sets_of self.now) nodes.now ∷ []) examined.old examined.new }
     {
         let told = breaches.len();
-        let mut seen = Vec::new(*breaches.allocator());
+        let mut seen = 0;
         for node in nodes {
             if is_told(breaches, told) {
                 return Ok(());
             }
-            seen.push(*node)?;
-            self.examine_with_those(&seen, *node, examined, breaches)?;
+            seen += 1;
+            self.examine_with_those(&nodes[..seen], *node, examined, breaches)?;
         }
         Ok(())
     }

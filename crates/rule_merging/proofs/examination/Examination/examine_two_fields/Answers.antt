@@ -1,18 +1,19 @@
-use Rattle.std.proofs.Common.{◌≡◌, ◌∙◌, ◌++◌, Bool, true, false, List, refl, ap, sym, subst, arith, true≢false}
+use Rattle.std.proofs.Common.{◌≡◌, ◌∙◌, ◌++◌, Bool, true, false, List, refl, ap, sym, subst, true≢false}
 use Rattle.std.proofs.lemmas.Result.{on_ok_weaker}
 use Rattle.rule_field_groups.specs.in_sets.in_ground.Broken.{brokens_of}
 use Rattle.rule_field_groups.specs.in_document_definitions.ReadFields.{ReadField}
 use Rattle.rule_field_groups.specs.in_sets.declared.member.Member.{Member}
 use Rattle.rule_field_groups.specs.in_sets.declared.field_sets.FieldSets.{FieldSets}
 use Rattle.rule_field_groups.specs.in_sets.Nodes.{AreSets, HasMember}
-use Rattle.rule_field_groups.proofs.in_sets.Among.{one_number, one_key}
-use Rattle.rule_field_groups.specs.Members.{contents_of, AreMembersOf, contents_of_two}
+use Rattle.rule_field_groups.proofs.in_sets.Among.{one_number}
+use Rattle.rule_field_groups.specs.Members.{contents_of, contents_of_two}
 use Rattle.rule_field_groups.specs.Under.{sets_in}
 use Rattle.rule_field_groups.specs.Remembered.{Kept, account_of, kept_of, remembered, Remembers}
 use Rattle.rule_merging.specs.Examined.{schema_of, document_of, sets_of}
 use Rattle.rule_merging.specs.Twos.{are_two, IsListOf, IsListOfTwo}
 use Rattle.rule_field_groups.specs.declared.remembered.Remembered.{Remembered}
 use Rattle.rule_merging.proofs.Pairing.{PairedTold, paired_apart, paired_known, paired_now, by_contents, members_of_two, read_of_two, some_list}
+use Rattle.rule_merging.proofs.Joining.{together_so, so_together, is_list_of_two, all_together}
 use Rattle.rule_merging.proofs.Counting.{grows_not, grows_same, grows_two}
 use Rattle.rule_merging.proofs.examination.Examination.examine_two_fields.Goals as goal
 
@@ -28,15 +29,15 @@ read_so one other list old new is_new two h = subst (λ (l : List ReadField). Re
 same_account : (w : FieldSets) (old new : Remembered) → account_of w new ≡ record (account_of w old) { lists = remembered w new } → kept_of w new ≡ kept_of w old → account_of w new ≡ account_of w old
 same_account w old new is same = is ∙ ap (λ (k : Kept). record (account_of w old) { lists = k.lists }) same
 
-pub returns-then-not-have_one_key-clause-examined : goal.returns-then-not-have_one_key-clause-examined
-returns-then-not-have_one_key-clause-examined c =
+pub returns-then-not-go_together-clause-examined : goal.returns-then-not-go_together-clause-examined
+returns-then-not-go_together-clause-examined c =
     let e = c.args.self.now in
     let w = sets_of e in
     paired_apart e.pass (schema_of e) (document_of e) c.args.one.now c.args.other.now (kept_of w c.args.examined.now) (brokens_of c.args.breaches.now) (sets_in w c.args.examined.now.next)
-    (λ same. true≢false (sym (c.have_one_key.ensures.1 ((one_key w c.requires.sets.are c.args.one.now c.args.other.now c.requires.one c.requires.other).1 same)) ∙ c.if-not-have_one_key.true))
+    (λ t. true≢false (sym (c.go_together.ensures.1 (so_together w c.requires.sets.are (schema_of e) c.requires.sets.schema c.args.one.now c.args.other.now c.requires.one c.requires.other e.pass t)) ∙ c.if-not-go_together.true))
 
-pub returns-then-not-have_one_key-clause-counted : goal.returns-then-not-have_one_key-clause-counted
-returns-then-not-have_one_key-clause-counted c = grows_not (document_of c.args.self.now) _ c.args.self.now.pass (account_of (sets_of c.args.self.now) c.args.examined.now)
+pub returns-then-not-go_together-clause-counted : goal.returns-then-not-go_together-clause-counted
+returns-then-not-go_together-clause-counted c = grows_not (document_of c.args.self.now) _ c.args.self.now.pass (account_of (sets_of c.args.self.now) c.args.examined.now)
 
 pub returns-in_err-remember_two-clause-counted : goal.returns-in_err-remember_two-clause-counted
 returns-in_err-remember_two-clause-counted c =
@@ -72,23 +73,18 @@ returns-then-not-branch-clause-counted c =
     grows_same (document_of e) _ e.pass (account_of w c.args.examined.now) (account_of w c.remember_two.new.self)
     (same_account w c.args.examined.now c.remember_two.new.self (c.in_ok-remember_two.ensures.account w) known.1)
 
-pub returns-in_err-list-clause-counted : goal.returns-in_err-list-clause-counted
-returns-in_err-list-clause-counted c =
+pub examine_together-requires-clause-members : goal.examine_together-requires-clause-members
+examine_together-requires-clause-members c =
+    members_of_two (sets_of c.args.self.now) c.args.one.now c.args.other.now c.list_of_two-fields.result.now c.requires.one c.requires.other (is_list_of_two c.args.one.now c.args.other.now c.list_of_two-fields.result.now c.list_of_two-fields.ensures)
+
+pub examine_together-requires-clause-together : goal.examine_together-requires-clause-together
+examine_together-requires-clause-together c =
     let e = c.args.self.now in
-    let w = sets_of e in
+    let s = schema_of e in
     let one = c.args.one.now in
     let other = c.args.other.now in
-    let old = kept_of w c.args.examined.now in
-    let new = kept_of w c.remember_two.new.self in
-    let list = some_list one other in
-    let fresh : Remembers old (contents_of list.0) true new = read_so one other list.0 old new true list.1
-    (subst (λ b. Remembers old (contents_of_two one other) b new) c.if-not-branch.false (c.in_ok-remember_two.ensures.remembers w c.requires.sets.are c.requires.one c.requires.other)) in
-    grows_two (document_of e) e.pass one other list.0 fresh.1.0 (account_of w c.args.examined.now) (account_of w c.remember_two.new.self) (account_of w c.remember_two.new.self)
-    (as_contents w c.requires.sets.are one other c.requires.one c.requires.other list.0 list.1) fresh.1.1.1.0 fresh.0 fresh.1.1.1.1.0 (c.in_ok-remember_two.ensures.account w) (omega arith) (omega arith) refl
-
-pub examine_list-requires-clause-members : goal.examine_list-requires-clause-members
-examine_list-requires-clause-members c =
-    subst (AreMembersOf (sets_of c.args.self.now)) (sym c.deref.ensures.value) (members_of_two (sets_of c.args.self.now) c.args.one.now c.args.other.now c.in_ok-list.list.items c.requires.one c.requires.other c.in_ok-list.ensures)
+    all_together e.pass s one other c.list_of_two-fields.result.now (is_list_of_two one other c.list_of_two-fields.result.now c.list_of_two-fields.ensures)
+    (together_so (sets_of e) c.requires.sets.are s c.requires.sets.schema one other c.requires.one c.requires.other e.pass (c.go_together.ensures.0 c.if-not-go_together.false))
 
 pub returns-clause-examined : goal.returns-clause-examined
 returns-clause-examined c =
@@ -96,13 +92,13 @@ returns-clause-examined c =
     let w = sets_of e in
     let one = c.args.one.now in
     let other = c.args.other.now in
-    let list = c.deref.result.now in
+    let list = c.list_of_two-fields.result.now in
     let old = kept_of w c.args.examined.now in
     let new = kept_of w c.remember_two.new.self in
-    let two : IsListOfTwo one other list = subst (IsListOfTwo one other) (sym c.deref.ensures.value) c.in_ok-list.ensures in
+    let two : IsListOfTwo one other list = is_list_of_two one other list c.list_of_two-fields.ensures in
     let fresh : Remembers old (contents_of list) true new = read_so one other list old new true two
     (subst (λ b. Remembers old (contents_of_two one other) b new) c.if-not-branch.false (c.in_ok-remember_two.ensures.remembers w c.requires.sets.are c.requires.one c.requires.other)) in
-    on_ok_weaker c.examine_list.result
+    on_ok_weaker c.examine_together.result
     (λ h. (
       h.0,
       (
@@ -116,7 +112,7 @@ returns-clause-examined c =
         ),
       ),
     ))
-    c.examine_list.ensures.examined
+    c.examine_together.ensures.examined
 
 pub returns-clause-counted : goal.returns-clause-counted
 returns-clause-counted c =
@@ -124,11 +120,11 @@ returns-clause-counted c =
     let w = sets_of e in
     let one = c.args.one.now in
     let other = c.args.other.now in
-    let list = c.deref.result.now in
+    let list = c.list_of_two-fields.result.now in
     let old = kept_of w c.args.examined.now in
     let new = kept_of w c.remember_two.new.self in
-    let two : IsListOfTwo one other list = subst (IsListOfTwo one other) (sym c.deref.ensures.value) c.in_ok-list.ensures in
+    let two : IsListOfTwo one other list = is_list_of_two one other list c.list_of_two-fields.ensures in
     let fresh : Remembers old (contents_of list) true new = read_so one other list old new true two
     (subst (λ b. Remembers old (contents_of_two one other) b new) c.if-not-branch.false (c.in_ok-remember_two.ensures.remembers w c.requires.sets.are c.requires.one c.requires.other)) in
     grows_two (document_of e) e.pass one other list fresh.1.0 (account_of w c.args.examined.now) (account_of w c.remember_two.new.self) _
-    (as_contents w c.requires.sets.are one other c.requires.one c.requires.other list two) fresh.1.1.1.0 fresh.0 fresh.1.1.1.1.0 (c.in_ok-remember_two.ensures.account w) c.examine_list.ensures.more c.examine_list.ensures.counted refl
+    (as_contents w c.requires.sets.are one other c.requires.one c.requires.other list two) fresh.1.1.1.0 fresh.0 fresh.1.1.1.1.0 (c.in_ok-remember_two.ensures.account w) c.examine_together.ensures.more c.examine_together.ensures.counted refl

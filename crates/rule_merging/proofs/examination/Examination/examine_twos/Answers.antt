@@ -1,5 +1,5 @@
-use Rattle.std.proofs.Common.{◌≡◌, ◌∙◌, ◌<◌, ◌+◌, ℕ, ◌∷◌, ◌++◌, [], List, Contains, drop, get_or, take, length, map, sym, ap, subst, arith}
-use Rattle.std.proofs.lemmas.List.{map-append, take-append-drop, take_all, get_or_default, take_more}
+use Rattle.std.proofs.Common.{◌≡◌, ◌∙◌, ◌<◌, ◌+◌, ℕ, ◌∷◌, ◌++◌, [], List, Contains, drop, get_or, take, length, map, refl, sym, ap, subst, arith}
+use Rattle.std.proofs.lemmas.List.{map-append, take-append-drop, take_all, get_or_default}
 use Rattle.std.proofs.lemmas.List.Elements.{Contains-append_left, Contains-append_right}
 use Rattle.graphql_names.specs.Placed.{Place}
 use Rattle.rule_field_groups.specs.in_meaning.MeantTree.{MeantSet, MeantOperation, MeantDocument}
@@ -30,7 +30,7 @@ pairs_listed d os sets front v twos are within listed = part_listed d os sets (e
     within u ((twos_more front v twos are).within part (Contains-append_right twos (each_with (front ++ v ∷ []) v) part c) u k))
 
 -- the next node
-module _ (e : Examination) (xs : List ℕ) (i : ℕ) (h : i < length xs) (seen seen' : List ℕ) (was : seen ≡ take i xs) (pushed : seen' ≡ seen ++ get_or xs i 0 ∷ []) where
+module _ (e : Examination) (xs : List ℕ) (i : ℕ) (h : i < length xs) (seen : ℕ) (was : seen ≡ i) where
   abbrev node : ℕ
   node = get_or xs i 0
 
@@ -40,20 +40,17 @@ module _ (e : Examination) (xs : List ℕ) (i : ℕ) (h : i < length xs) (seen s
   is : node ≡ get_or xs i node
   is = get_or_default xs i 0 node h
 
-  now_seen : seen' ≡ take (i + 1) xs
-  now_seen = pushed ∙ ap (λ l. l ++ node ∷ []) was ∙ sym (take_more xs i node h ∙ ap (λ y. take i xs ++ y ∷ []) (sym is))
-
   all_seen : meant_sets (sets_of e) (take (i + 1) xs) ≡ front ++ set_at (sets_of e) node ∷ []
   all_seen = one_more_of (set_at (sets_of e)) xs i node h is
 
-  front_seen : meant_sets (sets_of e) seen' ≡ front ++ set_at (sets_of e) node ∷ []
-  front_seen = ap (meant_sets (sets_of e)) now_seen ∙ all_seen
+  front_seen : meant_sets (sets_of e) (take (seen + 1) xs) ≡ front ++ set_at (sets_of e) node ∷ []
+  front_seen = ap (λ k. meant_sets (sets_of e) (take (k + 1) xs)) was ∙ all_seen
 
   -- what is given of the sets is given of the pairs
-  listed_here : (d : MeantDocument Place) (os : List (MeantOperation Place)) (twos : List Sets) → AreTwosOf front twos → (here : List ℕ) → here ≡ seen' → AreListed d os (meant_sets (sets_of e) xs ∷ [])
-      → AreListed d os (each_with (meant_sets (sets_of e) here) (set_at (sets_of e) node))
-  listed_here d os twos are here same listed =
-      subst (λ (l : Sets). AreListed d os (each_with l (set_at (sets_of e) node))) (sym (ap (meant_sets (sets_of e)) same ∙ front_seen))
+  listed_here : (d : MeantDocument Place) (os : List (MeantOperation Place)) (twos : List Sets) → AreTwosOf front twos → AreListed d os (meant_sets (sets_of e) xs ∷ [])
+      → AreListed d os (each_with (meant_sets (sets_of e) (take (seen + 1) xs)) (set_at (sets_of e) node))
+  listed_here d os twos are listed =
+      subst (λ (l : Sets). AreListed d os (each_with l (set_at (sets_of e) node))) (sym front_seen)
       (pairs_listed d os (meant_sets (sets_of e) xs) front (set_at (sets_of e) node) twos are (λ u c. among (set_at (sets_of e)) xs (i + 1) u (subst (λ (l : Sets). Contains l u) (sym all_seen) c)) listed)
 
 pub loop-node-init : goal.loop-node-init
@@ -61,13 +58,10 @@ loop-node-init c =
     let e = c.args.self.now in
     let w = sets_of e in
     record {
-      seen = c.new-seen.ensures.items;
+      seen = refl;
       examined = ([], (no_twos, twos_none e.pass (schema_of e) (document_of e) (kept_of w c.args.examined.now) (brokens_of c.args.breaches.now) (sets_in w c.args.examined.now.next)));
       counted = grows_not (document_of e) _ e.pass (account_of w c.args.examined.now);
     }
-
-pub returns-in_err-push-clause-counted : goal.returns-in_err-push-clause-counted
-returns-in_err-push-clause-counted c = c.loop-node.invariant.counted
 
 pub returns-in_err-examine_with_those-clause-counted : goal.returns-in_err-examine_with_those-clause-counted
 returns-in_err-examine_with_those-clause-counted c =
@@ -79,7 +73,7 @@ returns-in_err-examine_with_those-clause-counted c =
     let h : i < length xs = omega arith in
     let inv = c.loop-node.invariant in
     grows_with d _ _ e.pass (account_of w c.args.examined.now) (account_of w c.loop-node.examined) (account_of w c.examine_with_those.new.examined)
-    inv.counted (λ os. listed_here e xs i h c.loop-node.seen.items c.push.new.self.items inv.seen c.in_ok-push.ensures.items d os inv.examined.0 inv.examined.1.0 c.deref-in-loop-node.result.now c.deref-in-loop-node.ensures.value) c.in_err-examine_with_those.ensures.counted
+    inv.counted (λ os. listed_here e xs i h c.loop-node.seen inv.seen d os inv.examined.0 inv.examined.1.0) c.in_err-examine_with_those.ensures.counted
 
 pub loop-node-preserved : goal.loop-node-preserved
 loop-node-preserved c =
@@ -90,9 +84,7 @@ loop-node-preserved c =
     let i = c.loop-node.node-index in
     let h : i < length xs = omega arith in
     let inv = c.loop-node.invariant in
-    let was = c.loop-node.seen.items in
-    let now = c.push.new.self.items in
-    let puts = c.in_ok-push.ensures.items in
+    let seen = c.loop-node.seen in
     let v = set_at w (get_or xs i 0) in
     let before = meant_sets w (take i xs) in
     let old = kept_of w c.args.examined.now in
@@ -104,10 +96,10 @@ loop-node-preserved c =
     let twos = inv.examined.0 in
     let more = each_with (before ++ v ∷ []) v in
     let here : ExaminesTwos e more mid new c.loop-node.breaches c.examine_with_those.new.breaches between later = subst (λ (l : Sets). ExaminesTwos e (each_with l v) mid new c.loop-node.breaches c.examine_with_those.new.breaches between later)
-    (ap (meant_sets w) c.deref-in-loop-node.ensures.value ∙ front_seen e xs i h was now inv.seen puts) c.in_ok-examine_with_those.ensures.examined in
+    (front_seen e xs i h seen inv.seen) c.in_ok-examine_with_those.ensures.examined in
     record {
-      seen = now_seen e xs i h was now inv.seen puts;
-      examined = subst (λ (l : Sets). (twos : List Sets) × (AreTwosOf l twos × ExaminesTwos e twos old new c.args.breaches.now c.examine_with_those.new.breaches next later)) (sym (all_seen e xs i h was now inv.seen puts)) (
+      seen = omega (arith, inv.seen);
+      examined = subst (λ (l : Sets). (twos : List Sets) × (AreTwosOf l twos × ExaminesTwos e twos old new c.args.breaches.now c.examine_with_those.new.breaches next later)) (sym (all_seen e xs i h seen inv.seen)) (
         twos ++ more,
         (
           twos_more before v twos inv.examined.1.0,
@@ -115,7 +107,7 @@ loop-node-preserved c =
         ),
       );
       counted = grows_with d _ _ e.pass (account_of w c.args.examined.now) (account_of w c.loop-node.examined) (account_of w c.examine_with_those.new.examined)
-          inv.counted (λ os. listed_here e xs i h was now inv.seen puts d os twos inv.examined.1.0 c.deref-in-loop-node.result.now c.deref-in-loop-node.ensures.value) c.in_ok-examine_with_those.ensures.counted;
+          inv.counted (λ os. listed_here e xs i h seen inv.seen d os twos inv.examined.1.0) c.in_ok-examine_with_those.ensures.counted;
     }
 
 pub returns-clause-examined : goal.returns-clause-examined

@@ -8,7 +8,7 @@ use Rattle.rule_merging.proofs.examination.Examination.examine_twos.Given as goa
 
 abbrev pub invariant-loop-node : goal.invariant-loop-node
 invariant-loop-node l = record {
-  seen : l.seen.items ≡ take l.node-index l.nodes;
+  seen : l.seen ≡ l.node-index;
   examined : (twos : List Sets) × (AreTwosOf (meant_sets (sets_of l.self) (take l.node-index l.nodes)) twos
       × ExaminesTwos l.self twos (kept_of (sets_of l.self) l.fn.examined) (kept_of (sets_of l.self) l.examined) l.fn.breaches l.breaches (sets_in (sets_of l.self) l.fn.examined.next) (sets_in (sets_of l.self) l.examined.next));
   counted : GrowsOver l.self (meant_sets (sets_of l.self) l.nodes ∷ []) l.fn.examined l.examined;
