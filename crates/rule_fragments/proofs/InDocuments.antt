@@ -1,5 +1,5 @@
 -- What breaks the rules on `@defer`, and behind it what breaks those on subscriptions.
-use Rattle.std.proofs.Common.{◌≡◌, ◌↔◌, ◌⊎◌, inl, inr, ◌++◌, List, [], refl, Contains}
+use Rattle.std.proofs.Common.{◌≡◌, ◌↔◌, inl, inr, ◌++◌, List, [], refl, Contains}
 use Rattle.std.proofs.lemmas.List.Elements.{Contains-append_left, Contains-append_right}
 use Rattle.graphql_names.specs.Placed.{Place}
 use Rattle.document_meaning.specs.MeantTree.{MeantOperation, MeantDocument}
@@ -10,7 +10,7 @@ use Rattle.rule_document_definitions.specs.DocumentRules.{DeferredBreaks}
 use Rattle.rule_document_definitions.specs.Selected.{operations}
 use Rattle.rule_document_definitions.specs.Subscriptions.{SubscriptionBreaks}
 use Rattle.rule_fragments.specs.SubscriptionTold.{AreAlike}
-use Rattle.rule_fragments.specs.UnlessFull.{TellsUnlessFull, HasAll, AddsUnlessFull}
+use Rattle.rule_fragments.specs.UnlessFull.{HasAll, AddsUnlessFull}
 use Rattle.rule_fragments.specs.Documents.{SomeDeferBreaks, SomeSubscriptionBreaks, TellsSubscriptions, TellsBreaches, DeferredTold, BreachesTold}
 use Rattle.rule_fragments.proofs.UnlessFull.{as_added, adds_both, adds_first, adds_by, adds_exactly}
 

@@ -1,9 +1,9 @@
 -- What is told where the work ends once as many faults are told as one call tells.
-use Rattle.std.proofs.Common.{◌≡◌, ◌≤◌, ◌<◌, ◌⊎◌, ◌↔◌, inl, inr, ◌++◌, ℕ, List, [], ◌∷◌, take, drop, length, refl, sym, ap, ◌∙◌, subst, Contains, arith}
+use Rattle.std.proofs.Common.{◌≡◌, ◌≤◌, ◌<◌, ◌⊎◌, ◌↔◌, inl, inr, ◌++◌, List, [], ◌∷◌, take, drop, length, refl, sym, ap, ◌∙◌, subst, Contains, arith}
 use Rattle.std.proofs.lemmas.Bool.{cases_lt}
 use Rattle.std.proofs.lemmas.List.{length-take-le, take-append-drop, take_all}
 use Rattle.std.proofs.lemmas.List.Elements.{Contains-append_left, Contains-append_right, Contains-append_cases}
-use Rattle.rule_definitions.proofs.Lists.{not_in_nil, only, Contains-first}
+use Rattle.rule_definitions.proofs.Lists.{not_in_nil, only}
 use Rattle.rule_definitions.specs.Room.{most_told, ◌⊕◌}
 use Rattle.rule_definitions.proofs.Room.{no_room, room_both, room_first}
 use Rattle.rule_fragments.specs.UnlessFull.{IsFull, TellsUnlessFull, HasAll, AddsUnlessFull}

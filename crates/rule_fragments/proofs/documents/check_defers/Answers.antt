@@ -10,7 +10,7 @@ use Rattle.rule_always.specs.in_ground.Broken.{brokens_of}
 use Rattle.rule_fragments.specs.Documents.{SomeDeferBreaks}
 use Rattle.rule_fragments.specs.UnlessFull.{HasAll}
 use Rattle.rule_fragments.proofs.Operations.{lent_operation, lent_operations, all_operations, one_behind, lent_more, lent_all, lent_among}
-use Rattle.rule_fragments.proofs.UnlessFull.{TellsEach, each_none, each_more, exactly_one, each_exactly, adds_by, adds_full}
+use Rattle.rule_fragments.proofs.UnlessFull.{each_none, each_more, exactly_one, each_exactly, adds_by, adds_full}
 use Rattle.rule_fragments.proofs.documents.check_defers.Goals as goal
 
 pub loop-operation-init : goal.loop-operation-init
