@@ -101,7 +101,7 @@ fn note_conditions(
     Ok(())
 }
 
-/// Under names of types, the conditions of inline fragments in a document's fragments that stand in sets on these types, are on
+/// Under names of types, the conditions of inline fragments in a document's fragments that are in sets on these types, are on
 /// no type without fields, and may apply there: none, where the document has one operation, since then nothing is shared.
 /// `possible` has the possible types of the schema, once they are found. They are found here, where they are not yet and some
 /// condition is another type than that where it stands. Fails where memory is refused.
