@@ -27,8 +27,8 @@
 #![tactic(auto)]
 
 mod applications;
-mod applying;
 mod breach;
+mod conditions;
 mod cycle_faults;
 mod cycles;
 mod defer;
@@ -45,7 +45,7 @@ mod targets;
 mod unused;
 
 pub use applications::check_applications;
-pub use applying::applying_conditions;
+pub use conditions::applying_conditions;
 pub use cycles::check_cycles;
 pub use documents::{deferred_breaches, document_breaches};
 pub use path_bound::passes_path_bound;

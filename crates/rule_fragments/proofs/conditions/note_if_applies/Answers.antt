@@ -6,7 +6,7 @@ use Rattle.rule_definitions.specs.Judged.{judged}
 use Rattle.rule_fragments.specs.Possible.{ArePossible, ArePossibleIfFound}
 use Rattle.rule_fragments.proofs.Sharing.{applies}
 use Rattle.rule_fragments.proofs.WhatApplies.{one_applies, is_composite}
-use Rattle.rule_fragments.proofs.applying.note_if_applies.Goals as goal
+use Rattle.rule_fragments.proofs.conditions.note_if_applies.Goals as goal
 
 pub returns-then-eq : goal.returns-then-eq
 returns-then-eq c =
