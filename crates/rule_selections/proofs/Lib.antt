@@ -1,3 +1,4 @@
+pub mod AbsentFields
 pub mod FieldKinds
 pub mod FieldPlaces
 pub mod SameUses

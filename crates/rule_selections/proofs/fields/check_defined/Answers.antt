@@ -8,7 +8,7 @@ use Rattle.schema_components.specs.Given.{component_tree}
 use Rattle.document_typed_selections.specs.declared.selection.Field.{Field}
 use Rattle.schema_types.specs.Plain.{plain}
 use Rattle.document_typing.specs.Meanings.{meanings}
-use Rattle.document_typing.proofs.FieldsFound.{field-absent}
+use Rattle.rule_selections.proofs.AbsentFields.{field_absent}
 use Rattle.fault_data.specs.Adds.{Adds}
 use Rattle.rule_definitions.specs.Judged.{judged}
 use Rattle.rule_definitions.specs.Uses.{Taker, TakerBreaks}
@@ -38,7 +38,7 @@ returns-in_default c defined =
     let n = c.args.parent.now.text in
     let f = c.content-selected.result.now in
     let missing = subst (λ x. FieldIsMissing (schema_tree x) n f.name.text c.in_default.field-0) c.schema.ensures c.in_default.ensures.missing in
-    let none = field-absent s n f.name.text c.in_default.field-0 missing in
+    let none = field_absent s n f.name.text c.in_default.field-0 missing in
     absurd (true≢false (sym (ap is_some (none ∙ ap (λ (g : Field). (meanings (plain s)).field n g.name.text) c.content-selected.ensures ∙ defined))))
 
 pub arguments_of_field-defined-requires : goal.arguments_of_field-defined-requires
