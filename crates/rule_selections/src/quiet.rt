@@ -40,6 +40,26 @@ fn enters_well(common: &Common<'_>, ty: &NamedType, selection: &Selection) -> bo
     }
 }
 
+/// How many faults are told of the selections of a fragment before the others are not judged any more: they stay.
+const MOST_JUDGED: usize = 4_000;
+
+/// What was met in the selections of a fragment: the variables that those use which stay, and how many faults were told.
+#[derive(Drop)]
+pub(crate) struct Met {
+    used: IndexSet<Name>,
+    told: usize,
+}
+
+impl Met {
+    /// Nothing.
+    pub(crate) fn new(alloc: Global) -> Met {
+        Met {
+            used: IndexSet::new(alloc),
+            told: 0,
+        }
+    }
+}
+
 /// Whether there is nothing to tell.
 fn is_nothing(faults: &Vec<Fault>) -> bool
     ensures { IsTrue result ↔ (faults_of faults.now ≡ []) }
@@ -54,6 +74,7 @@ fn is_quiet(
     common: &Common<'_>,
     ty: &NamedType,
     selection: &Selection,
+    told: &mut usize,
 ) -> Result<bool, AllocError>
     requires { IsRight common.now }
     ensures { IfOk result (λ b. IsTrue b → IsQuiet (terms_of common.now) (member_there ty.now selection.now)) }
@@ -62,13 +83,8 @@ fn is_quiet(
         return Ok(false);
     }
     let mut faults = Vec::new(alloc);
-    check_selection(
-        common.schema,
-        ty,
-        selection,
-        common.variables,
-        &mut faults,
-    )?;
+    check_selection(common.schema, ty, selection, common.variables, &mut faults)?;
+    *told = told.saturating_add(faults.len());
     Ok(is_nothing(&faults))
 }
 
@@ -79,13 +95,13 @@ pub(crate) fn may_go(
     common: &Common<'_>,
     ty: &NamedType,
     selection: &Selection,
-    used: &mut IndexSet<Name>,
+    met: &mut Met,
 ) -> Result<bool, AllocError>
     requires { IsRight common.now }
     ensures { IfOk result (λ b. IsTrue b → IsQuiet (terms_of common.now) (member_there ty.now selection.now)) }
 {
-    if !is_quiet(alloc, common, ty, selection)? {
+    if met.told >= MOST_JUDGED || !is_quiet(alloc, common, ty, selection, &mut met.told)? {
         return Ok(false);
     }
-    Ok(!uses_new(selection, used)?)
+    Ok(!uses_new(selection, &mut met.used)?)
 }

@@ -10,11 +10,10 @@ ghost use Rattle.rule_selections.specs.Telling.{terms_of, IsRight, SettlesIfLeft
 ghost use Rattle.rule_selections.specs.Within.{TakesBelow, TakesKept, TakesThinned, AreThinned};
 
 use crate::common::Common;
-use crate::quiet::may_go;
+use crate::quiet::{Met, may_go};
 use crate::within::sets_within;
 use document_typed_selections::{Field, InlineFragment, Selection, SelectionSet};
-use graphql_names::{Name, Node};
-use indexmap::IndexSet;
+use graphql_names::Node;
 use std::alloc::{AllocError, Global};
 use tree_literals::{NamedType, copies_of_three, copies_of_two};
 
@@ -109,14 +108,14 @@ fn is_settled(
     ty: &NamedType,
     selection: &Selection,
     left: &SelectionSet,
-    used: &mut IndexSet<Name>,
+    met: &mut Met,
 ) -> Result<bool, AllocError>
     requires { IsRight common.now }
     ensures { IfOk result (λ b. IsTrue b → SettlesIfLeft (terms_of common.now) ty.now selection.now left.now) }
 {
     if left.is_empty() {
-        let alloc = *used.allocator();
-        return may_go(alloc, common, ty, selection, used);
+        let alloc = *left.selections.allocator();
+        return may_go(alloc, common, ty, selection, met);
     }
     Ok(false)
 }
@@ -137,7 +136,7 @@ fn keep_unless_settled(
     ty: &NamedType,
     selection: &Selection,
     thin: &mut Vec<SelectionSet>,
-    used: &mut IndexSet<Name>,
+    met: &mut Met,
     kept: &mut SelectionSet,
 ) -> Result<(), AllocError>
     requires { IsRight common.now }
@@ -147,7 +146,7 @@ fn keep_unless_settled(
         kept.push(selection.clone()?)?;
         return Ok(());
     };
-    if is_settled(common, ty, selection, &left, used)? {
+    if is_settled(common, ty, selection, &left, met)? {
         return Ok(());
     }
     let alloc = *thin.allocator();
@@ -161,14 +160,14 @@ fn thinned_set(
     common: &Common<'_>,
     set: &SelectionSet,
     thin: &mut Vec<SelectionSet>,
-    used: &mut IndexSet<Name>,
+    met: &mut Met,
 ) -> Result<SelectionSet, AllocError>
     requires { IsRight common.now }
     ensures { IfOk result (λ r. TakesThinned (terms_of common.now) set.now r thin.old.items thin.new.items) }
 {
     let mut kept = SelectionSet::new(alloc, set.ty.clone()?);
     for selection in &set.selections {
-        keep_unless_settled(common, &set.ty, selection, thin, used, &mut kept)?;
+        keep_unless_settled(common, &set.ty, selection, thin, met, &mut kept)?;
     }
     Ok(kept)
 }
@@ -184,9 +183,9 @@ fn thinned_sets<'doc>(
     ensures { IfOk result (λ thin. AreThinned (terms_of common.now) sets.entry.items thin.items) }
 {
     let mut thin = Vec::new(alloc);
-    let mut used = IndexSet::new(alloc);
+    let mut met = Met::new(alloc);
     while let Some(next) = sets.pop() {
-        let set = thinned_set(alloc, common, next, &mut thin, &mut used)?;
+        let set = thinned_set(alloc, common, next, &mut thin, &mut met)?;
         thin.push(set)?;
     }
     Ok(thin)

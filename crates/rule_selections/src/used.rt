@@ -86,10 +86,7 @@ fn note_in_directives(
 
 /// Adds the names of the variables in a selection itself: in its directives, and in the arguments of a field.
 #[tactic(auto, using(document_typed_selections::proofs::TypedTrees::typed_tree_rules))]
-fn note_in_selection(
-    selection: &Selection,
-    names: &mut IndexSet<Name>,
-) -> Result<(), AllocError>
+fn note_in_selection(selection: &Selection, names: &mut IndexSet<Name>) -> Result<(), AllocError>
     ensures { OnOk result (noted_names names.new ≡ with_selection (noted_names names.old) (meant (typed_selection_tree selection.now))) }
 {
     match selection {
