@@ -27,4 +27,4 @@ module _ (s : Judged) {S T : Type 0} where
   ]
 
 pub is_composite : (s : SchemaTree Place) (c : List ℕ) → is_no_composite s c ≡ false → IsNotComposite (judged s) c → ⊥
-is_composite s c no h = true≢false (sym ((not_composite s c).1 h) ∙ no)
+is_composite s c is h = true≢false (sym ((not_composite s c).1 h) ∙ is)

@@ -26,9 +26,9 @@ returns-then-applies c =
     let composite = is_composite s k (sym c.is_no_composite.ensures ∙ c.if-is_no_composite.false) in
     let right = c.in_ok-types.ensures.right (subst (ArePossibleIfFound (judged s)) (sym c.take.ensures.value) c.requires.0) in
     let may = (applies (judged s) c.in_ok-types.types right t k).0 (sym c.in_ok-applies.ensures.applies ∙ c.if-applies.true) in
-    on_ok_weaker c.note-2.result
-    (λ h. (subst (ArePossible (judged s)) (sym c.may_apply.ensures.same) right, one_applies (judged s) c.args.applying.now c.note-2.new.noted t k composite may h c.requires.1))
-    c.note-2.ensures
+    on_ok_weaker c.note-then-applies.result
+    (λ h. (subst (ArePossible (judged s)) (sym c.may_apply.ensures.same) right, one_applies (judged s) c.args.applying.now c.note-then-applies.new.noted t k composite may h c.requires.1))
+    c.note-then-applies.ensures
 
 pub returns : goal.returns
 returns c =
