@@ -56,15 +56,11 @@ class Known(NamedTuple):
 
 # The families that are known to be worse than wanted.
 KNOWN = {
-    "dag": Known(factor=3.0),
-    "apply": Known(factor=3.5),
-    "told_ops": Known(factor=4.0),
+    "sets_apart": Known(megabytes=225),
+    "dag": Known(factor=3.15),
     "told_names": Known(megabytes=107),
-    "hash_lists": Known(factor=2.4),
-    "shared_variables": Known(factor=3.9),
+    "hash_lists": Known(factor=2.54),
     "told_roots": Known(factor=4.0, megabytes=156),
-    "told_variables": Known(factor=3.0),
-    "told_labels": Known(factor=3.5),
 }
 
 

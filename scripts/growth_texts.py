@@ -545,7 +545,7 @@ SCHEMA = 200_000
 FAMILIES = [
     family(repeat, 200, 18_800),
     family(repeat_heavy, 80, 18_500),
-    family(pairs, 800, 18_300, bound=4.3),
+    family(pairs, 2_000, 18_300, bound=4.3),
     family(sets_apart, 1_000, bound=4.3),
     family(tower, 160, 18_800),
     family(lists_heavy, 300),
