@@ -89,8 +89,8 @@ module _ (s : SchemaTree Place) (d : MeantDocument Place) where
             first_tells {Right = FailsBesideMerging s d} {TellsAll = HasLasting s d} (take most_told all) all refl (beside s d faults breaches false given.right breaks.right (λ no. absurd (true≢false (sym no))))
                 (parts_told faults breaches false given.full breaks.full (λ more others f h. subst (λ l. Contains l f) (sym kept) (full faults breaches more others f h))),
             λ f c.
-            let p = filtered lasts (take most_told all) f c in
-            right faults breaches given.right breaks.right f (subst (λ l. Contains l f) kept (passing lasts all f (of_first all f p.0) p.1)),
+                let p = filtered lasts (take most_told all) f c in
+                right faults breaches given.right breaks.right f (subst (λ l. Contains l f) kept (passing lasts all f (of_first all f p.0) p.1)),
           ),
         ),
       )
