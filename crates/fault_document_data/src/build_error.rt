@@ -54,7 +54,6 @@ pub enum BuildError {
     /// A subscription selects more than one field at its root (section 5.2.3.1).
     SubscriptionUsesMultipleFields {
         name: Option<Name>,
-        fields: Vec<Name>,
     },
     /// A subscription selects a meta-field at its root (section 5.2.3.1).
     SubscriptionUsesIntrospection {
@@ -99,7 +98,7 @@ impl Drop for BuildError {
             | BuildError::ConflictingFieldName(_)
             | BuildError::ConflictingFieldArgument(_)
             | BuildError::ConflictingFieldType(_)
-            | BuildError::SubscriptionUsesMultipleFields { name: _, fields: _ }
+            | BuildError::SubscriptionUsesMultipleFields { name: _ }
             | BuildError::SubscriptionUsesIntrospection { name: _, field: _ }
             | BuildError::SubscriptionUsesConditionalSelection { name: _ }
             | BuildError::DeferLabelMustNotBeVariable

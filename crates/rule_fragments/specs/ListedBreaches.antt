@@ -25,7 +25,7 @@ module _ {P : Type 0} where
 
   module _ (o : MeantOperation P) where
     abbrev pub multiple_fields : List (List ℕ) → List (Broken P)
-    multiple_fields names = if nat_lt 1 (length names) then broken o.place (SubscriptionUsesMultipleFields (operation_name o) names) ∷ [] else []
+    multiple_fields names = if nat_lt 1 (length names) then broken o.place (SubscriptionUsesMultipleFields (operation_name o)) ∷ [] else []
 
     abbrev pub introspection : MeantSelection P → List (Broken P)
     introspection (MeantField p d h s) = if list_any (bytes_eq h.name.it) meta_field_names then broken p (SubscriptionUsesIntrospection (operation_name o) h.name.it) ∷ [] else []

@@ -55,7 +55,7 @@ fn subscription_uses_multiple_fields(
         return Ok(());
     }
     let name = operation.content().name.clone()?;
-    let breach = BuildError::SubscriptionUsesMultipleFields { name, fields };
+    let breach = BuildError::SubscriptionUsesMultipleFields { name };
     tell_breach(breaches, Some((operation.location(), breach)))
 }
 
