@@ -42,6 +42,7 @@ mod spread_graph;
 mod spreads;
 mod subscriptions;
 mod targets;
+mod thinned;
 mod unused;
 
 pub use applications::check_applications;
