@@ -1,11 +1,21 @@
 -- What is found of operations, one after the other.
 use Rattle.std.proofs.Common.{◌≡◌, ◌↔◌, ◌⊎◌, ◌≤◌, inl, inr, List, [], ◌∷◌, ◌++◌, length, refl, sym, subst, Contains, arith}
-use Rattle.std.proofs.lemmas.List.Elements.{Contains-append_cases}
+use Rattle.std.proofs.lemmas.List.{length-append}
+use Rattle.std.proofs.lemmas.List.Elements.{Contains-append_left, Contains-append_cases}
+use Rattle.fault_lists.specs.Added.{BeginsAs}
 use Rattle.rule_definitions.proofs.Lists.{not_in_nil, only}
 use Rattle.rule_definitions.specs.Room.{most_told, ◌⊕◌}
 use Rattle.rule_fragments.specs.UnlessFull.{IsFull, TellsUnlessFull, HasAll}
 use Rattle.rule_fragments.proofs.UnlessFull.{adds_first, adds_exactly}
 use Rattle.graphql_validation.specs.Steps.{Joins}
+
+module _ {A : Type 0} where
+  -- what was there is there
+  still : (old new : List A) (f : A) → BeginsAs old new → Contains old f → Contains new f
+  still old new f (added, is) c = subst (λ l. Contains l f) (sym is) (Contains-append_left old added f c)
+
+  longer : (old new : List A) → BeginsAs old new → IsFull old → IsFull new
+  longer old new (added, is) full = subst IsFull (sym is) (let long = length-append old added in omega (arith, full, long))
 
 module _ {X A : Type 0} (Fails : X → A → Type 0) where
   -- all that fails of these is told
@@ -33,17 +43,17 @@ module _ {X A : Type 0} (Fails : X → A → Type 0) where
         full = inl (subst IsFull (sym h.1) h.0);
       }
       | inr h ↦ record {
-        right = λ f c. elim (h.1.from f c) [ inl k ↦ tells.right f k | inr k ↦ fails f (this.right f k) ];
-        most = h.1.most tells.most;
-        full = elim h.1.all [
+        right = λ f c. elim (h.1.0.from f c) [ inl k ↦ tells.right f k | inr k ↦ fails f (this.right f k) ];
+        most = h.1.0.most tells.most;
+        full = elim h.1.1 [
           | inl full ↦ inl full
           | inr every ↦ elim this.full [
             | inl full ↦ absurd (h.0 full)
             | inr has ↦ elim tells.full [
-              | inl full ↦ inl (omega (arith, full, h.1.longer))
+              | inl full ↦ inl (longer before new h.1.0.begins full)
               | inr told ↦ inr (λ y c f breaks. elim (Contains-append_cases xs (x ∷ []) y (subst (λ l. Contains l y) is c)) [
-                | inl k ↦ every f (inl (told y k f breaks))
-                | inr k ↦ every f (inr (has f (subst (λ z. Fails z f) (only x y k) breaks)))
+                | inl k ↦ still before new f h.1.0.begins (told y k f breaks)
+                | inr k ↦ every f (has f (subst (λ z. Fails z f) (only x y k) breaks))
               ])
             ]
           ]

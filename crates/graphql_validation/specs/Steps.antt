@@ -11,7 +11,7 @@ use Rattle.document_meaning.specs.MeantTree.{MeantOperation, MeantDocument}
 use Rattle.rule_selections.specs.in_typing.Meanings.{meanings}
 use Rattle.fault_data.specs.Adds.{Adds}
 use Rattle.fault_data.specs.FaultView.{faults_of}
-use Rattle.fault_lists.specs.Once.{AddsNew}
+use Rattle.fault_lists.specs.Added.{AddsNew, TellsAll}
 use Rattle.rule_definitions.specs.Room.{most_told}
 use Rattle.rule_merging.specs.in_faults.DetailsTree.{of_document}
 use Rattle.rule_merging.specs.in_faults.DetailsView.{diagnostics_of}
@@ -46,7 +46,7 @@ NotesAllReached d found = IsFull (faults_of found.faults) ⊎ NotesNames [] (not
 
 -- those of an operation alone, where they are as many as a call tells; else what was found before, and what of these is new
 abbrev pub Joins : {A : Type 0} → (before own new : List A) → Type 0
-Joins before own new = (IsFull own × (new ≡ own)) ⊎ ((IsFull own → ⊥) × AddsNew before own new)
+Joins before own new = (IsFull own × (new ≡ own)) ⊎ ((IsFull own → ⊥) × (AddsNew before own new × TellsAll own new))
 
 -- Where the list is full nothing comes after these; where it is not, fragments are under their own names, and the names are those that
 -- operations reach, so do the faults of all fragments.
