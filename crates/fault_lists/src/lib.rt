@@ -1,4 +1,6 @@
 //! Lists of faults in which no two are equal.
 #![tactic(auto)]
 
-pub mod same_breach;
+pub mod add;
+pub mod breach;
+pub mod told;
