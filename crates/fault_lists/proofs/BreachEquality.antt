@@ -3,8 +3,7 @@ use Rattle.std.proofs.Common.{◌≡◌, ℕ, Bool, ◌&&◌, List, map, refl, a
 use Rattle.std.specs.Bool.{Decides}
 use Rattle.std.specs.Option.{option_map, option_eq}
 use Rattle.std.specs.String.{string_bytes}
-use Rattle.std.specs.Cmp.Lexicographic.{pointwise}
-use Rattle.std.proofs.lemmas.Slice.Eq.{bytes_eq-Decides}
+use Rattle.std.specs.Cmp.Lexicographic.{bytes_decides}
 use Rattle.graphql_names.specs.NameValue.{NameValue}
 use Rattle.graphql_names.specs.Placed.{Place}
 use Rattle.graphql_values.proofs.Decided.{through, pair_decides}
@@ -28,10 +27,7 @@ use Rattle.fault_document_data.specs.contracts.build_error.BuildErrorPartialEq.T
 use Rattle.fault_document_data.specs.contracts.build_error.ConflictingFieldNamePartialEq.TheImpl as name_eq
 use Rattle.fault_document_data.specs.contracts.build_error.ConflictingFieldArgumentPartialEq.TheImpl as argument_eq
 use Rattle.fault_document_data.specs.contracts.build_error.ConflictingFieldTypePartialEq.TheImpl as conflict_type_eq
-use Rattle.fault_lists.proofs.Parts.{text_decides, option_decides, place_decides, attribute_decides, argument_decides}
-
-names_decide : (m n : Option NameValue) → Decides (option_eq (λ (a : NameValue) (b : NameValue). pointwise nat_eq a.text b.text) m n) (option_map text_of_name m ≡ option_map text_of_name n)
-names_decide = option_decides _ text_of_name text_decides
+use Rattle.fault_lists.proofs.Parts.{text_decides, names_decide, option_decides, place_decides, attribute_decides, argument_decides}
 
 values_decide : (x y : Option Value) → Decides (option_eq value_eq x y) (value_in_conflict x ≡ value_in_conflict y)
 values_decide = option_decides value_eq (λ v. unplaced_value (value_tree v)) value_eq-Decides
@@ -97,22 +93,22 @@ type_conflict_decides a b =
 pub breach_eq-Decides : (a b : BuildError) → Decides (eq.ghosts.eq a b) (document_breach_of a ≡ document_breach_of b)
 breach_eq-Decides rust.TypeSystemDefinition rust.TypeSystemDefinition = ((λ r. refl), (λ r. refl))
 breach_eq-Decides rust.AmbiguousAnonymousOperation rust.AmbiguousAnonymousOperation = ((λ r. refl), (λ r. refl))
-breach_eq-Decides (rust.OperationNameCollision a) (rust.OperationNameCollision b) = through (text_decides a b) (ap breach.OperationNameCollision) (λ r. cc)
-breach_eq-Decides (rust.FragmentNameCollision a) (rust.FragmentNameCollision b) = through (text_decides a b) (ap breach.FragmentNameCollision) (λ r. cc)
-breach_eq-Decides (rust.UndefinedRootOperation a) (rust.UndefinedRootOperation b) = through (operation_type_eq-Decides a b) (ap breach.UndefinedRootOperation) (λ r. cc)
-breach_eq-Decides (rust.UndefinedTypeInNamedFragmentTypeCondition a) (rust.UndefinedTypeInNamedFragmentTypeCondition b) = through (text_decides a b) (ap breach.UndefinedTypeInNamedFragmentTypeCondition) (λ r. cc)
-breach_eq-Decides (rust.UndefinedTypeInInlineFragmentTypeCondition a) (rust.UndefinedTypeInInlineFragmentTypeCondition b) = through (text_decides a b) (ap breach.UndefinedTypeInInlineFragmentTypeCondition) (λ r. cc)
-breach_eq-Decides (rust.SubselectionOnScalarType a) (rust.SubselectionOnScalarType b) = through (text_decides a b) (ap breach.SubselectionOnScalarType) (λ r. cc)
-breach_eq-Decides (rust.SubselectionOnEnumType a) (rust.SubselectionOnEnumType b) = through (text_decides a b) (ap breach.SubselectionOnEnumType) (λ r. cc)
-breach_eq-Decides (rust.UndefinedField a f) (rust.UndefinedField b g) = through (pair_decides _ _ (text_decides a b) (text_decides f g)) (λ s i. breach.UndefinedField (s.0 i) (s.1 i)) (λ r. (cc, cc))
-breach_eq-Decides (rust.ConflictingFieldName a) (rust.ConflictingFieldName b) = name_conflict_decides a.value b.value
-breach_eq-Decides (rust.ConflictingFieldArgument a) (rust.ConflictingFieldArgument b) = argument_conflict_decides a.value b.value
-breach_eq-Decides (rust.ConflictingFieldType a) (rust.ConflictingFieldType b) = type_conflict_decides a.value b.value
-breach_eq-Decides (rust.SubscriptionUsesMultipleFields a) (rust.SubscriptionUsesMultipleFields b) = through (names_decide a b) (ap breach.SubscriptionUsesMultipleFields) (λ r. cc)
-breach_eq-Decides (rust.SubscriptionUsesIntrospection a f) (rust.SubscriptionUsesIntrospection b g) = through (pair_decides _ _ (names_decide a b) (text_decides f g)) (λ s i. breach.SubscriptionUsesIntrospection (s.0 i) (s.1 i)) (λ r. (cc, cc))
-breach_eq-Decides (rust.SubscriptionUsesConditionalSelection a) (rust.SubscriptionUsesConditionalSelection b) = through (names_decide a b) (ap breach.SubscriptionUsesConditionalSelection) (λ r. cc)
+breach_eq-Decides (rust.OperationNameCollision name) (rust.OperationNameCollision name') = through (text_decides name name') (ap breach.OperationNameCollision) (λ r. cc)
+breach_eq-Decides (rust.FragmentNameCollision name) (rust.FragmentNameCollision name') = through (text_decides name name') (ap breach.FragmentNameCollision) (λ r. cc)
+breach_eq-Decides (rust.UndefinedRootOperation operation_type) (rust.UndefinedRootOperation operation_type') = through (operation_type_eq-Decides operation_type operation_type') (ap breach.UndefinedRootOperation) (λ r. cc)
+breach_eq-Decides (rust.UndefinedTypeInNamedFragmentTypeCondition type_name) (rust.UndefinedTypeInNamedFragmentTypeCondition type_name') = through (text_decides type_name type_name') (ap breach.UndefinedTypeInNamedFragmentTypeCondition) (λ r. cc)
+breach_eq-Decides (rust.UndefinedTypeInInlineFragmentTypeCondition type_name) (rust.UndefinedTypeInInlineFragmentTypeCondition type_name') = through (text_decides type_name type_name') (ap breach.UndefinedTypeInInlineFragmentTypeCondition) (λ r. cc)
+breach_eq-Decides (rust.SubselectionOnScalarType type_name) (rust.SubselectionOnScalarType type_name') = through (text_decides type_name type_name') (ap breach.SubselectionOnScalarType) (λ r. cc)
+breach_eq-Decides (rust.SubselectionOnEnumType type_name) (rust.SubselectionOnEnumType type_name') = through (text_decides type_name type_name') (ap breach.SubselectionOnEnumType) (λ r. cc)
+breach_eq-Decides (rust.UndefinedField type_name field_name) (rust.UndefinedField type_name' field_name') = through (pair_decides _ _ (text_decides type_name type_name') (text_decides field_name field_name')) (λ s i. breach.UndefinedField (s.0 i) (s.1 i)) (λ r. (cc, cc))
+breach_eq-Decides (rust.ConflictingFieldName c) (rust.ConflictingFieldName d) = name_conflict_decides c.value d.value
+breach_eq-Decides (rust.ConflictingFieldArgument c) (rust.ConflictingFieldArgument d) = argument_conflict_decides c.value d.value
+breach_eq-Decides (rust.ConflictingFieldType c) (rust.ConflictingFieldType d) = type_conflict_decides c.value d.value
+breach_eq-Decides (rust.SubscriptionUsesMultipleFields name) (rust.SubscriptionUsesMultipleFields name') = through (names_decide name name') (ap breach.SubscriptionUsesMultipleFields) (λ r. cc)
+breach_eq-Decides (rust.SubscriptionUsesIntrospection name field) (rust.SubscriptionUsesIntrospection name' field') = through (pair_decides _ _ (names_decide name name') (text_decides field field')) (λ s i. breach.SubscriptionUsesIntrospection (s.0 i) (s.1 i)) (λ r. (cc, cc))
+breach_eq-Decides (rust.SubscriptionUsesConditionalSelection name) (rust.SubscriptionUsesConditionalSelection name') = through (names_decide name name') (ap breach.SubscriptionUsesConditionalSelection) (λ r. cc)
 breach_eq-Decides rust.DeferLabelMustNotBeVariable rust.DeferLabelMustNotBeVariable = ((λ r. refl), (λ r. refl))
-breach_eq-Decides (rust.DuplicateDeferLabel l p) (rust.DuplicateDeferLabel m q) = through (pair_decides _ _ (bytes_eq-Decides (string_bytes l) (string_bytes m)) (place_decides p q)) (λ s i. breach.DuplicateDeferLabel (s.0 i) (s.1 i)) (λ r. (cc, cc))
-breach_eq-Decides (rust.DeferOnRootMutationOrSubscriptionField a) (rust.DeferOnRootMutationOrSubscriptionField b) = through (operation_type_eq-Decides a b) (ap breach.DeferOnRootMutationOrSubscriptionField) (λ r. cc)
+breach_eq-Decides (rust.DuplicateDeferLabel label original_location) (rust.DuplicateDeferLabel label' original_location') = through (pair_decides _ _ (bytes_decides (string_bytes label) (string_bytes label')) (place_decides original_location original_location')) (λ s i. breach.DuplicateDeferLabel (s.0 i) (s.1 i)) (λ r. (cc, cc))
+breach_eq-Decides (rust.DeferOnRootMutationOrSubscriptionField operation_type) (rust.DeferOnRootMutationOrSubscriptionField operation_type') = through (operation_type_eq-Decides operation_type operation_type') (ap breach.DeferOnRootMutationOrSubscriptionField) (λ r. cc)
 breach_eq-Decides rust.DeferInSubscriptionMustBeConditional rust.DeferInSubscriptionMustBeConditional = ((λ r. refl), (λ r. refl))
 breach_eq-Decides _ _ = ((λ r. cc), (λ r. cc))

@@ -13,10 +13,13 @@ use Rattle.graphql_names.specs.declared.span.FileId.{FileId}
 use Rattle.graphql_names.specs.declared.span.SourceSpan.{SourceSpan}
 use Rattle.graphql_names.specs.contracts.span.FileIdPartialEq.TheImpl as file
 use Rattle.graphql_names.specs.contracts.span.SourceSpanPartialEq.TheImpl as span
-use Rattle.schema_coordinates.specs.Coordinate.{OfAttribute, OfArgument}
-use Rattle.schema_coordinates.specs.CoordinateView.{attribute_coordinate, argument_coordinate}
+use Rattle.schema_coordinates.specs.Coordinate.{OfType, OfAttribute, OfArgument, OfDirective, OfDirectiveArgument}
+use Rattle.schema_coordinates.specs.CoordinateView.{attribute_coordinate, argument_coordinate, schema_coordinate}
 use Rattle.schema_coordinates.specs.declared.coordinate.TypeAttributeCoordinate.{TypeAttributeCoordinate}
 use Rattle.schema_coordinates.specs.declared.coordinate.FieldArgumentCoordinate.{FieldArgumentCoordinate}
+use Rattle.schema_coordinates.specs.declared.coordinate.SchemaCoordinate.{SchemaCoordinate}
+use Rattle.schema_coordinates.specs.declared.coordinate.SchemaCoordinate.TheVariants as rust
+use Rattle.schema_coordinates.specs.contracts.coordinate.SchemaCoordinatePartialEq.TheImpl as coordinate_eq
 use Rattle.schema_coordinates.specs.contracts.coordinate.TypeAttributeCoordinatePartialEq.TheImpl as attribute_eq
 use Rattle.schema_coordinates.specs.contracts.coordinate.FieldArgumentCoordinatePartialEq.TheImpl as argument_eq
 use Rattle.graphql_values.proofs.Decided.{through, pair_decides}
@@ -30,6 +33,9 @@ option_decides E u d None None = (λ h. refl, λ h. refl)
 option_decides E u d None (Some y) = (λ h. cc, λ h. cc)
 option_decides E u d (Some x) None = (λ h. cc, λ h. cc)
 option_decides E u d (Some x) (Some y) = through (d x y) (λ p i. Some (p i)) (λ r. cc)
+
+pub names_decide : (m n : Option NameValue) → Decides (option_eq (λ (a : NameValue) (b : NameValue). pointwise nat_eq a.text b.text) m n) (option_map text_of_name m ≡ option_map text_of_name n)
+names_decide = option_decides _ text_of_name text_decides
 
 same_span : (a b : SourceSpan) → a.file_id ≡ b.file_id → a.offset ≡ b.offset → a.length ≡ b.length → a ≡ b
 same_span a b file offset length = λ i. record {
@@ -60,3 +66,11 @@ attribute_decides m n = through (pair_decides _ _ (text_decides m.ty n.ty) (text
 
 pub argument_decides : (m n : FieldArgumentCoordinate) → Decides (argument_eq.ghosts.eq m n) (argument_coordinate m ≡ argument_coordinate n)
 argument_decides m n = through (pair_decides _ _ (text_decides m.ty n.ty) (pair_decides _ _ (text_decides m.field n.field) (text_decides m.argument n.argument))) (λ s i. OfArgument (s.0 i) (s.1.0 i) (s.1.1 i)) (λ r. (cc, (cc, cc)))
+
+pub coordinate_decides : (m n : SchemaCoordinate) → Decides (coordinate_eq.ghosts.eq m n) (schema_coordinate m ≡ schema_coordinate n)
+coordinate_decides (rust.Named m) (rust.Named n) = through (text_decides m.ty n.ty) (ap OfType) (λ r. cc)
+coordinate_decides (rust.TypeAttribute m) (rust.TypeAttribute n) = attribute_decides m n
+coordinate_decides (rust.FieldArgument m) (rust.FieldArgument n) = argument_decides m n
+coordinate_decides (rust.Directive m) (rust.Directive n) = through (text_decides m.directive n.directive) (ap OfDirective) (λ r. cc)
+coordinate_decides (rust.DirectiveArgument m) (rust.DirectiveArgument n) = through (pair_decides _ _ (text_decides m.directive n.directive) (text_decides m.argument n.argument)) (λ s i. OfDirectiveArgument (s.0 i) (s.1 i)) (λ r. (cc, cc))
+coordinate_decides _ _ = ((λ r. cc), (λ r. cc))
