@@ -30,10 +30,10 @@ fn are_at_same_places(one: &DiagnosticData, other: &DiagnosticData) -> bool
 }
 
 /// How many nodes the trace has.
-fn trace_len(data: &DiagnosticData) -> usize
-    ensures { result ≡ length (trace_places data.now) }
+fn trace_len(diagnostic: &DiagnosticData) -> usize
+    ensures { result ≡ length (trace_places diagnostic.now) }
 {
-    match data {
+    match diagnostic {
         DiagnosticData::RecursiveInputObjectDefinition { trace, .. } => trace.len(),
         DiagnosticData::RecursiveDirectiveDefinition { trace, .. } => trace.len(),
         DiagnosticData::RecursiveFragmentDefinition { trace, .. } => trace.len(),
@@ -42,11 +42,11 @@ fn trace_len(data: &DiagnosticData) -> usize
 }
 
 /// The place of a node of the trace.
-fn trace_place(data: &DiagnosticData, index: usize) -> Option<SourceSpan>
-    requires { index < length (trace_places data.now) }
-    ensures { result ≡ slice_index_or (trace_places data.now) index None }
+fn trace_place(diagnostic: &DiagnosticData, index: usize) -> Option<SourceSpan>
+    requires { index < length (trace_places diagnostic.now) }
+    ensures { result ≡ slice_index_or (trace_places diagnostic.now) index None }
 {
-    match data {
+    match diagnostic {
         DiagnosticData::RecursiveInputObjectDefinition { trace, .. } => trace[index].location(),
         DiagnosticData::RecursiveDirectiveDefinition { trace, .. } => trace[index].location(),
         DiagnosticData::RecursiveFragmentDefinition { trace, .. } => trace[index].location(),
