@@ -1,13 +1,13 @@
 -- Lists to which faults are added, one at a time.
-use Rattle.std.proofs.Common.{◌≡◌, ◌⊎◌, ◌∙◌, ◌<◌, ◌≤◌, ◌+◌, ℕ, List, [], ◌∷◌, ◌++◌, length, get_or, slice_get, Some, Bool, true, false, true≢false, IsTrue, ◌↔◌, map, Option, refl, sym, ap, subst, inl, inr, Contains, arith, append_assoc}
+use Rattle.std.proofs.Common.{◌≡◌, ◌⊎◌, ◌∙◌, ◌<◌, ◌≤◌, ℕ, List, [], ◌∷◌, ◌++◌, length, get_or, slice_get, Some, Bool, false, true≢false, IsTrue, ◌↔◌, map, refl, sym, ap, subst, inl, inr, Contains, arith, append_assoc}
 use Rattle.std.specs.Option.{option_map}
 use Rattle.std.proofs.lemmas.Bool.{cases_lt}
-use Rattle.std.proofs.lemmas.List.{append-nil, length-append, length-map, length_push, map-append, get_or_append_left}
+use Rattle.std.proofs.lemmas.List.{append-nil, length-append, length_push, map-append, get_or_append_left}
 use Rattle.std.proofs.lemmas.List.Elements.{Contains-append_cases, Contains-append_left, Contains-append_right}
 use Rattle.std.proofs.lemmas.Option.{slice_get_within, slice_get-get_or, get_or_from_slice_get}
 use Rattle.std.proofs.Math.Seq.{get_or-append_seam}
 use Rattle.rule_cycle_search.specs.Paths.{HasNoRepeat}
-use Rattle.rule_cycle_search.proofs.Lists.{not_in_nil, Contains-first, index_found, index_given, slice_get-map, only}
+use Rattle.rule_cycle_search.proofs.Lists.{Contains-first, index_given, slice_get-map, only}
 use Rattle.rule_definitions.specs.Room.{most_told}
 use Rattle.fault_lists.specs.Added.{BeginsAs, AddsNew, TellsAll}
 

@@ -1,21 +1,20 @@
 -- `==` of breaches of documents decides whether they say the same.
-use Rattle.std.proofs.Common.{◌≡◌, ℕ, Bool, ◌&&◌, List, map, refl, ap, nat_eq, Option, None, Some}
+use Rattle.std.proofs.Common.{◌≡◌, refl, ap, Option}
 use Rattle.std.specs.Bool.{Decides}
-use Rattle.std.specs.Option.{option_map, option_eq}
+use Rattle.std.specs.Option.{option_eq}
 use Rattle.std.specs.String.{string_bytes}
 use Rattle.std.specs.Cmp.Lexicographic.{bytes_decides}
-use Rattle.graphql_names.specs.NameValue.{NameValue}
 use Rattle.graphql_names.specs.Placed.{Place}
 use Rattle.graphql_values.proofs.Decided.{through, pair_decides}
 use Rattle.graphql_values.proofs.OperationEquality.{operation_type_eq-Decides}
-use Rattle.graphql_values.proofs.TypeEquality.{type_eq, type_eq-Decides}
+use Rattle.graphql_values.proofs.TypeEquality.{type_eq-Decides}
 use Rattle.graphql_values.proofs.ValueEquality.{value_eq, value_eq-Decides}
 use Rattle.tree_literals.specs.TypeTree.{type_tree, unplaced_type}
 use Rattle.tree_literals.specs.ValueTree.{value_tree, unplaced_value}
 use Rattle.tree_literals.specs.declared.value.Value.{Value}
 use Rattle.schema_coordinates.specs.Coordinate.{Coordinate}
 use Rattle.schema_coordinates.specs.CoordinateView.{attribute_coordinate, argument_coordinate}
-use Rattle.fault_document_data.specs.DocumentBreachView.{document_breach_of, text_of_name, name_conflict, argument_conflict, type_conflict, value_in_conflict}
+use Rattle.fault_document_data.specs.DocumentBreachView.{document_breach_of, name_conflict, argument_conflict, type_conflict, value_in_conflict}
 use Rattle.fault_document_data.specs.DocumentBreaches as breach
 use Rattle.fault_document_data.specs.DocumentBreaches.{Selected}
 use Rattle.fault_document_data.specs.declared.build_error.BuildError.{BuildError}
@@ -54,9 +53,9 @@ name_conflict_decides a b =
     (attribute_decides a.conflicting_selection b.conflicting_selection)))))
     (λ s i. breach.ConflictingFieldName (s.0 i) (selected (s.1.0 i) (s.1.1.0 i) tt) (selected (s.1.1.1.0 i) (s.1.1.1.1 i) tt))
     (λ r.
-        let o : selected {A = Unit {0}} a.original_location (attribute_coordinate a.original_selection) tt ≡ selected b.original_location (attribute_coordinate b.original_selection) tt = cc in
-        let c : selected {A = Unit {0}} a.conflicting_location (attribute_coordinate a.conflicting_selection) tt ≡ selected b.conflicting_location (attribute_coordinate b.conflicting_selection) tt = cc in
-        (cc, (ap location_of o, (ap coordinate_of o, (ap location_of c, ap coordinate_of c)))))
+    let o : selected {A = Unit {0}} a.original_location (attribute_coordinate a.original_selection) tt ≡ selected b.original_location (attribute_coordinate b.original_selection) tt = cc in
+    let c : selected {A = Unit {0}} a.conflicting_location (attribute_coordinate a.conflicting_selection) tt ≡ selected b.conflicting_location (attribute_coordinate b.conflicting_selection) tt = cc in
+    (cc, (ap location_of o, (ap coordinate_of o, (ap location_of c, ap coordinate_of c)))))
 
 argument_conflict_decides : (a b : ConflictingFieldArgument) → Decides (argument_eq.ghosts.eq a b) (argument_conflict a ≡ argument_conflict b)
 argument_conflict_decides a b =
@@ -70,9 +69,9 @@ argument_conflict_decides a b =
     (values_decide a.conflicting_value b.conflicting_value)))))))
     (λ s i. breach.ConflictingFieldArgument (s.0 i) (selected (s.1.0 i) (s.1.1.0 i) (s.1.1.1.0 i)) (selected (s.1.1.1.1.0 i) (s.1.1.1.1.1.0 i) (s.1.1.1.1.1.1 i)))
     (λ r.
-        let o : selected a.original_location (argument_coordinate a.original_coordinate) (value_in_conflict a.original_value) ≡ selected b.original_location (argument_coordinate b.original_coordinate) (value_in_conflict b.original_value) = cc in
-        let c : selected a.conflicting_location (argument_coordinate a.conflicting_coordinate) (value_in_conflict a.conflicting_value) ≡ selected b.conflicting_location (argument_coordinate b.conflicting_coordinate) (value_in_conflict b.conflicting_value) = cc in
-        (cc, (ap location_of o, (ap coordinate_of o, (ap what_of o, (ap location_of c, (ap coordinate_of c, ap what_of c)))))))
+    let o : selected a.original_location (argument_coordinate a.original_coordinate) (value_in_conflict a.original_value) ≡ selected b.original_location (argument_coordinate b.original_coordinate) (value_in_conflict b.original_value) = cc in
+    let c : selected a.conflicting_location (argument_coordinate a.conflicting_coordinate) (value_in_conflict a.conflicting_value) ≡ selected b.conflicting_location (argument_coordinate b.conflicting_coordinate) (value_in_conflict b.conflicting_value) = cc in
+    (cc, (ap location_of o, (ap coordinate_of o, (ap what_of o, (ap location_of c, (ap coordinate_of c, ap what_of c)))))))
 
 type_conflict_decides : (a b : ConflictingFieldType) → Decides (conflict_type_eq.ghosts.eq a b) (type_conflict a ≡ type_conflict b)
 type_conflict_decides a b =
@@ -86,9 +85,9 @@ type_conflict_decides a b =
     (type_eq-Decides a.conflicting_type b.conflicting_type)))))))
     (λ s i. breach.ConflictingFieldType (s.0 i) (selected (s.1.0 i) (s.1.1.0 i) (s.1.1.1.0 i)) (selected (s.1.1.1.1.0 i) (s.1.1.1.1.1.0 i) (s.1.1.1.1.1.1 i)))
     (λ r.
-        let o : selected a.original_location (attribute_coordinate a.original_coordinate) (unplaced_type (type_tree a.original_type)) ≡ selected b.original_location (attribute_coordinate b.original_coordinate) (unplaced_type (type_tree b.original_type)) = cc in
-        let c : selected a.conflicting_location (attribute_coordinate a.conflicting_coordinate) (unplaced_type (type_tree a.conflicting_type)) ≡ selected b.conflicting_location (attribute_coordinate b.conflicting_coordinate) (unplaced_type (type_tree b.conflicting_type)) = cc in
-        (cc, (ap location_of o, (ap coordinate_of o, (ap what_of o, (ap location_of c, (ap coordinate_of c, ap what_of c)))))))
+    let o : selected a.original_location (attribute_coordinate a.original_coordinate) (unplaced_type (type_tree a.original_type)) ≡ selected b.original_location (attribute_coordinate b.original_coordinate) (unplaced_type (type_tree b.original_type)) = cc in
+    let c : selected a.conflicting_location (attribute_coordinate a.conflicting_coordinate) (unplaced_type (type_tree a.conflicting_type)) ≡ selected b.conflicting_location (attribute_coordinate b.conflicting_coordinate) (unplaced_type (type_tree b.conflicting_type)) = cc in
+    (cc, (ap location_of o, (ap coordinate_of o, (ap what_of o, (ap location_of c, (ap coordinate_of c, ap what_of c)))))))
 
 pub breach_eq-Decides : (a b : BuildError) → Decides (eq.ghosts.eq a b) (document_breach_of a ≡ document_breach_of b)
 breach_eq-Decides rust.TypeSystemDefinition rust.TypeSystemDefinition = ((λ r. refl), (λ r. refl))

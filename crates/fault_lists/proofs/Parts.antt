@@ -1,5 +1,5 @@
 -- `==` of what faults are made of: names, texts, places, coordinates.
-use Rattle.std.proofs.Common.{◌≡◌, ℕ, ◌+◌, ◌<◌, ◌^◌, Bool, ◌&&◌, List, map, refl, ap, nat_eq, Option, None, Some}
+use Rattle.std.proofs.Common.{◌≡◌, ◌+◌, ◌<◌, ◌^◌, Bool, refl, ap, nat_eq, Option, None, Some}
 use Rattle.std.proofs.Props.{props}
 use Rattle.std.specs.Bool.{Decides}
 use Rattle.std.specs.Option.{option_map, option_eq}

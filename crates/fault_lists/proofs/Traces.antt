@@ -45,8 +45,7 @@ module _ {A B : Type 0} (E : A → A → Bool) (plain : A → B) (d : (a b : A) 
   trace_same [] (y ∷ ys) = (λ h l. cc, λ r. cc)
   trace_same (x ∷ xs) [] = (λ h l. cc, λ r. cc)
   trace_same (x ∷ xs) (y ∷ ys) =
-      let rest = trace_same xs ys in
-      (
+      let rest = trace_same xs ys in (
         (λ h l.
             let tests = both _ _ h in
             let at : place x ≡ place y = cc in

@@ -1,7 +1,5 @@
-use Rattle.std.proofs.Common.{◌≡◌, ◌++◌, ◌∷◌, ◌∙◌, ◌≤◌, [], length, map, sym, ap, inl, append_assoc, arith}
-use Rattle.std.proofs.lemmas.List.{length-map}
+use Rattle.std.proofs.Common.{◌≡◌, ◌++◌, ◌∷◌, ◌∙◌, [], length, map, sym, ap, append_assoc, arith}
 use Rattle.std.specs.Vec.Iter.{into_iter_items}
-use Rattle.rule_definitions.specs.Room.{most_told}
 use Rattle.fault_lists.proofs.Adding.{adds_first, adds_more, tells_more, tells_all}
 use Rattle.fault_lists.proofs.add.add_new.Goals as goal
 

@@ -1,4 +1,4 @@
-use Rattle.std.proofs.Common.{◌≡◌, ◌<◌, ◌≤◌, ◌⊎◌, ℕ, map, slice_get, length, Some, arith, subst, inl, inr}
+use Rattle.std.proofs.Common.{◌≡◌, ◌<◌, map, slice_get, length, Some, arith, subst, inl, inr}
 use Rattle.std.proofs.lemmas.Bool.{cases_lt}
 use Rattle.fault_lists.proofs.Adding.{says_otherwise}
 use Rattle.fault_lists.proofs.add.find_between.Goals as goal

@@ -1,4 +1,4 @@
-use Rattle.std.proofs.Common.{◌≡◌, ◌≢◌, ◌<◌, ◌≤◌, ℕ, map, slice_get, Some}
+use Rattle.std.proofs.Common.{◌≢◌, ◌<◌, ◌≤◌, ℕ, map, slice_get, Some}
 use Rattle.fault_lists.proofs.add.find_between.Given as goal
 
 abbrev pub invariant-loop-index : goal.invariant-loop-index

@@ -1,4 +1,4 @@
-use Rattle.std.proofs.Common.{◌≡◌, ◌<◌, ◌⊎◌, ◌∙◌, ℕ, Bool, true, false, true≢false, not, slice_index_or, None, refl, sym, subst, inl, inr, arith}
+use Rattle.std.proofs.Common.{◌≡◌, ◌<◌, ◌∙◌, Bool, true, false, true≢false, not, slice_index_or, None, refl, sym, subst, inl, inr, arith}
 use Rattle.std.specs.Bool.{Decides}
 use Rattle.std.proofs.lemmas.Bool.{cases_lt}
 use Rattle.std.proofs.lemmas.List.{get_or_default, same_lists}
@@ -29,8 +29,7 @@ returns c =
     let others = trace_places c.args.other.now in
     let count = c.if-count-trace_len.false in
     let long = sym c.trace_len-count.ensures ∙ c.if-count-trace_len.false ∙ c.trace_len.ensures in
-    let at = c.loop-index.invariant in
-    (
+    let at = c.loop-index.invariant in (
       (λ h. same_lists ones others long (λ k d within.
           let low : k < c.loop-index.index = omega (arith, c.trace_len-count.ensures) in
           get_or_default ones k d None within ∙ at k low ∙ get_or_default others k None d (omega (arith, long)))),

@@ -1,4 +1,4 @@
-use Rattle.std.proofs.Common.{◌≡◌, ◌∙◌, List, sym, ap, true≢false}
+use Rattle.std.proofs.Common.{◌∙◌, List, sym, ap, true≢false}
 use Rattle.graphql_names.specs.Placed.{Place}
 use Rattle.rule_definitions.specs.Diagnostics.{Diagnostic}
 use Rattle.rule_definitions.specs.Faults.{FaultAt, wrong}

@@ -1,4 +1,4 @@
-use Rattle.std.proofs.Common.{◌≡◌, ◌∙◌, sym, ap, true≢false}
+use Rattle.std.proofs.Common.{◌∙◌, sym, ap, true≢false}
 use Rattle.graphql_names.specs.Placed.{Place}
 use Rattle.fault_document_data.specs.DocumentBreaches.{DocumentBreach}
 use Rattle.fault_lists.proofs.Parts.{place_decides}
