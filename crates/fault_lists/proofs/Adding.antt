@@ -1,4 +1,4 @@
--- Lists to which faults are added, one at a time.
+-- Lists to which faults are added, one at a time: what AddsNew and TellsAll say of each step.
 use Rattle.std.proofs.Common.{◌≡◌, ◌⊎◌, ◌∙◌, ◌<◌, ◌≤◌, ℕ, List, [], ◌∷◌, ◌++◌, length, get_or, slice_get, Some, Bool, false, true≢false, IsTrue, ◌↔◌, map, refl, sym, ap, subst, inl, inr, Contains, arith, append_assoc}
 use Rattle.std.specs.Option.{option_map}
 use Rattle.std.proofs.lemmas.Bool.{cases_lt}

@@ -47,7 +47,7 @@ module _ {A B : Type 0} (E : A → A → Bool) (plain : A → B) (d : (a b : A) 
   trace_same (x ∷ xs) (y ∷ ys) =
       let rest = trace_same xs ys in (
         (λ h l.
-            let tests = both _ _ h in
+            let tests : (E (content x) (content y) ≡ true) × (pointwise (λ m n. E (content m) (content n)) xs ys ≡ true) = both _ _ h in
             let at : place x ≡ place y = cc in
             let says : plain (content x) ≡ plain (content y) = (d (content x) (content y)).0 tests.0 in
             let others : map place xs ≡ map place ys = cc in

@@ -26,7 +26,7 @@ pub fn add_new<T: Told + Drop>(told: &mut Vec<T>, more: Vec<T>) -> Result<(), Al
     Ok(())
 }
 
-/// Adds it at the end, if it is not there. Gives where to begin to look for the next: behind the one that was there.
+/// Adds it at the end, if it is not there. Gives where to begin to look for the next: after the one that was there.
 fn add_one<T: Told + Drop>(told: &mut Vec<T>, one: T, from: usize) -> Result<usize, AllocError>
     requires begin { from ≤ vec_len told.old }
     requires room { vec_len told.old < most_told }

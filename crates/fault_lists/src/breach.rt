@@ -15,12 +15,11 @@ pub fn is_same_breach(one: &BuildError, other: &BuildError) -> bool
 
 /// A breach with its place.
 impl Told for (Option<SourceSpan>, BuildError) {
-    ghost use Rattle.graphql_names.specs.Placed.{Place};
-    ghost use Rattle.fault_document_data.specs.DocumentBreaches.{DocumentBreach};
+    ghost use Rattle.fault_lists.specs.PlacedBreach.{PlacedBreach, placed_breach};
 
-    ghost Plain = { Place × DocumentBreach Place };
+    ghost Plain = { PlacedBreach };
 
-    ghost plain = { λ breach. (breach.0, document_breach_of breach.1) };
+    ghost plain = { placed_breach };
 
     fn is_same(&self, other: &(Option<SourceSpan>, BuildError)) -> bool {
         // places first: they differ mostly

@@ -1,4 +1,4 @@
-//! What stands in a list of faults.
+//! What a list of faults can have.
 
 /// What a list of faults tells: contracts see it as plain data.
 pub trait Told {

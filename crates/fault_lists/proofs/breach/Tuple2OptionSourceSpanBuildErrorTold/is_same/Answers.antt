@@ -1,13 +1,14 @@
 use Rattle.std.proofs.Common.{◌∙◌, sym, ap, true≢false}
 use Rattle.graphql_names.specs.Placed.{Place}
 use Rattle.fault_document_data.specs.DocumentBreaches.{DocumentBreach}
+use Rattle.fault_lists.specs.PlacedBreach.{PlacedBreach}
 use Rattle.fault_lists.proofs.Parts.{place_decides}
 use Rattle.fault_lists.proofs.breach.Tuple2OptionSourceSpanBuildErrorTold.is_same.Goals as goal
 
-abbrev place_of : Place × DocumentBreach Place → Place
+abbrev place_of : PlacedBreach → Place
 place_of breach = breach.0
 
-abbrev said : Place × DocumentBreach Place → DocumentBreach Place
+abbrev said : PlacedBreach → DocumentBreach Place
 said breach = breach.1
 
 pub returns-then-eq : goal.returns-then-eq
