@@ -16,13 +16,14 @@ import sys
 import sources
 from variants import (
     COPIED, DATA, TYPES, alphabet, box_drop_lines, box_lines, clone_lines, conflict, conflict_lines,
-    constructor_lines, copied_lines, document_gap_words, document_view, document_words, drop_by_owned_lines,
+    constructor_lines, copied_lines, decided_lines, document_gap_words, document_view, document_words, drop_by_owned_lines,
     drop_lines, equations, folding_message, folding_words, gap_words, group_lines, letters, message_arms,
     message_text, name_lines, owned, plain_applied, repeat_error_lines, repeat_lines, repeating, short_view,
-    template_lines, unplaced, variant_lines, with_lines,
+    template_lines, unplaced, variant_lines, with_lines, with_trace,
 )
 
 BOOK = "docs/rulebook.txt"
+SAME = "crates/fault_lists/proofs/"
 STAGES = ["folding", "schemas", "typing", "documents", "merging"]
 
 
@@ -249,6 +250,8 @@ def data_parts(e):
         function = f"is_of_{kind}"
         yield Part(specs + "CopyGroups.antt", function, below(f"abbrev pub {function} "),
                    group_lines(function, e, kind, lambda entry: "true", "false"))
+    yield Part(SAME + "DataEquality.antt", "data_same", below("pub data_same "),
+               decided_lines("data_same", e, "tree.", with_trace, "((λ r s. cc), (λ r. cc))"))
     front = "use Rattle.rule_definitions.specs.Diagnostics.{Diagnostic, "
     yield Part(specs + "Messages.antt", "the import", line(front), imported(front, e))
     yield Part(specs + "Messages.antt", "diagnostic_message", below("  abbrev pub diagnostic_message "),
@@ -270,6 +273,8 @@ def document_parts(e):
                constructor_lines(e, "DocumentBreach P", "TypeTree (Unit {0})"))
     yield Part(specs + "DocumentBreachView.antt", "document_breach_of", below("abbrev pub document_breach_of "),
                equations("document_breach_of", e, "rust.", document_view, letters))
+    yield Part(SAME + "BreachEquality.antt", "breach_eq-Decides", below("pub breach_eq-Decides "),
+               decided_lines("breach_eq-Decides", e, "breach.", lambda entry, reason: reason, "((λ r. cc), (λ r. cc))"))
     front = "use Rattle.fault_document_data.specs.DocumentBreaches.{DocumentBreach, "
     yield Part(specs + "DocumentMessages.antt", "the import", line(front), imported(front, e))
     yield Part(specs + "DocumentMessages.antt", "document_message", below("  abbrev pub document_message "),

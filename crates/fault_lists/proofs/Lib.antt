@@ -1,0 +1,5 @@
+pub mod Parts
+pub mod BreachEquality
+pub mod Traces
+pub mod DataEquality
+pub mod Adding
