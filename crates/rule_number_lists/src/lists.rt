@@ -1,5 +1,5 @@
 //! Lists of numbers that are remembered.
-ghost use Rattle.std.specs.Prelude.{◌≡◌, ℕ, List, [], ◌≤◌, ◌<◌, ◌+◌, length, IfOk, OnErr, IsPermutation, Contains, Vec};
+ghost use Rattle.std.specs.Prelude.{◌≡◌, ℕ, List, [], ◌≤◌, ◌<◌, ◌+◌, length, IsTrue, IfOk, OnErr, IsPermutation, Contains, Vec};
 ghost use Rattle.std.specs.Global.{Global};
 ghost use Rattle.std.specs.List.Sorted.{IsNonDecreasing};
 ghost use Rattle.std.proofs.Props.{props};
@@ -15,6 +15,8 @@ pub struct NumberLists {
     longer: IndexSet<Vec<usize>>,
     /// A number above all in the longer lists.
     above: usize,
+    /// The place of the longest of these.
+    longest: usize,
     ghost ordered: { (v : Vec ℕ Global) → Contains longer.keys v → IsNonDecreasing v.items } by { Prim.hlevel props },
     ghost within: { (v : Vec ℕ Global) → Contains longer.keys v → (n : ℕ) → Contains v.items n → n < above } by { Prim.hlevel props },
     ghost long: { (v : Vec ℕ Global) → Contains longer.keys v → 3 ≤ length v.items } by { Prim.hlevel props },
@@ -26,12 +28,13 @@ impl Drop for NumberLists {
             pairs: _,
             longer: _,
             above: _,
+            longest: _,
         } = self;
     }
 }
 
 impl NumberLists {
-    ghost use Rattle.rule_number_lists.specs.NumberLists.{list_of, lists_kept, Keeps};
+    ghost use Rattle.rule_number_lists.specs.NumberLists.{list_of, lists_kept, longest_of, Keeps};
 
     /// None.
     pub fn new(alloc: Global) -> NumberLists
@@ -41,6 +44,7 @@ impl NumberLists {
             pairs: NumberPairs::new(alloc),
             longer: IndexSet::new(alloc),
             above: 0,
+            longest: 0,
         }
     }
 
@@ -49,6 +53,24 @@ impl NumberLists {
         ensures { (list : List ℕ) → Contains (lists_kept self.now) list → (n : ℕ) → Contains list n → n < result }
     {
         self.above.max(self.pairs.bound())
+    }
+
+    /// Whether the number is in the longest list. Where all are of one or two this has none.
+    pub fn is_in_longest(&self, number: usize) -> bool
+        ensures { IsTrue result → Contains (longest_of self.now) number }
+    {
+        match self.longer.get_index(self.longest) {
+            None => false,
+            Some(list) => list.binary_search(&number).is_ok(),
+        }
+    }
+
+    /// The place of the longest list, where one of this length comes last.
+    fn longest_with(&self, length: usize) -> usize {
+        match self.longer.get_index(self.longest) {
+            Some(list) if length <= list.len() => self.longest,
+            _ => self.longer.len(),
+        }
     }
 
     /// Remembers a list of two numbers, or of one where both are it. Whether it was not remembered before is given.
@@ -81,7 +103,9 @@ impl NumberLists {
     {
         let above = above(&numbers)?;
         let numbers = in_order(numbers);
+        let longest = self.longest_with(numbers.len());
         self.above = self.above.max(above);
+        self.longest = longest;
         Ok(self.longer.insert(numbers)?)
     }
 }
