@@ -173,7 +173,13 @@ impl Remembered {
     pub fn stand_together(&self, ones: &[Member<'_>], others: &[Member<'_>]) -> bool
         ensures { IsTrue result → (w : FieldSets) → AreSets w → AreMembersOf w ones.now → AreMembersOf w others.now → AllStandIn (remembered w self.now) (contents_of ones.now) (contents_of others.now) }
     {
-        are_many(ones.len(), others.len()) && self.has_all(ones) && self.has_all(others)
+        if !are_many(ones.len(), others.len()) {
+            return false;
+        }
+        if !self.has_all(ones) {
+            return false;
+        }
+        self.has_all(others)
     }
 
     /// Notes that the sets of two nodes are looked at together. Whether they were not noted before is given: two with the same contents.
