@@ -2,7 +2,7 @@
 ghost use Rattle.std.specs.Prelude.{◌≡◌, ◌∷◌, [], map, is_some, Contains, IsTrue, IfOk, OnErr};
 ghost use Rattle.rule_same_values.specs.in_document_definitions.ReadFields.{list_read};
 ghost use Rattle.rule_field_sets.specs.Nodes.{AreSets, HasMember};
-ghost use Rattle.rule_number_lists.specs.NumberLists.{lists_kept, longest_of};
+ghost use Rattle.rule_number_lists.specs.NumberLists.{lists_kept, list_at};
 ghost use Rattle.rule_field_sets.specs.Read.{set_at, set_content_at};
 ghost use Rattle.rule_field_sets.specs.declared.field_sets.FieldSets.{FieldSets};
 ghost use Rattle.rule_field_groups.specs.Members.{contents_of, meant_sets, read_sets, AreMembersOf, contents_of_two};
@@ -156,30 +156,41 @@ impl Remembered {
         self.lists.remember_two(one.number, other.number)
     }
 
-    /// Whether the longest list of fields that was examined has all of these.
-    fn has_all(&self, fields: &[Member<'_>]) -> bool
-        ensures { IsTrue result → (m : Member) → Contains fields.now m → Contains (longest_of self.now.lists) m.number }
+    /// Whether the list of fields at a place has all of these.
+    fn has_all(&self, place: usize, fields: &[Member<'_>]) -> bool
+        ensures { IsTrue result → (m : Member) → Contains fields.now m → Contains (list_at self.now.lists place) m.number }
     {
         for field in fields {
-            if !self.lists.is_in_longest(field.number) {
+            if !self.lists.is_at(place, field.number) {
                 return false;
             }
         }
         true
     }
 
-    /// Whether it is seen that one list that was examined has all of these fields: the longest one has. It is not looked where the
-    /// fields are so few that to compare them takes less.
+    /// The place of the longest list that was examined and has the first of these fields, if there is one.
+    fn place_of(&self, fields: &[Member<'_>]) -> Option<usize> {
+        match fields.first() {
+            None => None,
+            Some(field) => self.lists.place_of(field.number),
+        }
+    }
+
+    /// Whether it is seen that all of these fields stand in one list that was examined. It is not looked where they are so few that to
+    /// compare them takes less.
     pub fn stand_together(&self, ones: &[Member<'_>], others: &[Member<'_>]) -> bool
         ensures { IsTrue result → (w : FieldSets) → AreSets w → AreMembersOf w ones.now → AreMembersOf w others.now → AllStandIn (remembered w self.now) (contents_of ones.now) (contents_of others.now) }
     {
         if !are_many(ones.len(), others.len()) {
             return false;
         }
-        if !self.has_all(ones) {
+        let Some(place) = self.place_of(ones) else {
+            return false;
+        };
+        if !self.has_all(place, ones) {
             return false;
         }
-        self.has_all(others)
+        self.has_all(place, others)
     }
 
     /// Notes that the sets of two nodes are looked at together. Whether they were not noted before is given: two with the same contents.

@@ -25,9 +25,9 @@ list_of (a, b) = cond (a == b) (a ∷ []) (a ∷ b ∷ [])
 abbrev pub lists_kept : NumberLists → List (List ℕ)
 lists_kept m = map list_of (pairs_kept m.pairs) ++ map (λ v. v.items) m.longer.keys
 
--- the one of the longer lists that is asked for what stands together, if there is one
-abbrev pub longest_of : NumberLists → List ℕ
-longest_of m = option_map_or (λ v. v.items) (slice_get m.longer.keys m.longest) []
+-- the longer list at a place, if there is one
+abbrev pub list_at : NumberLists → ℕ → List ℕ
+list_at m place = option_map_or (λ v. v.items) (slice_get m.longer.keys place) []
 
 -- the list that is kept for these numbers: the same in another order, if nothing stands in them twice
 abbrev pub IsKeptFor : List ℕ → List ℕ → Type 0

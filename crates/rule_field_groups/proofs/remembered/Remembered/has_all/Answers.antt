@@ -11,7 +11,7 @@ pub loop-field-preserved : goal.loop-field-preserved
 loop-field-preserved c =
     let i = c.loop-field.field-index in
     let h : i < length c.args.fields.now = omega arith in
-    numbers_more c.args.self.now.lists c.args.fields.now i c.field-item.result h c.field-item.is c.loop-field.invariant (c.is_in_longest.ensures c.if-not-is_in_longest.false)
+    numbers_more c.args.self.now.lists c.args.place c.args.fields.now i c.field-item.result h c.field-item.is c.loop-field.invariant (c.is_at.ensures c.if-not-is_at.false)
 
 pub returns : goal.returns
-returns c is = subst (HasNumbers c.args.self.now.lists) (take_all c.loop-field.field-index c.args.fields.now c.loop-field-test.false) c.loop-field.invariant
+returns c is = subst (HasNumbers c.args.self.now.lists c.args.place) (take_all c.loop-field.field-index c.args.fields.now c.loop-field-test.false) c.loop-field.invariant

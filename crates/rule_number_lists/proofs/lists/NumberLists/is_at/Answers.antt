@@ -1,8 +1,8 @@
 use Rattle.std.proofs.Common.{◌∙◌, [], List, ℕ, Contains, sym, ap, subst}
 use Rattle.std.specs.Option.{option_copied, option_map_or}
-use Rattle.rule_number_lists.specs.NumberLists.{longest_of}
+use Rattle.rule_number_lists.specs.NumberLists.{list_at}
 use Rattle.rule_number_lists.proofs.Found.{found}
-use Rattle.rule_number_lists.proofs.lists.NumberLists.is_in_longest.Goals as goal
+use Rattle.rule_number_lists.proofs.lists.NumberLists.is_at.Goals as goal
 
 pub returns-in-Some : goal.returns-in-Some
 returns-in-Some c is =
