@@ -176,7 +176,7 @@ impl Remembered {
         }
     }
 
-    /// Whether it is seen that all of these fields stand in one list that was examined. It is not looked where they are so few that to
+    /// Whether it is seen that all of these fields are in one list that was examined. It is not looked where they are so few that to
     /// compare them takes less.
     pub fn stand_together(&self, ones: &[Member<'_>], others: &[Member<'_>]) -> bool
         ensures { IsTrue result → (w : FieldSets) → AreSets w → AreMembersOf w ones.now → AreMembersOf w others.now → AllStandIn (remembered w self.now) (contents_of ones.now) (contents_of others.now) }

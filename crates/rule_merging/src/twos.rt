@@ -128,7 +128,7 @@ impl<'doc> Examination<'_, 'doc> {
         Ok(())
     }
 
-    /// Compares each field of the one list with each of the other, unless all of them stand in one list that was examined, up to the
+    /// Compares each field of the one list with each of the other, unless all of them are in one list that was examined, up to the
     /// first that is told of: all that do not merge could be as many as fields times fields.
     pub(crate) fn examine_each(
         &self,
