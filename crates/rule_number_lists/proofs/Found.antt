@@ -1,5 +1,5 @@
 -- What is found in a list that is kept.
-use Rattle.std.proofs.Common.{◌≡◌, ◌∙◌, ℕ, true, false, List, [], map, length, slice_get, Option, Some, None, Vec, Result, Ok, Err, Contains, slice_index_or, Equal, nat_cmp, is_eq, true≢false, refl, sym, ap, subst}
+use Rattle.std.proofs.Common.{◌≡◌, ◌∙◌, ℕ, true, List, [], map, length, slice_get, Option, Some, None, Vec, Result, Ok, Err, Contains, slice_index_or, Equal, nat_cmp, is_eq, true≢false, refl, sym, ap, subst}
 use Rattle.std.specs.Global.{Global}
 use Rattle.std.specs.Option.{option_map_or}
 use Rattle.std.specs.Prelude.{HoldsAt, is_ok}

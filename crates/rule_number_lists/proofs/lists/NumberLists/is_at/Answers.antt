@@ -1,6 +1,5 @@
 use Rattle.std.proofs.Common.{◌∙◌, [], List, ℕ, Contains, sym, ap, subst}
 use Rattle.std.specs.Option.{option_copied, option_map_or}
-use Rattle.rule_number_lists.specs.NumberLists.{list_at}
 use Rattle.rule_number_lists.proofs.Found.{found}
 use Rattle.rule_number_lists.proofs.lists.NumberLists.is_at.Goals as goal
 
