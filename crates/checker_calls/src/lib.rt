@@ -21,6 +21,7 @@
 mod answer;
 mod command;
 mod layout;
+mod parts;
 mod read_device;
 mod reading;
 mod refusal;
@@ -34,6 +35,7 @@ mod write_device;
 
 pub use answer::{accepted, refused};
 pub use layout::{Layout, written};
+pub use parts::Parts;
 pub use read_device::{TextFault, numbered, read_text, read_texts};
 pub use reading::{Unread, read};
 pub use refusal::{Refusal, only};
