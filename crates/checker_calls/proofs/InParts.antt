@@ -13,7 +13,7 @@ use Rattle.std.proofs.Math.Seq.{take-append-add, take-append_seam}
 use Rattle.graphql_names.specs.declared.device.Device.{Device}
 use Rattle.graphql_names.specs.Device.{device_inner, device_failed}
 use Rattle.checker_calls.specs.Parts.{part_of, IsWithin, parts_bytes, AreSound, LiesAt, AddsBytes}
-use Rattle.checker_calls.specs.ReadFaults.{IsPutFault, IsPutFaultBehind}
+use Rattle.checker_calls.specs.ReadFaults.{IsPutFault, IsPutFaultAfter}
 use Rattle.checker_calls.specs.declared.parts.Parts.{Parts}
 use Rattle.checker_calls.specs.declared.run_fault.RunFault.{RunFault}
 use Rattle.checker_calls.specs.declared.run_fault.RunFault.TheVariants.{Writer}
@@ -24,11 +24,11 @@ use Rattle.checker_calls.specs.declared.run_fault.RunFault.TheVariants.{Writer}
 pub found : (kept text rest : List ℕ) (start : ℕ) → start ≤ length kept → rest ≡ slice_range kept start (length kept) → length rest + start ≡ length kept
     → length text ≤ length rest → rest ≡ text ++ drop (length text) rest → LiesAt kept text start
 found kept text rest start in' is long short begins = let less : start + length text - start ≡ length text = omega arith in (
-    omega (arith, in', long, short),
-    ap (λ n. take n (drop start kept)) less
-    ∙ ap (take (length text)) (sym (take_rest kept start) ∙ sym is ∙ begins)
-    ∙ take-append_seam text (drop (length text) rest),
-  )
+  omega (arith, in', long, short),
+  ap (λ n. take n (drop start kept)) less
+      ∙ ap (take (length text)) (sym (take_rest kept start) ∙ sym is ∙ begins)
+      ∙ take-append_seam text (drop (length text) rest),
+)
 
 -- ---- added
 
@@ -52,11 +52,10 @@ fits len text new small is = omega (arith, small, is)
 pub kept_behind : (old new : Parts) (text : List ℕ) → new.kept.items ≡ old.kept.items ++ text → new.ranges.items ≡ old.ranges.items → new.last ≡ old.last → new.len ≡ old.len + length text → new.len < 2 ^ 64 → AddsBytes old text new
 kept_behind old new text kept ranges last len fits sound =
     let bytes : parts_bytes new ≡ parts_bytes old ++ text =
-        (λ i. flat_map (part_of (kept i)) (ranges i) ++ drop (last i) (kept i))
-        ∙ (λ i. parts_on old.kept.items text old.ranges.items sound.ranges i ++ drop-append-le old.last old.kept.items text sound.last i)
-        ∙ sym (append_assoc (flat_map (part_of old.kept.items) old.ranges.items) (drop old.last old.kept.items) text) in
-    let more : length new.kept.items ≡ length old.kept.items + length text = ap length kept ∙ length-append old.kept.items text in
-    (
+    (λ i. flat_map (part_of (kept i)) (ranges i) ++ drop (last i) (kept i))
+    ∙ (λ i. parts_on old.kept.items text old.ranges.items sound.ranges i ++ drop-append-le old.last old.kept.items text sound.last i)
+    ∙ sym (append_assoc (flat_map (part_of old.kept.items) old.ranges.items) (drop old.last old.kept.items) text) in
+    let more : length new.kept.items ≡ length old.kept.items + length text = ap length kept ∙ length-append old.kept.items text in (
       record {
         ranges = subst (All (IsWithin (length new.kept.items))) (sym ranges) (All-weaker (IsWithin (length old.kept.items)) (IsWithin (length new.kept.items)) (λ r h. (h.0, omega (arith, h.1, more))) old.ranges.items sound.ranges);
         last = omega (arith, last, more, sound.last);
@@ -79,12 +78,11 @@ once_more old new text start end kept ranges last len fits ends lies sound =
     let one_in : within (old.last, length old.kept.items) = (sound.last, omega arith) in
     let two_in : within (start, end) = (omega (arith, ends), omega (arith, ends, lies.0)) in
     let bytes : parts_bytes new ≡ parts_bytes old ++ text =
-        (λ i. flat_map (part_of (kept i)) (ranges i) ++ drop (last i) (kept i))
-        ∙ (λ i. flat_map-append part old.ranges.items two i ++ drop_all (length old.kept.items) old.kept.items (omega arith) i)
-        ∙ append-nil (front ++ (slice_range old.kept.items old.last (length old.kept.items) ++ (slice_range old.kept.items start end ++ [])))
-        ∙ (λ i. front ++ (take_rest old.kept.items old.last i ++ (append-nil (same i) i)))
-        ∙ sym (append_assoc front rest text) in
-    (
+    (λ i. flat_map (part_of (kept i)) (ranges i) ++ drop (last i) (kept i))
+    ∙ (λ i. flat_map-append part old.ranges.items two i ++ drop_all (length old.kept.items) old.kept.items (omega arith) i)
+    ∙ append-nil (front ++ (slice_range old.kept.items old.last (length old.kept.items) ++ (slice_range old.kept.items start end ++ [])))
+    ∙ (λ i. front ++ (take_rest old.kept.items old.last i ++ (append-nil (same i) i)))
+    ∙ sym (append_assoc front rest text) in (
       record {
         ranges = subst (All (IsWithin (length new.kept.items))) (sym ranges) (subst (λ n. All (IsWithin n) (old.ranges.items ++ two)) (sym (ap length kept))
             (All-append within old.ranges.items two sound.ranges (All-cons within (old.last, length old.kept.items) ((start, end) ∷ []) one_in (All-cons within (start, end) [] two_in (All-nil within)))));
@@ -139,11 +137,11 @@ room_behind front text rest all before bound count is below =
 module _ {W : Type 0} (contents : W → Option (List ℕ)) (old mid new : Device W) where
   -- a text is written behind others, and not whole
   pub fault_behind : (front text rest all : List ℕ) (before : ℕ) (fault : RunFault) → before ≡ length front → all ≡ front ++ (text ++ rest) → Appends (contents (device_inner old)) (contents (device_inner mid)) front
-      → IsPutFaultBehind contents before mid new text fault → IsPutFault contents old new all fault
+      → IsPutFaultAfter contents before mid new text fault → IsPutFault contents old new all fault
   fault_behind front text rest all before fault count is out (taken, told, (short, failed, put)) =
       let long : length all ≡ length front + (length text + length rest) = ap length is ∙ length-append front (text ++ rest) ∙ ap (λ n. length front + n) (length-append text rest) in
       let cut : take (before + taken) all ≡ front ++ take taken text =
-          (λ i. take (count i + taken) (is i)) ∙ take-append-add front (text ++ rest) taken ∙ ap (λ bytes. front ++ bytes) (take-append-le taken text rest (omega (arith, short))) in
+      (λ i. take (count i + taken) (is i)) ∙ take-append-add front (text ++ rest) taken ∙ ap (λ bytes. front ++ bytes) (take-append-le taken text rest (omega (arith, short))) in
       let more : before + taken < length all = omega (arith, count, long, short) in
       subst (IsPutFault contents old new all) (sym told)
       (more, failed, subst (Appends (contents (device_inner old)) (contents (device_inner new))) (sym cut) (Appends-trans _ _ _ front (take taken text) out put))
@@ -179,11 +177,11 @@ module _ (parts : Parts) (sound : AreSound parts) (ranges : List (ℕ × ℕ)) (
 
   module _ {W : Type 0} (contents : W → Option (List ℕ)) (old mid new : Device W) (fault : RunFault) (out : Appends (contents (device_inner old)) (contents (device_inner mid)) (first_bytes parts i)) where
     -- one of them is not written whole
-    pub next_fault : i < length ranges → IsPutFaultBehind contents before mid new (part_of kept (get_or ranges i (0, 0))) fault → IsPutFault contents old new (parts_bytes parts) fault
+    pub next_fault : i < length ranges → IsPutFaultAfter contents before mid new (part_of kept (get_or ranges i (0, 0))) fault → IsPutFault contents old new (parts_bytes parts) fault
     next_fault in' h = fault_behind contents old mid new (first_bytes parts i) (part_of kept (get_or ranges i (0, 0))) (behind_first parts (i + 1)) (parts_bytes parts) before fault count (next_is in') out h
 
     -- nor the last
-    pub last_fault : length ranges ≤ i → IsPutFaultBehind contents before mid new (slice_range kept parts.last (length kept)) fault → IsPutFault contents old new (parts_bytes parts) fault
+    pub last_fault : length ranges ≤ i → IsPutFaultAfter contents before mid new (slice_range kept parts.last (length kept)) fault → IsPutFault contents old new (parts_bytes parts) fault
     last_fault past h = fault_behind contents old mid new (first_bytes parts i) (slice_range kept parts.last (length kept)) [] (parts_bytes parts) before fault count (last_and_none past) out h
 
 -- so many bytes are out with one more text

@@ -26,6 +26,6 @@ pub record AreSound (parts : Parts) : Type 0 where
 abbrev pub LiesAt : List ℕ → List ℕ → ℕ → Type 0
 LiesAt kept text start = (start + length text ≤ length kept) × (slice_range kept start (start + length text) ≡ text)
 
--- the text comes behind the bytes
+-- the text comes after the bytes
 abbrev pub AddsBytes : Parts → List ℕ → Parts → Type 0
 AddsBytes old text new = AreSound old → AreSound new × (parts_bytes new ≡ parts_bytes old ++ text)

@@ -40,6 +40,6 @@ IsPutFault contents old new bytes run.Memory = ⊥
 IsPutFault contents old new bytes (run.Reader number) = ⊥
 IsPutFault contents old new bytes (run.NotUtf8 number) = ⊥
 
--- the same of bytes behind so many others, which are out
-abbrev pub IsPutFaultBehind : {W : Type 0} → (W → Option (List ℕ)) → ℕ → Device W → Device W → List ℕ → RunFault → Type 0
-IsPutFaultBehind contents before old new bytes fault = (count : ℕ) × (fault ≡ run.Writer (before + count)) × IsPutFault contents old new bytes (run.Writer count)
+-- the same of bytes after so many others, which are out
+abbrev pub IsPutFaultAfter : {W : Type 0} → (W → Option (List ℕ)) → ℕ → Device W → Device W → List ℕ → RunFault → Type 0
+IsPutFaultAfter contents before old new bytes fault = (count : ℕ) × (fault ≡ run.Writer (before + count)) × IsPutFault contents old new bytes (run.Writer count)

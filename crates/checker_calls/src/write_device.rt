@@ -4,7 +4,7 @@ ghost use Rattle.std.specs.Prelude.{◌≡◌, ◌+◌, ◌^◌, ◌<◌, length
 ghost use Rattle.std.specs.Io.KnownBytes.{Appends};
 ghost use Rattle.graphql_names.specs.Device.{device_inner, device_failed};
 ghost use Rattle.checker_calls.specs.Parts.{parts_bytes, AreSound};
-ghost use Rattle.checker_calls.specs.ReadFaults.{IsPutFault, IsPutFaultBehind};
+ghost use Rattle.checker_calls.specs.ReadFaults.{IsPutFault, IsPutFaultAfter};
 
 use crate::parts::Parts;
 use crate::run_fault::RunFault;
@@ -20,23 +20,19 @@ pub fn put<W: Write>(out: &mut Device<W>, parts: &Parts) -> Result<(), RunFault>
 {
     let mut before = 0;
     for (start, end) in &parts.ranges {
-        before = put_behind(out, before, &parts.kept[*start..*end])?;
+        before = put_after(out, before, &parts.kept[*start..*end])?;
     }
-    put_behind(out, before, &parts.kept[parts.last..])?;
+    put_after(out, before, &parts.kept[parts.last..])?;
     Ok(())
 }
 
-/// Writes bytes behind so many others, and counts all that are out.
-fn put_behind<W: Write>(
-    out: &mut Device<W>,
-    before: usize,
-    bytes: &[u8],
-) -> Result<usize, RunFault>
+/// Writes bytes after so many others, and counts all that are out.
+fn put_after<W: Write>(out: &mut Device<W>, before: usize, bytes: &[u8]) -> Result<usize, RunFault>
     requires { before + length bytes.now < 2 ^ 64 }
     ensures count { IfOk result (λ count. count ≡ before + length bytes.now) }
     ensures whole { OnOk result (Appends (W.contents (device_inner out.old)) (W.contents (device_inner out.new)) bytes.now) }
     ensures running { OnOk result (device_failed out.new ≡ device_failed out.old) }
-    ensures fault { IfErr result (IsPutFaultBehind W.contents before out.old out.new bytes.now) }
+    ensures fault { IfErr result (IsPutFaultAfter W.contents before out.old out.new bytes.now) }
 {
     let written = out.write_front(bytes);
     if written < bytes.len() {

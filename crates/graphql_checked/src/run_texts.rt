@@ -18,7 +18,8 @@ use crate::checked_schema::CheckedSchema;
 use crate::checker::Limits;
 use crate::verdict::schema_of;
 use checker_calls::{
-    Layout, Outcome, Parts, RunFault, accepted, numbered, put, read_text, read_texts, refusal_answer,
+    Layout, Outcome, Parts, RunFault, accepted, numbered, put, read_text, read_texts,
+    refusal_answer,
 };
 use graphql_names::Device;
 use std::alloc::{AllocError, Global};
