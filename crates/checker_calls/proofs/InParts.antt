@@ -8,15 +8,13 @@ use Rattle.std.proofs.KnownBytes.{Appends-trans}
 use Rattle.std.proofs.lemmas.List.{append-nil, append_assoc, length-append, length-drop, take-append-drop, take-append-le, drop-append-le, take_all, drop_all, take_rest, take_more, flat_map_more}
 use Rattle.std.proofs.lemmas.List.Concat.{flat_map-append}
 use Rattle.std.proofs.lemmas.List.Elements.{All-head, All-tail, All-weaker, All-append, All-cons, All-nil}
-use Rattle.std.proofs.lemmas.List.Folds.{length-flat_map-take}
 use Rattle.std.proofs.Math.Seq.{take-append-add, take-append_seam}
 use Rattle.graphql_names.specs.declared.device.Device.{Device}
-use Rattle.graphql_names.specs.Device.{device_inner, device_failed}
+use Rattle.graphql_names.specs.Device.{device_inner}
 use Rattle.checker_calls.specs.Parts.{part_of, IsWithin, parts_bytes, AreSound, LiesAt, AddsBytes}
 use Rattle.checker_calls.specs.ReadFaults.{IsPutFault, IsPutFaultAfter}
 use Rattle.checker_calls.specs.declared.parts.Parts.{Parts}
 use Rattle.checker_calls.specs.declared.run_fault.RunFault.{RunFault}
-use Rattle.checker_calls.specs.declared.run_fault.RunFault.TheVariants.{Writer}
 
 -- ---- found
 
