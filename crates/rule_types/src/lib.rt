@@ -25,6 +25,7 @@ mod look_ups;
 mod members;
 mod reserved;
 mod roots;
+mod subtypes;
 mod types_used;
 mod valid_types;
 

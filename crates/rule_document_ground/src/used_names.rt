@@ -2,19 +2,19 @@
 ghost use Rattle.std.specs.Prelude.{◌≡◌, map, OnOk};
 ghost use Rattle.tree_literals.specs.ValueTree.{value_tree, item_trees, entry_trees};
 ghost use Rattle.graphql_names.specs.Placed.{node_tree};
-ghost use Rattle.tree_directives.specs.DirectiveTree.{argument_tree, directives_tree};
+ghost use Rattle.tree_operations.specs.DirectiveTree.{argument_tree, directives_tree};
 ghost use Rattle.document_typed_selections.specs.TypedTree.{typed_selection_tree};
-ghost use Rattle.document_meaning.specs.MeantTree.{meant};
+ghost use Rattle.rule_document_definitions.specs.in_document_meaning.MeantTree.{meant};
 ghost use Rattle.rule_document_ground.specs.NotedNames.{noted_names};
-ghost use Rattle.rule_variables.specs.UsedNames.{with_value, with_items, with_entries, with_arguments, with_directives, with_selection};
+ghost use Rattle.rule_document_ground.specs.UsedNames.{with_value, with_items, with_entries, with_arguments, with_directives, with_selection};
 
+use crate::noted_names::note_name;
 use document_typed_selections::Selection;
 use graphql_names::{Name, Node};
 use indexmap::IndexSet;
-use rule_document_ground::note_name;
 use std::alloc::AllocError;
-use tree_directives::{Argument, DirectiveList};
 use tree_literals::Value;
+use tree_operations::{Argument, DirectiveList};
 
 /// Adds the names of the variables in a value, at any depth.
 #[cycle(used)]
@@ -69,7 +69,7 @@ fn note_in_arguments(given: &[Node<Argument>], names: &mut IndexSet<Name>) -> Re
 }
 
 /// Adds the names of the variables in the arguments of each directive.
-pub(crate) fn note_in_directives(
+pub fn note_in_directives(
     directives: &DirectiveList,
     names: &mut IndexSet<Name>,
 ) -> Result<(), AllocError>
@@ -83,7 +83,7 @@ pub(crate) fn note_in_directives(
 
 /// Adds the names of the variables in a selection itself: in its directives, and in the arguments of a field.
 #[tactic(auto, using(document_typed_selections::proofs::TypedTrees::typed_tree_rules))]
-pub(crate) fn note_in_selection(
+pub fn note_in_selection(
     selection: &Selection,
     names: &mut IndexSet<Name>,
 ) -> Result<(), AllocError>
