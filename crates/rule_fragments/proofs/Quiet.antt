@@ -20,7 +20,7 @@ use Rattle.rule_document_definitions.specs.Subscriptions.{SubscriptionUsesIntros
 use Rattle.rule_document_definitions.specs.DeferUses.{MayBeLeftOut, ReachedAlways, IsConditional}
 use Rattle.rule_document_definitions.specs.Defer.{DeferOnRootMutationOrSubscriptionFieldAt, DeferInSubscriptionMustBeConditionalAt, DeferBreaks}
 use Rattle.rule_always.specs.Stays.{is_directive}
-use Rattle.rule_fragments.specs.Thinned.{listed, set_listed, is_noted, is_quiet, are_quiet, all_quiet, Leaves, StandIn}
+use Rattle.rule_fragments.specs.Thinned.{listed, set_listed, has_noted, is_quiet, are_quiet, all_quiet, Leaves, StandIn}
 use Rattle.rule_always.proofs.Staying.{and_both, or_left, or_right, not_true, index_any, so_named}
 use Rattle.rule_fragments.proofs.Listing.{filtered}
 use Rattle.rule_always.proofs.Mapped.{mapped_in, in_mapped}
@@ -117,7 +117,7 @@ module _ {P : Type 0} where
     inline_so : (p : Position) (s : MeantSelection P) (y : Standing P) → is_quiet deferred s ≡ true → Contains (in_inline p s) y → Quiet y
     inline_so p (MeantField a d h s) y q c = not_in_nil y c
     inline_so p (MeantSpread a n ds) y q c = not_in_nil y c
-    inline_so p (MeantInline a k ds s) y q c = set_so p s y (and_both (not (list_any (is_noted deferred) ds)) (are_quiet deferred s) q).1 c
+    inline_so p (MeantInline a k ds s) y q c = set_so p s y (and_both (not (has_noted deferred ds)) (are_quiet deferred s) q).1 c
 
     into_so : (d : MeantDocument P) (s : MeantSelection P) (y : Standing P) → is_quiet deferred s ≡ true → Into d s y → Quiet y
     into_so d (MeantField a x h s) y q (n, (e, i)) = absurd (true≢false (sym (ap is_some e)))
@@ -129,13 +129,13 @@ module _ {P : Type 0} where
     fragment_so d x y q (inr i) = into_so d x.it y q i
 
     -- it has no directive at which rules look
-    bare : (s : MeantSelection P) → is_quiet deferred s ≡ true → list_any (is_noted deferred) (selection_directives s) ≡ false
-    bare (MeantField p d h s) q = not_true _ (and_both (not (list_any (is_noted deferred) h.directives)) _ q).0
+    bare : (s : MeantSelection P) → is_quiet deferred s ≡ true → has_noted deferred (selection_directives s) ≡ false
+    bare (MeantField p d h s) q = not_true _ (and_both (not (has_noted deferred h.directives)) _ q).0
     bare (MeantSpread p n ds) q = absurd (true≢false (sym q))
-    bare (MeantInline p c ds s) q = not_true _ (and_both (not (list_any (is_noted deferred) ds)) _ q).0
+    bare (MeantInline p c ds s) q = not_true _ (and_both (not (has_noted deferred ds)) _ q).0
 
-    marked : {R : Type 0} (s : MeantSelection P) (i : ℕ) (e : Placed P (DirectiveTree P)) → is_quiet deferred s ≡ true → slice_get (selection_directives s) i ≡ Some e → is_noted deferred e ≡ true → R
-    marked s i e q at n = absurd (true≢false (sym (index_any (is_noted deferred) (selection_directives s) i e at n) ∙ bare s q))
+    noted : {R : Type 0} (s : MeantSelection P) → is_quiet deferred s ≡ true → has_noted deferred (selection_directives s) ≡ true → R
+    noted s q n = absurd (true≢false (sym n ∙ bare s q))
 
     -- ---- with fragments that stand in for others
 
@@ -208,7 +208,7 @@ module _ {P : Type 0} where
   field_so : (p : Position) (t : List ℕ) (s : MeantSelection P) (y : Standing P) → is_quiet true s ≡ true → Present (field_there p t s) (λ f. Contains (standing_in f.position f.set) y) → Quiet true y
   field_so p t (MeantField a d h s) y q (f, (e, c)) =
       let here : StandingField P = record { position = p; parent = t; place = a; definition = d; head = h; set = s } in
-      set_so true p s y (and_both (not (list_any (is_noted true) h.directives)) (are_quiet true s) q).1
+      set_so true p s y (and_both (not (has_noted true h.directives)) (are_quiet true s) q).1
       (subst (λ (g : StandingField P). Contains (standing_in g.position g.set) y) (sym (same_Some here f e)) c)
   field_so p t (MeantSpread a n ds) y q (f, (e, c)) = absurd (true≢false (sym (ap is_some e)))
   field_so p t (MeantInline a k ds s) y q (f, (e, c)) = absurd (true≢false (sym (ap is_some e)))
@@ -260,7 +260,7 @@ module _ {P : Type 0} where
         none_deferred Q s q (i, (e, (at, h))) =
             let p = filtered is_defer (selection_directives s) e (index_given (filter is_defer (selection_directives s)) i e at) in
             let j = index_found (selection_directives s) e p.0 in
-            marked true s j.0 e q j.1 p.1
+            noted true s q (index_any is_defer (selection_directives s) j.0 e j.1 p.1)
 
         abbrev AtRootDirective : MeantSelection P → Type 0
         AtRootDirective s = AtSomeIndex (filter is_defer (selection_directives s)) (λ i e. fault ≡ broken e.place (DeferOnRootMutationOrSubscriptionField o.operation_type))
@@ -292,17 +292,17 @@ module _ {P : Type 0} (d w : MeantDocument P) (in' : StandIn false d.fragments w
   abbrev told_condition : Placed P (DirectiveTree P) → Type 0
   told_condition e = Contains (codes "skip" ∷ codes "include" ∷ []) (directive_name e) × (fault ≡ broken e.place (SubscriptionUsesConditionalSelection (operation_name o)))
 
-  condition_noted : (e : Placed P (DirectiveTree P)) → Contains (codes "skip" ∷ codes "include" ∷ []) (directive_name e) → is_noted false e ≡ true
-  condition_noted e c = elim (Contains-cons (codes "skip") (codes "include" ∷ []) (directive_name e) c) [
-    | inl a ↦ or_left (is_directive (codes "skip") e) (is_directive (codes "include") e) (so_named (codes "skip") e (sym a))
-    | inr b ↦ or_right (is_directive (codes "skip") e) (is_directive (codes "include") e) (so_named (codes "include") e (only (codes "include") (directive_name e) b))
+  condition_noted : (ds : Directives P) (i : ℕ) (e : Placed P (DirectiveTree P)) → slice_get ds i ≡ Some e → Contains (codes "skip" ∷ codes "include" ∷ []) (directive_name e) → has_noted false ds ≡ true
+  condition_noted ds i e at c = elim (Contains-cons (codes "skip") (codes "include" ∷ []) (directive_name e) c) [
+    | inl a ↦ or_left (list_any (is_directive (codes "skip")) ds) (list_any (is_directive (codes "include")) ds) (index_any (is_directive (codes "skip")) ds i e at (so_named (codes "skip") e (sym a)))
+    | inr b ↦ or_right (list_any (is_directive (codes "skip")) ds) (list_any (is_directive (codes "include")) ds) (index_any (is_directive (codes "include")) ds i e at (so_named (codes "include") e (only (codes "include") (directive_name e) b)))
   ]
 
   -- what is quiet is no meta-field
   no_meta : {R : Type 0} (p : Position) (t : List ℕ) (s : MeantSelection P) (f : StandingField P) → is_quiet false s ≡ true → field_there p t s ≡ Some f → Contains meta_field_names (field_name f) → R
   no_meta p t (MeantField a x h s) f q e m =
       let here : StandingField P = record { position = p; parent = t; place = a; definition = x; head = h; set = s } in
-      let none = not_true (list_any (bytes_eq h.name.it) meta_field_names) (and_both (not (list_any (is_noted false) h.directives)) _ q).1 in
+      let none = not_true (list_any (bytes_eq h.name.it) meta_field_names) (and_both (not (has_noted false h.directives)) _ q).1 in
       let some = name_back h.name.it meta_field_names (subst (λ (g : StandingField P). Contains meta_field_names (field_name g)) (sym (same_Some here f e)) m) in
       absurd (true≢false (sym some ∙ none))
   no_meta p t (MeantSpread a n ds) f q e m = absurd (true≢false (sym (ap is_some e)))
@@ -324,7 +324,7 @@ module _ {P : Type 0} (d w : MeantDocument P) (in' : StandIn false d.fragments w
   ]
   roots_less (inr (x, (r, (i, (e, (at, (c, told))))))) = elim (root_less false d w in' o x r) [
     | inl z ↦ inr (z.0, (z.1.0, subst (λ s. AtSomeIndex (selection_directives s) (λ i e. told_condition e)) z.1.1 (i, (e, (at, (c, told))))))
-    | inr q ↦ marked false x.it i e q at (condition_noted e c)
+    | inr q ↦ noted false x.it q (condition_noted (selection_directives x.it) i e at c)
   ]
 
   pub roots_more : BreakThere w → BreakThere d

@@ -2,8 +2,7 @@
 -- Fragments without those of their selections at which rules find nothing.
 use Rattle.std.specs.Prelude.{◌≡◌, ℕ, Bool, true, false, ◌&&◌, ◌||◌, not, List, [], ◌∷◌, codes, bytes_eq, Contains, None, Some, ◌⊎◌, if◌then◌else◌}
 use Rattle.std.specs.List.{list_any}
-use Rattle.graphql_names.specs.Placed.{Placed}
-use Rattle.tree_directives.specs.DirectiveTree.{DirectiveTree}
+use Rattle.tree_directives.specs.DirectiveTree.{Directives}
 use Rattle.schema_components.specs.Names.{Entries}
 use Rattle.schema_types.specs.Addresses.{under}
 use Rattle.document_meaning.specs.MeantTree.{MeantSelection, MeantField, MeantSpread, MeantInline, MeantSet, meant_set, MeantSelections, no_meant, meant_then, MeantFragment}
@@ -20,16 +19,16 @@ module _ {P : Type 0} where
   set_listed (meant_set t ss) = listed ss
 
   module _ (deferred : Bool) where
-    -- rules look at the directive: those on `@defer`, or else those on the root of a subscription
-    abbrev pub is_noted : Placed P (DirectiveTree P) → Bool
-    is_noted e = if deferred then is_directive (codes "defer") e else (is_directive (codes "skip") e || is_directive (codes "include") e)
+    -- rules look at one of these directives: those on `@defer` at that, those on the root of a subscription at `@skip` and `@include`
+    abbrev pub has_noted : Directives P → Bool
+    has_noted ds = if deferred then list_any (is_directive (codes "defer")) ds else (list_any (is_directive (codes "skip")) ds || list_any (is_directive (codes "include")) ds)
 
     -- They find nothing at the selection, nor at what it leads to. Those on subscriptions do not enter fields
     abbrev mutual
       pub is_quiet : MeantSelection P → Bool
-      is_quiet (MeantField p d h s) = not (list_any is_noted h.directives) && (if deferred then are_quiet s else not (list_any (bytes_eq h.name.it) meta_field_names))
+      is_quiet (MeantField p d h s) = not (has_noted h.directives) && (if deferred then are_quiet s else not (list_any (bytes_eq h.name.it) meta_field_names))
       is_quiet (MeantSpread p n ds) = false
-      is_quiet (MeantInline p c ds s) = not (list_any is_noted ds) && are_quiet s
+      is_quiet (MeantInline p c ds s) = not (has_noted ds) && are_quiet s
 
       pub are_quiet : MeantSet P → Bool
       are_quiet (meant_set t ss) = all_quiet ss

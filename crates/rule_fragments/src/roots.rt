@@ -26,7 +26,7 @@ pub(crate) fn root_selections(
     Ok(roots)
 }
 
-/// Whether more than one field stands at the root of the operation, through fragments. The walk ends at the second.
+/// Whether the operation has more than one field at its root, through fragments. The walk ends at the second.
 pub(crate) fn has_several_fields(
     alloc: Global,
     document: &ExecutableDocument,

@@ -1,46 +1,31 @@
 //! Documents without those selections of their fragments at which the rules on `@defer`, or those on the root of a subscription,
 //! find nothing. What operations share is looked through once then, and not for each of them.
 ghost use Rattle.std.specs.Prelude.{◌≡◌, unwrap_or, IfOk, OnOk};
-ghost use Rattle.std.specs.List.{list_any};
-ghost use Rattle.graphql_names.specs.Placed.{node_tree};
-ghost use Rattle.tree_directives.specs.DirectiveTree.{directive_tree};
 ghost use Rattle.document_meaning.specs.MeantTree.{meant_of_set};
 ghost use Rattle.document_typed_selections.specs.TypedTree.{typed_set_tree};
 ghost use Rattle.rule_always.specs.in_ground.in_typed_operations.DocumentView.{document_meant};
 ghost use Rattle.rule_always.specs.Lent.{lent};
+ghost use Rattle.rule_document_definitions.specs.Selected.{selection_directives};
 ghost use Rattle.rule_document_ground.specs.Reach.{meant_fragments};
 ghost use Rattle.rule_fragments.specs.Rooted.{fragment_set};
-ghost use Rattle.rule_fragments.specs.Thinned.{is_noted, is_quiet, are_quiet, Leaves, StillStandIn, StandIn};
+ghost use Rattle.rule_fragments.specs.Thinned.{has_noted, is_quiet, are_quiet, Leaves, StillStandIn, StandIn};
 
 use crate::names::is_meta_field_name;
 use document_typed_operations::{ExecutableDocument, Fragment, FragmentMap};
 use document_typed_selections::{Selection, SelectionSet};
 use graphql_names::{Name, Node};
 use std::alloc::{AllocError, Global};
-use tree_directives::Directive;
 
-/// Whether the rules look at such a directive: at `@defer`, or those on subscriptions at `@skip` and `@include`.
-fn is_noted(deferred: bool, directive: &Node<Directive>) -> bool
-    ensures { result ≡ is_noted deferred (node_tree directive_tree directive.now) }
-{
-    let name = directive.content().name.as_str();
-    if deferred {
-        return name == "defer";
-    }
-    name == "skip" || name == "include"
-}
-
-/// Whether the selection itself has such a directive.
+/// Whether the rules look at a directive on the selection: those on `@defer` at that, those on subscriptions at `@skip` and
+/// `@include`.
 fn has_noted(deferred: bool, selection: &Selection) -> bool
-    ensures { result ≡ list_any (is_noted deferred) (selection_directives (lent selection.now)) }
+    ensures { result ≡ has_noted deferred (selection_directives (lent selection.now)) }
 {
-    let directives = selection.directives().as_slice();
-    for directive in directives {
-        if is_noted(deferred, directive) {
-            return true;
-        }
+    let directives = selection.directives();
+    if deferred {
+        return directives.has("defer");
     }
-    false
+    directives.has("skip") || directives.has("include")
 }
 
 /// Whether all selections of the set are quiet.
@@ -133,23 +118,6 @@ fn thin(
     Ok(())
 }
 
-/// A document with the fragments without their quiet selections, and without operations.
-fn thinned_document(
-    alloc: Global,
-    deferred: bool,
-    fragments: &FragmentMap,
-) -> Result<ExecutableDocument, AllocError>
-    ensures { IfOk result (λ r. StandIn deferred (meant_fragments fragments.now) (document_meant r).fragments) }
-{
-    let mut instead = fragments.clone()?;
-    for (name, _) in fragments {
-        thin(deferred, fragments, name, &mut instead)?;
-    }
-    let mut document = ExecutableDocument::new(alloc);
-    document.fragments = instead;
-    Ok(document)
-}
-
 /// Whether several operations are of a kind at which the rules look.
 fn are_several(deferred: bool, document: &ExecutableDocument) -> bool {
     let mut found = 0;
@@ -163,8 +131,8 @@ fn are_several(deferred: bool, document: &ExecutableDocument) -> bool {
 }
 
 /// A document in which the rules on `@defer`, or if `deferred` is false those on the root of a subscription, find the same of each
-/// operation, if there are several such operations: its fragments have only what is not quiet. Else none: then it is the
-/// document itself.
+/// operation, if there are several such operations: it has none itself, and its fragments have only what is not quiet. Else
+/// nothing: then it is the document itself.
 pub(crate) fn thinned_if_shared(
     alloc: Global,
     deferred: bool,
@@ -175,5 +143,12 @@ pub(crate) fn thinned_if_shared(
     if !are_several(deferred, document) {
         return Ok(None);
     }
-    Ok(Some(thinned_document(alloc, deferred, &document.fragments)?))
+    let fragments = &document.fragments;
+    let mut instead = fragments.clone()?;
+    for (name, _) in fragments {
+        thin(deferred, fragments, name, &mut instead)?;
+    }
+    let mut thin = ExecutableDocument::new(alloc);
+    thin.fragments = instead;
+    Ok(Some(thin))
 }
