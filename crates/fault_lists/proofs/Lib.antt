@@ -3,3 +3,4 @@ pub mod BreachEquality
 pub mod Traces
 pub mod DataEquality
 pub mod Adding
+pub mod Kept

@@ -7,7 +7,7 @@ use crate::told::Told;
 use std::alloc::AllocError;
 
 /// How many a list tells at most.
-const MOST_TOLD: usize = 1_000;
+pub(crate) const MOST_TOLD: usize = 1_000;
 
 /// Adds each that is not there at the end, in turn, until 1,000 are told. After a refusal the list begins as before, and
 /// some may have been added.

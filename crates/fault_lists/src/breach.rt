@@ -15,9 +15,11 @@ pub fn is_same_breach(one: &BuildError, other: &BuildError) -> bool
 
 /// A breach with its place.
 impl Told for (Option<SourceSpan>, BuildError) {
-    ghost use Rattle.fault_lists.specs.PlacedBreach.{PlacedBreach, placed_breach};
+    ghost use Rattle.graphql_names.specs.Placed.{Place};
+    ghost use Rattle.rule_document_definitions.specs.DocumentFaults.{Broken};
+    ghost use Rattle.fault_lists.specs.PlacedBreach.{placed_breach};
 
-    ghost Plain = { PlacedBreach };
+    ghost Plain = { Broken Place };
 
     ghost plain = { placed_breach };
 

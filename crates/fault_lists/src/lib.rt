@@ -11,10 +11,12 @@ mod add;
 mod breach;
 mod data;
 mod fault;
+mod once;
 mod told;
 
 pub use add::add_new;
 pub use breach::is_same_breach;
 pub use data::is_same_data;
 pub use fault::is_same_fault;
+pub use once::each_once;
 pub use told::Told;

@@ -22,7 +22,7 @@ module _ {X A : Type 0} (Fails : X → A → Type 0) where
   abbrev pub TellsOf : List X → List A → Type 0
   TellsOf xs told = (x : X) → Contains xs x → (f : A) → Fails x f → Contains told f
 
-  pub all_of : (xs all : List X) (told : List A) → xs ≡ all → TellsOf xs told → HasAll (λ f. (x : X) × (Contains all x × Fails x f)) told
+  all_of : (xs all : List X) (told : List A) → xs ≡ all → TellsOf xs told → HasAll (λ f. (x : X) × (Contains all x × Fails x f)) told
   all_of xs all told is tells f at = tells at.0 (subst (λ l. Contains l at.0) (sym is) at.1.0) f at.1.1
 
   module _ {Right : A → Type 0} where
@@ -63,3 +63,10 @@ module _ {X A : Type 0} (Fails : X → A → Type 0) where
       where
         this : TellsUnlessFull (Fails x) (HasAll (Fails x)) own
         this = adds_first {T = HasAll (Fails x)} none own nothing (adds_exactly {Right = Fails x} none own added e (λ f c. (lists f).0 c) (λ f h. (lists f).1 h))
+
+    -- where the list is full, the rest is left; else that is all
+    pub full_found : {TellsAll : List A → Type 0} (xs : List X) (told : List A) → IsFull told → TellsUnlessFull Right (TellsOf xs) told → TellsUnlessFull Right TellsAll told
+    full_found xs told full tells = record { right = tells.right; most = tells.most; full = inl full }
+
+    pub all_found : (xs all : List X) (told : List A) → xs ≡ all → TellsUnlessFull Right (TellsOf xs) told → TellsUnlessFull Right (HasAll (λ f. (x : X) × (Contains all x × Fails x f))) told
+    all_found xs all told is tells = record { right = tells.right; most = tells.most; full = elim tells.full [ inl full ↦ inl full | inr has ↦ inr (all_of xs all told is has) ] }

@@ -1,5 +1,5 @@
 -- What is told of a document, each fault once.
-use Rattle.std.proofs.Common.{◌≡◌, ◌⊎◌, ℕ, zero, suc, inl, inr, Bool, true, false, List, [], ◌∷◌, ◌++◌, map, take, drop, None, Some, refl, sym, ap, subst, Contains, is_some, true≢false, arith}
+use Rattle.std.proofs.Common.{◌≡◌, ◌⊎◌, ℕ, zero, suc, inl, inr, Bool, true, false, List, [], ◌∷◌, ◌++◌, map, take, drop, None, Some, refl, sym, ap, subst, ◌∙◌, Contains, arith}
 use Rattle.std.proofs.lemmas.List.{take-append-drop}
 use Rattle.std.proofs.lemmas.List.Elements.{Contains-append_left, Contains-append_right, Contains-append_cases}
 use Rattle.graphql_names.specs.Placed.{Place}
@@ -69,10 +69,10 @@ module _ {X Y : Type 0} (f : X → Y) (back : (x y : X) → f x ≡ f y → x �
 
 -- ---- faults, breaches and the bound
 
-data_back : (f g : PlacedFault) → OfData f ≡ OfData g → f ≡ g
+data_back : (f g : PlacedFault) → ◌≡◌ {A = PlacedDocumentFault} (OfData f) (OfData g) → f ≡ g
 data_back f g e = cc
 
-document_back : (f g : Broken Place) → OfDocument f ≡ OfDocument g → f ≡ g
+document_back : (f g : Broken Place) → ◌≡◌ {A = PlacedDocumentFault} (OfDocument f) (OfDocument g) → f ≡ g
 document_back f g e = cc
 
 among_breaches : (breaches : List (Broken Place)) (f : PlacedDocumentFault) → Contains (map OfDocument breaches) f → (b : Broken Place) × (OfDocument b ≡ f)
@@ -117,11 +117,11 @@ module _ (faults : List PlacedFault) (breaches : List (Broken Place)) (is_passed
 
 module _ {A : Type 0} {Right : A → Type 0} {TellsAll : List A → Type 0} (old new : List A) (keeps : KeepsOnce old new) where
   pub kept_tells : (((f : A) → Contains old f → Contains new f) → TellsAll old → TellsAll new) → TellsUnlessFull Right TellsAll old → TellsUnlessFull Right TellsAll new
-  kept_tells all tells = record {
+  kept_tells still tells = record {
     right = λ f c. tells.right f (keeps.from f c);
-    most = omega (arith, keeps.few, tells.most);
+    most = keeps.most tells.most;
     full = elim tells.full [
-      | inl full ↦ inl (subst IsFull (sym (keeps.full full)) full)
-      | inr has ↦ inr (all keeps.all has)
+      | inl full ↦ inl (subst IsFull (sym (keeps.same full)) full)
+      | inr has ↦ elim keeps.all [ inl full ↦ inl full | inr all ↦ inr (still all has) ]
     ];
   }

@@ -1,20 +1,20 @@
 use Rattle.std.proofs.Common.{◌∙◌, sym, ap, true≢false}
 use Rattle.graphql_names.specs.Placed.{Place}
 use Rattle.fault_document_data.specs.DocumentBreaches.{DocumentBreach}
-use Rattle.fault_lists.specs.PlacedBreach.{PlacedBreach}
+use Rattle.rule_document_definitions.specs.DocumentFaults.{Broken, broken}
 use Rattle.fault_lists.proofs.Parts.{place_decides}
 use Rattle.fault_lists.proofs.breach.Tuple2OptionSourceSpanBuildErrorTold.is_same.Goals as goal
 
-abbrev place_of : PlacedBreach → Place
-place_of breach = breach.0
+abbrev place_of : Broken Place → Place
+place_of breach = breach.place
 
-abbrev said : PlacedBreach → DocumentBreach Place
-said breach = breach.1
+abbrev said : Broken Place → DocumentBreach Place
+said breach = breach.it
 
 pub returns-then-eq : goal.returns-then-eq
 returns-then-eq c =
     let place = (place_decides c.args.self.now.0 c.args.other.now.0).0 (sym c.eq.ensures ∙ c.if-eq.true) in
-    ((λ h i. (place i, c.is_same_breach.ensures.0 h i)), (λ r. c.is_same_breach.ensures.1 (ap said r)))
+    ((λ h i. broken (place i) (c.is_same_breach.ensures.0 h i)), (λ r. c.is_same_breach.ensures.1 (ap said r)))
 
 pub returns-else-eq : goal.returns-else-eq
 returns-else-eq c =
