@@ -10,9 +10,10 @@ use Rattle.rule_definitions.specs.Told.{PlacedFault}
 use Rattle.rule_document_definitions.specs.DocumentFaults.{Broken, OfData, OfDocument, OfLimit}
 use Rattle.rule_document_definitions.specs.Told.{PlacedDocumentFault}
 use Rattle.fault_lists.specs.Once.{EachOnce, KeepsOnce}
-use Rattle.rule_fragments.specs.UnlessFull.{IsFull, TellsUnlessFull}
+use Rattle.rule_fragments.specs.UnlessFull.{IsFull, TellsUnlessFull, HasAll}
 use Rattle.rule_fragments.proofs.UnlessFull.{first_full}
-use Rattle.graphql_validation.specs.Operations.{bound_told, all_told}
+use Rattle.document_meaning.specs.MeantTree.{MeantOperation, MeantDocument}
+use Rattle.graphql_validation.specs.Operations.{DataFails, TellsData, DataTold, bound_told, all_told}
 use Rattle.graphql_validation.proofs.FirstTold.{full_faults, full_breaches}
 
 module _ {X : Type 0} where
@@ -125,3 +126,19 @@ module _ {A : Type 0} {Right : A → Type 0} {TellsAll : List A → Type 0} (old
       | inr has ↦ elim keeps.all [ inl full ↦ inl full | inr all ↦ inr (still all has) ]
     ];
   }
+
+-- ---- of documents
+
+module _ (d : MeantDocument Place) (All Beside : MeantOperation Place → PlacedFault → Type 0) (old new : List PlacedFault) where
+  pub data_once : KeepsOnce old new → DataTold d All Beside old → DataTold d All Beside new
+  data_once keeps = kept_tells {Right = DataFails d All} {TellsAll = TellsData d Beside} old new keeps (λ still tells. record {
+    full = λ f h. still f (tells.full f h);
+    cycles = λ g used itself. let f = tells.cycles g used itself in (f.0, (still f.0 f.1.0, f.1.1));
+  })
+
+pub all_once_told : {A : Type 0} {Right Breaks : A → Type 0} (old new : List A) → KeepsOnce old new → TellsUnlessFull Right (HasAll Breaks) old → TellsUnlessFull Right (HasAll Breaks) new
+all_once_told {Right = Right} {Breaks = Breaks} old new keeps = kept_tells {Right = Right} {TellsAll = HasAll Breaks} old new keeps (λ still has f h. still f (has f h))
+
+-- of none nothing is twice
+pub none_once : {A : Type 0} (none : List A) → none ≡ [] → EachOnce none
+none_once none is = inr (subst HasNoRepeat (sym is) (λ i j x h k. absurd cc))

@@ -18,7 +18,7 @@ use crate::told::append_all;
 use crate::under_schema::faults_under;
 use document_typed_operations::ExecutableDocument;
 use fault_data::{Fault, MOST_TOLD};
-use fault_lists::breaches_once;
+use fault_lists::each_once;
 use rule_fragments::{PossibleTypes, Schema, document_breaches, passes_path_bound};
 use rule_merging::{Breach, DiagnosticList, FieldsInSetCanMerge};
 use rule_selections::{IndexedSchema, SchemaInputs};
@@ -107,7 +107,7 @@ pub fn validate_with_possible_types(
     // For its contract alone: no two fragments have one name, which the rules take for granted.
     fragments_differ(document);
     let faults = faults_under(alloc, schema, possible, document)?;
-    let breaches = breaches_once(document_breaches(alloc, document)?)?;
+    let breaches = each_once(document_breaches(alloc, document)?)?;
     let is_passed = passes_path_bound(document);
     if is_nothing(&faults, &breaches, is_passed) {
         return merge_operations(alloc, list, schema.schema(), document);

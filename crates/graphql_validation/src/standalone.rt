@@ -8,7 +8,7 @@ use crate::alone::faults_alone;
 use crate::found::fragments_differ;
 use crate::told::append_all;
 use document_typed_operations::ExecutableDocument;
-use fault_lists::breaches_once;
+use fault_lists::each_once;
 use rule_fragments::{deferred_breaches, passes_path_bound};
 use rule_merging::DiagnosticList;
 use std::alloc::{AllocError, Global};
@@ -31,7 +31,7 @@ pub fn validate_standalone_executable(
 {
     fragments_differ(document);
     let faults = faults_alone(alloc, document)?;
-    let breaches = breaches_once(deferred_breaches(alloc, document)?)?;
+    let breaches = each_once(deferred_breaches(alloc, document)?)?;
     let is_passed = passes_path_bound(document);
     append_all(list, faults, breaches, is_passed)
 }
