@@ -12,7 +12,7 @@ use Rattle.document_walks.proofs.WalkLaws.{fragments_tree-document}
 use Rattle.rule_always.specs.Lent.{lent as lent_selection}
 use Rattle.rule_always.specs.in_ground.in_typed_operations.DocumentView.{document_meant, operation_meant}
 use Rattle.rule_fragments.specs.ListedBreaches.{fields_in, field_count}
-use Rattle.rule_fragments.proofs.Counted.{counted, counted_all, none_found, first_found, second_found, two_fields, at_most_one}
+use Rattle.rule_fragments.proofs.Counted.{counted, counted_all, none_yet, none_found, first_found, second_found, two_fields, at_most_one}
 use Rattle.rule_fragments.proofs.Introspected.{counts}
 use Rattle.rule_fragments.proofs.Lent.{members_lent}
 use Rattle.rule_fragments.proofs.Rooted.{roots}
@@ -26,7 +26,7 @@ loop-selection-init c =
       (
         subst (λ fs. IsMemberWalk false fs set given) (sym (fragments_tree-document c.args.document.now))
             (subst (λ (x : Operation). IsMemberWalk false (fragments_tree c.args.document.now.fragments) (typed_set_tree x.selection_set) given) c.content.ensures c.new-selection-items.ensures.walk),
-        ap (λ w. field_count (members_lent (selections_left w))) c.into_iter-selection-iterator.ensures.into_iter_gives,
+        none_yet _ _ (ap (λ w. field_count (members_lent (selections_left w))) c.into_iter-selection-iterator.ensures.into_iter_gives),
       ),
     )
 
