@@ -10,7 +10,7 @@ use std::fmt;
 const LONG: usize = 256;
 
 /// A long text is looked for among the last so many.
-const LOOKED_AT: usize = 16;
+const LOOKED_AT: usize = 64;
 
 /// Bytes in parts. A long text that comes again is kept once, so that faults whose lines hold the same long name are told in
 /// little memory.
