@@ -13,6 +13,7 @@ mod arguments;
 mod check;
 mod copies;
 mod empty;
+mod find_subtype;
 mod implementation;
 mod interface_arguments;
 mod interface_check;
@@ -25,7 +26,6 @@ mod look_ups;
 mod members;
 mod reserved;
 mod roots;
-mod subtypes;
 mod types_used;
 mod valid_types;
 

@@ -7,7 +7,7 @@ ghost use Rattle.fault_data.specs.in_rule_definitions.Judged.{judged};
 ghost use Rattle.fault_data.specs.in_rule_definitions.Subtypes.{is_subtype, is_valid_type};
 ghost use Rattle.rule_types.specs.InterfaceTrees.{serves};
 
-use crate::subtypes::find_subtype;
+use crate::find_subtype::find_subtype;
 use graphql_names::Name;
 use graphql_schema::Schema;
 use tree_literals::Type;
