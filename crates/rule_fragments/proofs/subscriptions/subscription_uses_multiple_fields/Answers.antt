@@ -1,4 +1,4 @@
-use Rattle.std.proofs.Common.{◌≡◌, [], ◌∷◌, option_map, refl, sym, ap, ◌∙◌, true≢false, rules}
+use Rattle.std.proofs.Common.{◌≡◌, [], ◌∷◌, option_map, refl, sym, ◌∙◌, true≢false, rules}
 use Rattle.std.proofs.lemmas.Result.{on_ok_weaker}
 use Rattle.graphql_names.specs.NameValue.{NameValue}
 use Rattle.fault_document_data.specs.DocumentBreaches.{SubscriptionUsesMultipleFields}

@@ -1,5 +1,6 @@
-use Rattle.std.proofs.Common.{◌+◌, ◌<◌, ◌≤◌, length, sym, subst}
+use Rattle.std.proofs.Common.{◌+◌, ◌≤◌, length, sym, subst}
 use Rattle.rule_fragments.proofs.Thinning.{IsKept, kept_none, kept_more, left_out, all_kept}
+use Rattle.rule_fragments.proofs.thinned.thinned_set.Goals.{then-not-is_quiet+in_ok-clone-2+in_ok-push, else-not-is_quiet}
 use Rattle.rule_fragments.proofs.thinned.thinned_set.Goals as goal
 
 pub loop-selection-init : goal.loop-selection-init
