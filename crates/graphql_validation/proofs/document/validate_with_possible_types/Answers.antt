@@ -43,7 +43,7 @@ returns-then-is_nothing-clause-told c =
     let bs = brokens_of c.in_ok-breaches.breaches in
     let p = c.passes_path_bound-is_passed.result in
     let bound = c.passes_path_bound-is_passed.ensures in
-    let breaks = breaches_kept d (brokens_of c.in_ok-document_breaches.field-0) bs c.in_ok-document_breaches.ensures c.in_ok-breaches.ensures in
+    let breaks = breaches_kept s d (brokens_of c.in_ok-document_breaches.field-0) bs c.in_ok-document_breaches.ensures c.in_ok-breaches.ensures in
     let none : IsTypedUnder s d → TellsDocument s d [] = λ typed. nothing_beside s d typed fs bs p c.in_ok-faults.ensures.told breaks bound.right bound.found (c.is_nothing.ensures.0 c.if-is_nothing.true) in
     on_ok_weaker c.merge_operations.result (λ h typed. merging_told s d (diagnostics_of c.args.list.now) (diagnostics_of c.merge_operations.new.list) h.0 h.1.0 h.1.1 (none typed)) (subst (λ (y : Schema). OnOk c.merge_operations.result (TellsMerging (schema_tree y) d c.args.list.now c.merge_operations.new.list)) c.schema.ensures c.merge_operations.ensures.told)
 
@@ -55,7 +55,7 @@ returns-then-is_nothing-clause-silent c =
     let bs = brokens_of c.in_ok-breaches.breaches in
     let p = c.passes_path_bound-is_passed.result in
     let bound = c.passes_path_bound-is_passed.ensures in
-    let breaks = breaches_kept d (brokens_of c.in_ok-document_breaches.field-0) bs c.in_ok-document_breaches.ensures c.in_ok-breaches.ensures in
+    let breaks = breaches_kept s d (brokens_of c.in_ok-document_breaches.field-0) bs c.in_ok-document_breaches.ensures c.in_ok-breaches.ensures in
     let none : IsTypedUnder s d → TellsDocument s d [] = λ typed. nothing_beside s d typed fs bs p c.in_ok-faults.ensures.told breaks bound.right bound.found (c.is_nothing.ensures.0 c.if-is_nothing.true) in
     on_ok_weaker c.merge_operations.result
     (λ merged typed same. silent_is_valid s d (named_if_own d c.fragments_differ.ensures (own_names s d typed)) (none typed) (merged same)) (subst (λ (y : Schema). OnOk c.merge_operations.result (diagnostics_of c.merge_operations.new.list ≡ diagnostics_of c.args.list.now → AllMerge (schema_tree y) d)) c.schema.ensures c.merge_operations.ensures.merged)
@@ -78,7 +78,7 @@ returns-clause-told c =
     let bs = brokens_of c.in_ok-breaches.breaches in
     let p = c.passes_path_bound-is_passed.result in
     let bound = c.passes_path_bound-is_passed.ensures in
-    let breaks = breaches_kept d (brokens_of c.in_ok-document_breaches.field-0) bs c.in_ok-document_breaches.ensures c.in_ok-breaches.ensures in
+    let breaks = breaches_kept s d (brokens_of c.in_ok-document_breaches.field-0) bs c.in_ok-document_breaches.ensures c.in_ok-breaches.ensures in
     on_ok_weaker c.append_all.result
     (λ h typed. document_told s d typed fs bs p c.in_ok-faults.ensures.told breaks bound.right bound.found (diagnostics_of c.args.list.now) (diagnostics_of c.append_all.new.list) h)
     c.append_all.ensures.added
