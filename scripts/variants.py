@@ -608,13 +608,13 @@ def other(name):
     return name + "'"
 
 
-def decided_lines(function, entries, prefix, wrap, otherwise):
+def decided_lines(function, entries, prefix, wrap):
     """A line for each variant with itself, and one for two variants."""
     lines = []
     for entry in entries:
         ones, others = (["c"], ["d"]) if entry.is_boxed else ([field.name for field in entry.data], [other(field.name) for field in entry.data])
         lines.append(f"{function} {applied('rust.' + entry.name, ones)} {applied('rust.' + entry.name, others)} = {wrap(entry, decided(entry, prefix))}")
-    return lines + [f"{function} _ _ = {otherwise}"]
+    return lines + [f"{function} a b = apart a b refl refl"]
 
 
 def with_trace(entry, reason):

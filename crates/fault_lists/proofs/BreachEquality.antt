@@ -1,8 +1,9 @@
 -- `==` of breaches of documents decides whether they say the same.
-use Rattle.std.proofs.Common.{◌≡◌, refl, ap, Option}
+use Rattle.std.proofs.Common.{◌≡◌, ◌∙◌, ℕ, false, true≢false, nat_eq, refl, sym, ap, Option}
 use Rattle.std.specs.Bool.{Decides}
 use Rattle.std.specs.Option.{option_eq}
 use Rattle.std.specs.String.{string_bytes}
+use Rattle.std.specs.Cmp.{unsigned_Decides}
 use Rattle.std.specs.Cmp.Lexicographic.{bytes_decides}
 use Rattle.graphql_names.specs.Placed.{Place}
 use Rattle.graphql_values.proofs.Decided.{through, pair_decides}
@@ -16,7 +17,7 @@ use Rattle.schema_coordinates.specs.Coordinate.{Coordinate}
 use Rattle.schema_coordinates.specs.CoordinateView.{attribute_coordinate, argument_coordinate}
 use Rattle.fault_document_data.specs.DocumentBreachView.{document_breach_of, name_conflict, argument_conflict, type_conflict, value_in_conflict}
 use Rattle.fault_document_data.specs.DocumentBreaches as breach
-use Rattle.fault_document_data.specs.DocumentBreaches.{Selected}
+use Rattle.fault_document_data.specs.DocumentBreaches.{Selected, DocumentBreach}
 use Rattle.fault_document_data.specs.declared.build_error.BuildError.{BuildError}
 use Rattle.fault_document_data.specs.declared.build_error.BuildError.TheVariants as rust
 use Rattle.fault_document_data.specs.declared.build_error.ConflictingFieldName.{ConflictingFieldName}
@@ -89,6 +90,33 @@ type_conflict_decides a b =
     let c : selected a.conflicting_location (attribute_coordinate a.conflicting_coordinate) (unplaced_type (type_tree a.conflicting_type)) ≡ selected b.conflicting_location (attribute_coordinate b.conflicting_coordinate) (unplaced_type (type_tree b.conflicting_type)) = cc in
     (cc, (ap location_of o, (ap coordinate_of o, (ap what_of o, (ap location_of c, (ap coordinate_of c, ap what_of c)))))))
 
+abbrev number : DocumentBreach Place → ℕ
+number breach.TypeSystemDefinition = 0
+number breach.AmbiguousAnonymousOperation = 1
+number (breach.OperationNameCollision a) = 2
+number (breach.FragmentNameCollision a) = 3
+number (breach.UndefinedRootOperation a) = 4
+number (breach.UndefinedTypeInNamedFragmentTypeCondition a) = 5
+number (breach.UndefinedTypeInInlineFragmentTypeCondition a) = 6
+number (breach.SubselectionOnScalarType a) = 7
+number (breach.SubselectionOnEnumType a) = 8
+number (breach.UndefinedField a b) = 9
+number (breach.ConflictingFieldName a b c) = 10
+number (breach.ConflictingFieldArgument a b c) = 11
+number (breach.ConflictingFieldType a b c) = 12
+number (breach.SubscriptionUsesMultipleFields a) = 13
+number (breach.SubscriptionUsesIntrospection a b) = 14
+number (breach.SubscriptionUsesConditionalSelection a) = 15
+number breach.DeferLabelMustNotBeVariable = 16
+number (breach.DuplicateDeferLabel a b) = 17
+number (breach.DeferOnRootMutationOrSubscriptionField a) = 18
+number breach.DeferInSubscriptionMustBeConditional = 19
+
+-- two variants: neither test nor view takes them for the same
+apart : (a b : BuildError) → eq.ghosts.eq a b ≡ false → nat_eq (number (document_breach_of a)) (number (document_breach_of b)) ≡ false → Decides (eq.ghosts.eq a b) (document_breach_of a ≡ document_breach_of b)
+apart a b e n =
+    ((λ r. absurd (true≢false (sym r ∙ e))), (λ r. absurd (true≢false (sym ((unsigned_Decides (number (document_breach_of a)) (number (document_breach_of b))).1 (ap number r)) ∙ n))))
+
 pub breach_eq-Decides : (a b : BuildError) → Decides (eq.ghosts.eq a b) (document_breach_of a ≡ document_breach_of b)
 breach_eq-Decides rust.TypeSystemDefinition rust.TypeSystemDefinition = ((λ r. refl), (λ r. refl))
 breach_eq-Decides rust.AmbiguousAnonymousOperation rust.AmbiguousAnonymousOperation = ((λ r. refl), (λ r. refl))
@@ -110,4 +138,4 @@ breach_eq-Decides rust.DeferLabelMustNotBeVariable rust.DeferLabelMustNotBeVaria
 breach_eq-Decides (rust.DuplicateDeferLabel label original_location) (rust.DuplicateDeferLabel label' original_location') = through (pair_decides _ _ (bytes_decides (string_bytes label) (string_bytes label')) (place_decides original_location original_location')) (λ s i. breach.DuplicateDeferLabel (s.0 i) (s.1 i)) (λ r. (cc, cc))
 breach_eq-Decides (rust.DeferOnRootMutationOrSubscriptionField operation_type) (rust.DeferOnRootMutationOrSubscriptionField operation_type') = through (operation_type_eq-Decides operation_type operation_type') (ap breach.DeferOnRootMutationOrSubscriptionField) (λ r. cc)
 breach_eq-Decides rust.DeferInSubscriptionMustBeConditional rust.DeferInSubscriptionMustBeConditional = ((λ r. refl), (λ r. refl))
-breach_eq-Decides _ _ = ((λ r. cc), (λ r. cc))
+breach_eq-Decides a b = apart a b refl refl

@@ -1,14 +1,17 @@
 -- `==` of data of faults, with the places of traces, decides whether they say the same.
-use Rattle.std.proofs.Common.{◌≡◌, refl, ap}
+use Rattle.std.proofs.Common.{◌≡◌, ◌∙◌, ℕ, List, false, true≢false, nat_eq, refl, sym, ap}
 use Rattle.std.specs.String.{string_bytes}
+use Rattle.std.specs.Cmp.{unsigned_Decides}
 use Rattle.std.specs.Cmp.Lexicographic.{bytes_decides, pointwise_decides}
 use Rattle.graphql_names.specs.Node.{content}
+use Rattle.graphql_names.specs.Placed.{Place}
 use Rattle.graphql_values.proofs.Decided.{through, pair_decides}
 use Rattle.graphql_values.proofs.DirectiveEquality.{location_eq-Decides}
 use Rattle.graphql_values.proofs.OperationEquality.{operation_type_eq-Decides}
 use Rattle.graphql_values.proofs.TypeEquality.{type_eq-Decides}
 use Rattle.graphql_values.proofs.ValueEquality.{value_eq-Decides}
 use Rattle.rule_definitions.specs.Diagnostics as tree
+use Rattle.rule_definitions.specs.Diagnostics.{Diagnostic}
 use Rattle.fault_data.specs.DiagnosticView.{diagnostic_of}
 use Rattle.fault_data.specs.declared.diagnostic_data.DiagnosticData.{DiagnosticData}
 use Rattle.fault_data.specs.declared.diagnostic_data.DiagnosticData.TheVariants as rust
@@ -20,6 +23,60 @@ use Rattle.fault_lists.proofs.Traces.{Rests, alone, via, front, inputs_same, dir
 -- `==` and the places of traces decide whether two say the same
 abbrev pub Same : (a b : DiagnosticData) → Type 0
 Same a b = Rests (eq.ghosts.eq a b) (trace_places a ≡ trace_places b) (diagnostic_of a ≡ diagnostic_of b)
+
+abbrev number : Diagnostic Place (List Place) → ℕ
+number tree.QueryRootOperationType = 0
+number (tree.UndefinedDefinition a) = 1
+number (tree.RootOperationObjectType a b) = 2
+number (tree.DuplicateRootOperationType a b c d e) = 3
+number (tree.ReservedName a b) = 4
+number (tree.OutputType a b c) = 5
+number (tree.InputType a b c) = 6
+number (tree.EmptyFieldSet a b c) = 7
+number (tree.EmptyValueSet a b c) = 8
+number (tree.EmptyMemberSet a b c) = 9
+number (tree.EmptyInputValueSet a b c) = 10
+number (tree.UnionMemberObjectType a b) = 11
+number (tree.RecursiveInterfaceDefinition a) = 12
+number (tree.TransitiveImplementedInterfaces a b c d) = 13
+number (tree.MissingInterfaceField a b c d e) = 14
+number (tree.InvalidImplementationFieldType a b c d e f g) = 15
+number (tree.MissingInterfaceFieldArgument a b c d e f) = 16
+number (tree.InvalidImplementationFieldArgumentType a b c d e f g h) = 17
+number (tree.ExtraRequiredImplementationFieldArgument a b c d e f) = 18
+number (tree.UniqueInputValue a b c) = 19
+number (tree.RecursiveInputObjectDefinition a b) = 20
+number (tree.RecursiveDirectiveDefinition a b) = 21
+number (tree.DeeplyNestedType a b) = 22
+number (tree.UndefinedDirective a) = 23
+number (tree.UniqueDirective a b) = 24
+number (tree.UnsupportedLocation a b c d) = 25
+number (tree.UniqueArgument a b c) = 26
+number (tree.UndefinedArgument a b c) = 27
+number (tree.RequiredArgument a b c d) = 28
+number (tree.DisallowedVariableUsage a b c d e f) = 29
+number (tree.UnsupportedValueType a b c) = 30
+number (tree.IntCoercionError a) = 31
+number (tree.FloatCoercionError a) = 32
+number (tree.UndefinedVariable a) = 33
+number (tree.UndefinedEnumValue a b c) = 34
+number (tree.UndefinedInputValue a b c) = 35
+number (tree.RequiredField a b c d) = 36
+number (tree.UniqueVariable a b c) = 37
+number (tree.VariableInputType a b c) = 38
+number (tree.UnusedVariable a) = 39
+number (tree.MissingSubselection a b c) = 40
+number (tree.UndefinedFragment a) = 41
+number (tree.InvalidFragmentTarget a b) = 42
+number (tree.InvalidFragmentSpread a b c d e) = 43
+number (tree.UnusedFragment a) = 44
+number (tree.RecursiveFragmentDefinition a b c) = 45
+number tree.RecursionError = 46
+
+-- two variants: neither test nor view takes them for the same
+apart : (a b : DiagnosticData) → eq.ghosts.eq a b ≡ false → nat_eq (number (diagnostic_of a)) (number (diagnostic_of b)) ≡ false → Same a b
+apart a b e n =
+    ((λ r s. absurd (true≢false (sym r ∙ e))), (λ r. absurd (true≢false (sym ((unsigned_Decides (number (diagnostic_of a)) (number (diagnostic_of b))).1 (ap number r)) ∙ n))))
 
 pub data_same : (a b : DiagnosticData) → Same a b
 data_same rust.QueryRootOperationType rust.QueryRootOperationType = alone (((λ r. refl), (λ r. refl)))
@@ -69,4 +126,4 @@ data_same (rust.InvalidFragmentSpread name type_name type_condition fragment_loc
 data_same (rust.UnusedFragment name) (rust.UnusedFragment name') = alone (through (text_decides name name') (ap tree.UnusedFragment) (λ r. cc))
 data_same (rust.RecursiveFragmentDefinition head_location name trace) (rust.RecursiveFragmentDefinition head_location' name' trace') = via (front _ _ (place_decides head_location head_location') (front _ _ (text_decides name name') (spreads_same trace.items trace'.items))) (λ s i. tree.RecursiveFragmentDefinition (s.0 i) (s.1.0 i) (s.1.1 i)) (λ r. (cc, (cc, cc)))
 data_same rust.RecursionError rust.RecursionError = alone (((λ r. refl), (λ r. refl)))
-data_same _ _ = ((λ r s. cc), (λ r. cc))
+data_same a b = apart a b refl refl

@@ -4,13 +4,11 @@ ghost use Rattle.rule_definitions.specs.Room.{most_told};
 ghost use Rattle.fault_lists.specs.Added.{AddsNew, TellsAll};
 
 use crate::told::Told;
+use fault_data::MOST_TOLD;
 use std::alloc::AllocError;
 
-/// How many a list tells at most.
-pub(crate) const MOST_TOLD: usize = 1_000;
-
-/// Adds each that is not there at the end, in turn, until 1,000 are told. After a refusal the list begins as before, and
-/// some may have been added.
+/// Adds each that is not there at the end, in turn, until [`MOST_TOLD`] are told. After a refusal the list begins as
+/// before, and some may have been added.
 pub fn add_new<T: Told + Drop>(told: &mut Vec<T>, more: Vec<T>) -> Result<(), AllocError>
     ensures added { AddsNew (map T.plain told.old.items) (map T.plain more.items) (map T.plain told.new.items) }
     ensures all { OnOk result (TellsAll (map T.plain more.items) (map T.plain told.new.items)) }

@@ -2,11 +2,12 @@
 ghost use Rattle.std.specs.Prelude.{map, IfOk};
 ghost use Rattle.fault_lists.specs.Once.{KeepsOnce};
 
-use crate::add::{MOST_TOLD, add_new};
+use crate::add::add_new;
 use crate::told::Told;
+use fault_data::MOST_TOLD;
 use std::alloc::AllocError;
 
-/// The faults of the list, each once; a list of 1,000 or more as it is.
+/// The faults of the list, each once; a list of [`MOST_TOLD`] or more as it is.
 pub fn each_once<T: Told + Drop>(list: Vec<T>) -> Result<Vec<T>, AllocError>
     ensures { IfOk result (λ kept. KeepsOnce (map T.plain list.items) (map T.plain kept.items)) }
 {
