@@ -56,7 +56,8 @@ class Known(NamedTuple):
 
 # The families that are known to be worse than wanted.
 KNOWN = {
-    "told_names": Known(megabytes=107),
+    "sets_in_halves": Known(factor=7.74, megabytes=115),
+    "told_names": Known(factor=3.25),
 }
 
 
