@@ -58,6 +58,7 @@ class Known(NamedTuple):
 KNOWN = {
     "sets_in_halves": Known(factor=7.74, megabytes=115),
     "told_names": Known(factor=3.25),
+    "told_variables": Known(factor=3.78),
 }
 
 
