@@ -1,5 +1,5 @@
 /* Wrong calls, and calls whose answers are known:
- * abuse [bytes N | stack | small | threads | shared | fork | signal | opens N | documents N [SCHEMA [DOCUMENT]] | handles N [SCHEMA]]
+ * abuse [bytes N | stack | small | threads | shared N | fork | signal | opens N | documents N [SCHEMA [DOCUMENT]] | handles N [SCHEMA]]
  *
  * A difference is told with its line, and ends the program with 1. Each text ends where memory ends, so that a byte too far ends the
  * program too. Without a word it compares answers. It is also run by scripts/refused.py --library, which refuses requests for
@@ -9,7 +9,7 @@
  *   stack          the deepest texts on threads of 512 KB and of 1 MB; without proofs, of 960 KB and 2 MB
  *   small          threads of 128 KB, which are asked for their stack: too deep a nesting is told, a small one is judged
  *   threads        four threads, each with its own handle
- *   shared         four threads with one handle: each is answered, or told that it is busy
+ *   shared N       four threads with one handle, which ask it N times each: each is answered, or told that it is busy
  *   fork           children that are forked while another thread is in a call: each ends with an answer
  *   signal         a signal handler that asks the handle that is asked: it is told that it is busy
  *   opens N        N handles opened and closed: nothing is left of them
@@ -460,17 +460,18 @@ static void threads(void) {
 }
 
 static graphql_checked_schema one_handle;
-static volatile sig_atomic_t is_over;
+static int is_over;
+static long asks = 20000;
 static unsigned long answered, busy;
 
 /* Asks one handle, whoever else does. Its answer is not read, since it belongs to whoever asks last. */
 static void *asks_one(void *unused) {
     const graphql_checked_text right = {"{ a }", 5, 0}, wrong = {"{ missing }", 11, 0};
-    for (int i = 0; i < 20000 && !is_over; i++) {
+    for (long i = 0; i < asks && !__atomic_load_n(&is_over, __ATOMIC_SEQ_CST); i++) {
         graphql_checked_status found = graphql_checked_check(&one_handle, i % 2 ? &right : &wrong, 0);
         if (found == GRAPHQL_CHECKED_BUSY) __atomic_add_fetch(&busy, 1, __ATOMIC_RELAXED);
         else if (found == (i % 2 ? GRAPHQL_CHECKED_ACCEPTED : GRAPHQL_CHECKED_REFUSED)) __atomic_add_fetch(&answered, 1, __ATOMIC_RELAXED);
-        else if (found != GRAPHQL_CHECKED_CLOSED || !is_over) differs(__LINE__, "status", found, i % 2);
+        else if (found != GRAPHQL_CHECKED_CLOSED || !__atomic_load_n(&is_over, __ATOMIC_SEQ_CST)) differs(__LINE__, "status", found, i % 2);
     }
     return unused;
 }
@@ -481,16 +482,19 @@ static void open_one_handle(void) {
 }
 
 /* Four threads with one handle, which is closed while they ask. */
-static void shared(void) {
+static void shared(long count) {
     pthread_t four[4];
+    asks = count;
     for (int round = 0; round < 5; round++) {
-        is_over = 0;
+        __atomic_store_n(&is_over, 0, __ATOMIC_SEQ_CST);
         open_one_handle();
         for (int i = 0; i < 4; i++)
             if (pthread_create(&four[i], 0, asks_one, 0)) exit(2);
-        while (round % 2 && __atomic_load_n(&answered, __ATOMIC_RELAXED) < 1000u * (unsigned)round) usleep(100);
-        is_over = round % 2;
-        while (is_over && graphql_checked_close(&one_handle) == GRAPHQL_CHECKED_BUSY) usleep(10);
+        if (round % 2) {
+            usleep(20000);
+            __atomic_store_n(&is_over, 1, __ATOMIC_SEQ_CST);
+            while (graphql_checked_close(&one_handle) == GRAPHQL_CHECKED_BUSY) usleep(10);
+        }
         for (int i = 0; i < 4; i++) pthread_join(four[i], 0);
         graphql_checked_close(&one_handle);
     }
@@ -501,6 +505,7 @@ static void shared(void) {
 static void forked(void) {
     const graphql_checked_text right = {"{ a }", 5, 0};
     pthread_t other;
+    asks = 1L << 40;
     open_one_handle();
     if (pthread_create(&other, 0, asks_one, 0)) exit(2);
     for (int i = 0; i < 100; i++) {
@@ -517,7 +522,7 @@ static void forked(void) {
         }
         if (child < 0 || waitpid(child, &ended, 0) < 0 || ended) differs(__LINE__, "the child's end", (unsigned long)ended, 0);
     }
-    is_over = 1;
+    __atomic_store_n(&is_over, 1, __ATOMIC_SEQ_CST);
     pthread_join(other, 0);
     graphql_checked_close(&one_handle);
 }
@@ -676,7 +681,7 @@ int main(int argc, char **argv) {
     else if (!strcmp(word, "stack")) deepest();
     else if (!strcmp(word, "small")) small();
     else if (!strcmp(word, "threads")) threads();
-    else if (!strcmp(word, "shared")) shared();
+    else if (!strcmp(word, "shared")) shared(count);
     else if (!strcmp(word, "fork")) forked();
     else if (!strcmp(word, "signal")) signals();
     else if (!strcmp(word, "opens")) opens(count);

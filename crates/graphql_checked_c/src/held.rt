@@ -1,7 +1,7 @@
 //! The texts of a schema that C holds, under their names.
 
-ghost use Rattle.std.specs.Prelude.{◌≡◌, ◌×◌, map, IfOk, IfErr, length};
-ghost use Rattle.graphql_checked_c.specs.Held.{path_of, text_of, AreHeld, IsHeldFault};
+ghost use Rattle.std.specs.Prelude.{◌≡◌, map, IfOk, IfErr, length};
+ghost use Rattle.graphql_checked_c.specs.HeldTexts.{path_of, text_of, AreHeld, IsHeldFault};
 
 use caller_memory::{TextsFault, texts_at};
 use report_forms::{Lines, Source};

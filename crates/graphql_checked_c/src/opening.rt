@@ -7,7 +7,7 @@ ghost use Rattle.graphql_checked.specs.in_checker_schemas.CheckedSchemaValue.{Is
 ghost use Rattle.graphql_checked.specs.in_checker_schemas.Refusals.{RefusalOfSchemas};
 ghost use Rattle.checker_calls.specs.declared.refusal.Refusal.TheVariants as refusal;
 ghost use Rattle.graphql_checked.specs.Verdicts.{first_terms};
-ghost use Rattle.graphql_checked_c.specs.Held.{text_of};
+ghost use Rattle.graphql_checked_c.specs.HeldTexts.{text_of};
 ghost use Rattle.graphql_checked_c.specs.Told.{IsKeptOfTexts, AnswersTexts};
 
 use crate::answer::{Answer, ENDS, MEMORY, NOT_UTF8, bare};
