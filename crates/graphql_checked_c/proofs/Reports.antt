@@ -1,9 +1,11 @@
 -- Lines of JSON, one after another.
-use Rattle.std.proofs.Common.{◌≡◌, ℕ, suc, ◌+◌, ◌≤◌, Bool, List, [], ◌∷◌, ◌++◌, length, codes, sym, subst, arith}
+use Rattle.std.proofs.Common.{◌≡◌, ℕ, suc, ◌+◌, ◌≤◌, Bool, List, ◌++◌, length, map, subst, arith}
 use Rattle.report_forms.specs.Forms.{IsOneLine}
 use Rattle.report_forms.specs.declared.entry.Entry.{Entry}
 use Rattle.report_forms.specs.declared.source.Source.{Source}
 use Rattle.verdict_definitions.specs.Says.{AnyFault}
+use Rattle.graphql_checked_c.specs.declared.held.HeldText.{HeldText}
+use Rattle.graphql_checked_c.specs.HeldTexts.{path_of, text_of}
 use Rattle.graphql_checked_c.specs.Json.{AreLines, AreEntries, IsJson}
 
 -- one more
@@ -18,14 +20,15 @@ pub lines_all : (count all : ℕ) (bytes : List ℕ) → all ≤ count → count
 lines_all count all bytes above below lines = let e : count ≡ all = omega (arith, above, below) in subst (λ n. AreLines n bytes) e lines
 
 -- the report of the lines of its entries
-pub json_told : (is_document : Bool) (schema document : List ℕ) (faults : List AnyFault) (source : Source) (report entries : List Entry) (bytes : List ℕ)
-    → source.path.now ≡ codes "schema" → source.lines.now ≡ schema → AreEntries is_document source document faults report → entries ≡ report
-    → AreLines (length entries) bytes → IsJson is_document schema document faults bytes
-json_told is_document schema document faults source report entries bytes path text_is told same lines = record {
-  source = source;
-  path = path;
-  text = text_is;
+pub json_told : (is_document : Bool) (held : List HeldText) (path document : List ℕ) (faults : List AnyFault) (sources given : List Source) (report entries : List Entry) (bytes : List ℕ)
+    → map (λ (s : Source). s.path.now) sources ≡ map path_of held → map (λ (s : Source). s.lines.now) sources ≡ map text_of held → given ≡ sources
+    → AreEntries is_document given path document faults report → entries ≡ report
+    → AreLines (length entries) bytes → IsJson is_document held path document faults bytes
+json_told is_document held path document faults sources given report entries bytes paths texts as_given told same lines = record {
+  sources = sources;
+  paths = paths;
+  texts = texts;
   entries = report;
-  told = told;
+  told = subst (λ (all : List Source). AreEntries is_document all path document faults report) as_given told;
   lines = subst (λ (es : List Entry). AreLines (length es) bytes) same lines;
 }

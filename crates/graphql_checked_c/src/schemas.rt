@@ -1,7 +1,8 @@
 //! A schema that C holds: opened of several texts, asked, and closed.
 
 ghost use Rattle.std.specs.Prelude.{◌≡◌, ◌≢◌, None, IfSome};
-ghost use Rattle.graphql_checked_c.specs.Told.{HoldsSchemaOf, IsToldOfTexts, AreCertainTexts, OneHasNotUtf8, AreNotNamed, IsYesOver, IsToldOver, IsCertainOver, OneIsNotUtf8, IsSchemaText, IsDocumentText, IsNoPrefix, layout_of, KeepsOrNot, IsStatus, IsDoneOrMemory, IsDoneOrMemoryOrPrefix, HasStack, IsToldIn, IsUntold};
+ghost use Rattle.graphql_checked_c.specs.HeldTexts.{OneHasNotUtf8, AreNotNamed};
+ghost use Rattle.graphql_checked_c.specs.Told.{HoldsSchemaOf, IsToldOfTexts, AreCertainTexts, IsYesOver, IsToldOver, IsCertainOver, OneIsNotUtf8, IsSchemaText, IsDocumentText, IsNoPrefix, layout_of, KeepsOrNot, IsStatus, IsDoneOrMemory, IsDoneOrMemoryOrPrefix, HasStack, IsToldIn, IsUntold};
 
 use crate::answer::{ACCEPTED, MEMORY, PREFIX, STACK};
 use crate::handle::{Handle, Kept, keep, take};
