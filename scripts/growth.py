@@ -60,7 +60,6 @@ KNOWN = {
     "dag": Known(factor=3.15),
     "told_names": Known(megabytes=107),
     "hash_lists": Known(factor=2.54),
-    "told_roots": Known(factor=4.0, megabytes=156),
 }
 
 

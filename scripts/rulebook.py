@@ -182,14 +182,14 @@ def below(head):
 
 
 def item(head):
-    """The item that begins so, with its comment."""
+    """The item that begins so, with its comment and what it derives."""
 
     def find(lines):
         first = at(lines, head)
         if first is None:
             return None
         end = at(lines, "}", first) + 1
-        while lines[first - 1].startswith("///"):
+        while lines[first - 1].startswith(("///", "#[derive")):
             first -= 1
         return first, end
 

@@ -230,7 +230,7 @@ def drop_by_owned_lines(enum, entries):
 
 def box_lines(entry):
     """The struct of a variant whose data are in a box."""
-    lines = [f"/// {entry.one('boxed')}", f"pub struct {entry.name} {{"]
+    lines = [f"/// {entry.one('boxed')}", "#[derive(PartialEq, Eq)]", f"pub struct {entry.name} {{"]
     for field in entry.data:
         lines += [f"    /// {field.comment}"] if field.comment else []
         lines.append(f"    pub {field.name}: {field.rust()},")

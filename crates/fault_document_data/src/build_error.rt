@@ -7,6 +7,7 @@ use tree_operations::OperationType;
 
 /// What breaks a rule of typing documents, of merging, of subscriptions or of `@defer`, with the data that belong to it
 /// (section 5). Fields that end in `location` are places, None where there is none.
+#[derive(PartialEq, Eq)]
 pub enum BuildError {
     /// A definition of the type system in a document (section 5.1.1).
     TypeSystemDefinition,
@@ -113,6 +114,7 @@ impl Drop for BuildError {
 }
 
 /// Two fields of one response key that are different fields.
+#[derive(PartialEq, Eq)]
 pub struct ConflictingFieldName {
     /// The response key.
     pub alias: Name,
@@ -136,6 +138,7 @@ impl Drop for ConflictingFieldName {
 }
 
 /// Two fields of one response key that give an argument different values, or of which one does not give it.
+#[derive(PartialEq, Eq)]
 pub struct ConflictingFieldArgument {
     /// The response key.
     pub alias: Name,
@@ -163,6 +166,7 @@ impl Drop for ConflictingFieldArgument {
 }
 
 /// Two fields of one response key whose types have different shapes.
+#[derive(PartialEq, Eq)]
 pub struct ConflictingFieldType {
     /// The response key.
     pub alias: Name,

@@ -13,7 +13,7 @@ use Rattle.fault_document_data.specs.DocumentBreaches.{SubscriptionUsesIntrospec
 use Rattle.rule_document_definitions.specs.DocumentFaults.{Broken, broken}
 use Rattle.rule_document_definitions.specs.Selected.{operation_name}
 use Rattle.rule_document_definitions.specs.RootFields.{meta_field_names}
-use Rattle.rule_fragments.specs.ListedBreaches.{root_names, introspection}
+use Rattle.rule_fragments.specs.ListedBreaches.{fields_in, introspection}
 use Rattle.document_walks.proofs.Finding.{none_is_some}
 
 abbrev of_field : MeantOperation Place → Option (TypedSelection Place) → List (Broken Place)
@@ -33,18 +33,13 @@ introspected o t n f e of meta =
     ∙ ap (λ (g : Field). if list_any (bytes_eq g.name.text) meta_field_names then broken (place n) (SubscriptionUsesIntrospection (operation_name o) g.name.text) ∷ [] else []) (sym of)
     ∙ ap (λ b. if b then broken (place n) (SubscriptionUsesIntrospection (operation_name o) f.name.text) ∷ [] else []) meta)
 
--- ---- the name that a field has
+-- ---- whether it is a field
 
-abbrev names_if : Option (TypedSelection Place) → List (List ℕ)
-names_if None = []
-names_if (Some t) = root_names (meant t)
+abbrev field_if : Option (TypedSelection Place) → ℕ
+field_if None = 0
+field_if (Some t) = 1
 
-pub named_field : (t y : TypedSelection Place) → Some y ≡ as_typed_field t → root_names (meant t) ≡ root_names (meant y)
-named_field (TypedField p d h s) y e = sym (ap names_if e)
-named_field (TypedSpread p n ds) y e = none_is_some y (sym e)
-named_field (TypedInline p c ds s) y e = none_is_some y (sym e)
-
-pub no_name : (t : TypedSelection Place) → None ≡ as_typed_field t → root_names (meant t) ≡ []
-no_name (TypedField p d h s) e = none_is_some (TypedField p d h s) e
-no_name (TypedSpread p n ds) e = refl
-no_name (TypedInline p c ds s) e = refl
+pub is_one : (t : TypedSelection Place) → fields_in (meant t) ≡ field_if (as_typed_field t)
+is_one (TypedField p d h s) = refl
+is_one (TypedSpread p n ds) = refl
+is_one (TypedInline p c ds s) = refl

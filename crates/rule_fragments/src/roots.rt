@@ -25,3 +25,24 @@ pub(crate) fn root_selections(
     }
     Ok(roots)
 }
+
+/// Whether the operation has more than one field at its root, through fragments. The walk ends at the second.
+pub(crate) fn has_several_fields(
+    alloc: Global,
+    document: &ExecutableDocument,
+    operation: &Node<Operation>,
+) -> Result<bool, AllocError>
+    ensures { IfOk result (λ b. AreUnderOwnNames (document_meant document.now) → IsTrue b ↔ HasSeveralFields (document_meant document.now) (operation_meant operation.now)) }
+{
+    let set = &operation.content().selection_set;
+    let mut has_one = false;
+    for selection in ReachedSelections::new(alloc, false, set, &document.fragments) {
+        if selection?.1.as_field().is_some() {
+            if has_one {
+                return Ok(true);
+            }
+            has_one = true;
+        }
+    }
+    Ok(false)
+}
