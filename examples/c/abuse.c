@@ -111,7 +111,7 @@ static void not_opened(graphql_checked_schema *schema) {
     ASK(GRAPHQL_CHECKED_NULL, graphql_checked_open(0, A_FIELD, 1, 0, &answer));
     ASK(GRAPHQL_CHECKED_NULL, graphql_checked_open(schema, 0, 1, 0, &answer));
     ASK(GRAPHQL_CHECKED_NULL, graphql_checked_open(schema, &no_bytes, 1, 0, &answer));
-    ASK(GRAPHQL_CHECKED_MEMORY, graphql_checked_open(schema, huge, 3, 0, &answer));
+    if (!memory_is_refused) ASK(GRAPHQL_CHECKED_MEMORY, graphql_checked_open(schema, huge, 3, 0, &answer));
     ASK(GRAPHQL_CHECKED_REFUSED, graphql_checked_open(schema, 0, 0, 0, &answer));
     ASK(GRAPHQL_CHECKED_REFUSED, graphql_checked_open(schema, &nothing, 1, 0, &answer));
     ASK(GRAPHQL_CHECKED_NOT_UTF8, graphql_checked_open(schema, TEXT(SCHEMA, "# \xc3"), 1, 0, &answer));

@@ -1,11 +1,11 @@
 -- Texts that are cut, and their names.
-use Rattle.std.proofs.Common.{◌≡◌, ℕ, List, [], ◌∷◌, ◌+◌, length, map, Bor, refl, sym, ap, ◌∙◌}
+use Rattle.std.proofs.Common.{◌≡◌, ℕ, suc, List, [], ◌∷◌, ◌+◌, length, map, Bor, refl, sym, ap, ◌∙◌}
 use Rattle.std.proofs.lemmas.List.{length-map}
 use Rattle.caller_memory.specs.Cut.{ends_of, IsCut}
 
 ends_many : (start : ℕ) (texts : List (List ℕ)) → length (ends_of start texts) ≡ length texts
 ends_many start [] = refl
-ends_many start (text ∷ texts) = ap (λ n. n + 1) (ends_many (start + length text) texts)
+ends_many start (text ∷ texts) = ap suc (ends_many (start + length text) texts)
 
 -- there are as many as ends
 pub cut_many : (bytes ends : List ℕ) (pieces : List (Bor (List ℕ))) → IsCut bytes ends (map (λ t. t.now) pieces) → length pieces ≡ length ends

@@ -60,7 +60,7 @@ fn told(
 }
 
 /// The report of the faults as lines of JSON. What may be meant is taken from the schema that the document is over.
-#[tactic(auto, using(crate::proofs::Reports::json_told))]
+#[tactic(auto, using(crate::proofs::JsonLines::json_told))]
 fn json_of(
     alloc: Global,
     faults: &DiagnosticList,
@@ -87,7 +87,7 @@ fn json_of(
 }
 
 /// The entries as lines of JSON.
-#[tactic(auto, using(crate::proofs::Reports::lines_more, crate::proofs::Reports::lines_all))]
+#[tactic(auto, using(crate::proofs::JsonLines::lines_more, crate::proofs::JsonLines::lines_all))]
 fn json_lines(alloc: Global, entries: &[Entry]) -> Result<Vec<u8>, AllocError>
     ensures { IfOk result (λ bytes. AreLines (length entries.now) bytes.items) }
 {

@@ -1,6 +1,6 @@
 use Rattle.std.proofs.Common.{true, false}
 use Rattle.graphql_faults.specs.DetailsView.{diagnostics_of}
-use Rattle.graphql_checked_c.proofs.Reports.{json_told}
+use Rattle.graphql_checked_c.proofs.JsonLines.{json_told}
 use Rattle.graphql_checked_c.proofs.reports.json_of.Goals as goal
 
 pub returns-in-None : goal.returns-in-None
