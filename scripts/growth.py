@@ -56,10 +56,7 @@ class Known(NamedTuple):
 
 # The families that are known to be worse than wanted.
 KNOWN = {
-    "sets_apart": Known(megabytes=225),
-    "dag": Known(factor=3.15),
     "told_names": Known(megabytes=107),
-    "hash_lists": Known(factor=2.54),
 }
 
 

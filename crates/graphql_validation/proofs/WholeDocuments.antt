@@ -34,9 +34,11 @@ use Rattle.graphql_validation.specs.Steps.{TellsUnder}
 use Rattle.rule_fragments.specs.Documents.{SomeBreaks, BreachesTold}
 use Rattle.rule_fragments.proofs.UnlessFull.{of_first, first_tells, tells_none}
 use Rattle.graphql_validation.specs.Told.{AnswersFragment, Telling}
-use Rattle.graphql_validation.specs.TellsDocument.{IsTypedUnder, FailsBesides, FailsBesideMerging, FailsInMerging, SomeFails, TellsDocument, DocumentTold}
+use Rattle.graphql_validation.specs.TellsDocument.{IsTypedUnder, FailsBesides, FailsBesideMerging, FailsInMerging, SomeFails, TellsDocument, DocumentTold, TellsOnceBesideMerging}
 use Rattle.graphql_validation.proofs.FirstTold.{parts_told}
 use Rattle.graphql_validation.proofs.Ordered.{beside_under}
+use Rattle.fault_lists.specs.Once.{KeepsOnce}
+use Rattle.graphql_validation.proofs.Once.{all_once_told}
 use Rattle.graphql_validation.proofs.Telling.{data_in, broken_in, limit_in, told_cases, bound_is}
 
 module _ (s : SchemaTree Place) (d : MeantDocument Place) where
@@ -47,6 +49,10 @@ module _ (s : SchemaTree Place) (d : MeantDocument Place) where
 
   pub reaches_typed : IsTypedUnder s d → AreReachesTyped s d
   reaches_typed typed o among = document_reaches_typed (meanings (plain s)) d typed o among
+
+  -- breaches that are kept each once
+  pub breaches_kept : (old new : List (Broken Place)) → (AreUnderOwnNames d → BreachesTold d old) → KeepsOnce old new → AreUnderOwnNames d → BreachesTold d new
+  breaches_kept old new told keeps own = all_once_told old new keeps (told own)
 
   -- ---- what is told
 
@@ -129,23 +135,27 @@ module _ (s : SchemaTree Place) (d : MeantDocument Place) where
       bound : NestsTooDeep d → Contains told (OfLimit None)
       bound nests = absurd (not_in_nil _ (tells.bound nests))
 
-  pub merging_told : TellsDocument s d [] → (old new : Telling) (all : List PlacedDocumentFault) → new ≡ old ++ map of_document (take most_told all)
-      → ((f : PlacedDocumentFault) → Contains all f → AtOperation d (λ o. MergingFailsAt (judged s) d o f)) → DocumentTold s d old new
-  merging_told tells old new all is conflicts = (
-    take most_told all,
-    (
-      is,
+  in_merging : (f : PlacedDocumentFault) → AtOperation d (λ o. MergingFailsAt (judged s) d o f) → FailsInMerging s d f
+  in_merging (OfData f) at = absurd at.1.1
+  in_merging (OfDocument b) at = inl at
+  in_merging (OfLimit place) (o, (among, (passes, is))) = inr (o, (among, (passes, λ i. OfLimit (is i))))
+
+  module _ (old new : Telling) (all : List PlacedDocumentFault) (is : new ≡ old ++ map of_document (take most_told all))
+      (conflicts : (f : PlacedDocumentFault) → Contains all f → AtOperation d (λ o. MergingFailsAt (judged s) d o f)) where
+    pub merging_told : TellsDocument s d [] → DocumentTold s d old new
+    merging_told tells = (
+      take most_told all,
       (
-        first_tells {Right = SomeFails s d} {TellsAll = TellsDocument s d} (take most_told all) all refl (λ f c. merging_some f (fails f (conflicts f c))) (inr (tells_merging tells all)),
-        inr (λ f c. fails f (conflicts f (of_first all f c))),
+        is,
+        (
+          first_tells {Right = SomeFails s d} {TellsAll = TellsDocument s d} (take most_told all) all refl (λ f c. merging_some f (in_merging f (conflicts f c))) (inr (tells_merging tells all)),
+          inr (λ f c. in_merging f (conflicts f (of_first all f c))),
+        ),
       ),
-    ),
-  )
-    where
-      fails : (f : PlacedDocumentFault) → AtOperation d (λ o. MergingFailsAt (judged s) d o f) → FailsInMerging s d f
-      fails (OfData f) at = absurd at.1.1
-      fails (OfDocument b) at = inl at
-      fails (OfLimit place) (o, (among, (passes, is))) = inr (o, (among, (passes, λ i. OfLimit (is i))))
+    )
+
+    pub merging_once : TellsOnceBesideMerging s d old new
+    merging_once = (take most_told all, (is, inr (λ f c. in_merging f (conflicts f (of_first all f c)))))
 
   -- ---- what is silent
 

@@ -1,5 +1,5 @@
 -- The fields that a walk lends, counted up to two.
-use Rattle.std.proofs.Common.{◌≡◌, ◌↔◌, ◌+◌, ◌<◌, ℕ, Bool, true, false, List, [], ◌∷◌, refl, sym, ap, ◌∙◌, arith, true≢false}
+use Rattle.std.proofs.Common.{◌≡◌, ◌↔◌, ◌+◌, ◌<◌, ℕ, Bool, true, false, List, [], ◌∷◌, refl, sym, ap, arith, true≢false}
 use Rattle.std.specs.Prelude.{if◌then◌else◌, IsTrue}
 use Rattle.std.specs.Borrow.{Bor}
 use Rattle.graphql_names.specs.NameValue.{NameValue}
@@ -25,6 +25,20 @@ counted e left rest is = ap (λ l. field_count (members_lent l)) is
 -- none is left
 pub counted_all : (left : List (Member Place)) → left ≡ [] → field_count (members_lent left) ≡ 0
 counted_all left is = ap (λ l. field_count (members_lent l)) is
+
+-- before the first step
+pub none_yet : (left all : ℕ) → left ≡ all → 0 + left ≡ all
+none_yet left all e = omega (arith, e)
+
+-- what a step adds
+pub none_found : (has : Bool) (all left rest one : ℕ) → one ≡ 0 → left ≡ one + rest → one_if has + left ≡ all → one_if has + rest ≡ all
+none_found has all left rest one none more so_far = omega (arith, none, more, so_far)
+
+pub first_found : (has : Bool) (all left rest one : ℕ) → has ≡ false → one ≡ 1 → left ≡ one + rest → one_if has + left ≡ all → 1 + rest ≡ all
+first_found has all left rest one off is more so_far = let zero : one_if has ≡ 0 = ap one_if off in omega (arith, zero, is, more, so_far)
+
+pub second_found : (has : Bool) (all left rest one : ℕ) → has ≡ true → one ≡ 1 → left ≡ one + rest → one_if has + left ≡ all → 1 + (1 + rest) ≡ all
+second_found has all left rest one on is more so_far = let some : one_if has ≡ 1 = ap one_if on in omega (arith, some, is, more, so_far)
 
 module _ (d : MeantDocument Place) (o : MeantOperation Place) (given : List (Member Place)) (roots : AreRoots d o (members_lent given)) where
   pub two_fields : (rest : ℕ) → 1 + (1 + rest) ≡ field_count (members_lent given) → AreUnderOwnNames d → IsTrue true ↔ HasSeveralFields d o

@@ -1,7 +1,9 @@
 -- What SubscriptionUsesIntrospection tells of a selection that is a field.
-use Rattle.std.proofs.Common.{◌≡◌, ℕ, List, [], ◌∷◌, Option, None, Some, bytes_eq, refl, sym, ap, ◌∙◌, true}
+use Rattle.std.proofs.Common.{◌≡◌, ℕ, List, [], ◌∷◌, Option, None, Some, bytes_eq, is_some, refl, sym, ap, ◌∙◌, true}
 use Rattle.std.specs.Prelude.{if◌then◌else◌}
+use Rattle.std.specs.Borrow.{Bor}
 use Rattle.std.specs.List.{list_any}
+use Rattle.std.specs.Option.{option_map, option_copied}
 use Rattle.graphql_names.specs.Node.{content, place}
 use Rattle.graphql_names.specs.Placed.{Place}
 use Rattle.graphql_names.specs.declared.node.Node.{Node}
@@ -43,3 +45,11 @@ pub is_one : (t : TypedSelection Place) → fields_in (meant t) ≡ field_if (as
 is_one (TypedField p d h s) = refl
 is_one (TypedSpread p n ds) = refl
 is_one (TypedInline p c ds s) = refl
+
+-- of what is lent as a field, if it is one
+pub counts : (t : TypedSelection Place) (o : Option (Bor (Node Field))) → option_map typed_field_node (option_copied o) ≡ as_typed_field t → fields_in (meant t) ≡ (if is_some o then 1 else 0)
+counts t o e = is_one t ∙ ap field_if (sym e) ∙ by o
+  where
+    by : (o : Option (Bor (Node Field))) → field_if (option_map typed_field_node (option_copied o)) ≡ (if is_some o then 1 else 0)
+    by None = refl
+    by (Some b) = refl

@@ -1,10 +1,9 @@
 -- What is told of the selections at the root of a subscription is what breaks its rules.
-use Rattle.std.proofs.Common.{◌≡◌, ◌↔◌, ◌⊎◌, ℕ, zero, suc, ◌<◌, Bool, true, false, ◌+◌, List, [], ◌∷◌, ◌++◌, map, length, codes, bytes_eq, Some, option_to_list, length-append, refl, sym, ap, subst, ◌∙◌, inl, inr, arith, true≢false, is_some, Contains}
+use Rattle.std.proofs.Common.{◌≡◌, ◌↔◌, ◌⊎◌, ℕ, zero, suc, ◌<◌, false, ◌+◌, List, [], ◌∷◌, ◌++◌, map, length, codes, bytes_eq, Some, option_to_list, length-append, refl, sym, ap, subst, ◌∙◌, inl, inr, arith, true≢false, is_some, Contains}
 use Rattle.std.specs.List.{flat_map, list_any}
 use Rattle.std.proofs.lemmas.Option.{same_Some}
 use Rattle.std.proofs.lemmas.List.{map-append}
 use Rattle.std.proofs.lemmas.List.Elements.{Contains-append_left, Contains-append_right, Contains-append_cases}
-use Rattle.std.proofs.lemmas.Slice.Eq.{bytes_eq-Decides}
 use Rattle.graphql_names.specs.Placed.{Placed}
 use Rattle.tree_directives.specs.DirectiveTree.{DirectiveTree}
 use Rattle.tree_directives.specs.declared.operation_type.OperationType.TheVariants as operation

@@ -1,6 +1,9 @@
 //! Copies of names that may be missing, and the names of meta-fields.
 ghost use Rattle.std.specs.Prelude.{◌≡◌, IfOk};
+ghost use Rattle.std.specs.List.{list_any};
 ghost use Rattle.std.specs.Option.{option_map};
+ghost use Rattle.std.specs.Str.{bytes_eq};
+ghost use Rattle.rule_document_definitions.specs.RootFields.{meta_field_names};
 
 use graphql_names::Name;
 use std::alloc::AllocError;

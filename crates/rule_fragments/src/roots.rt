@@ -1,7 +1,8 @@
 //! The selections at the root of an operation.
-ghost use Rattle.std.specs.Prelude.{IfOk};
+ghost use Rattle.std.specs.Prelude.{◌↔◌, IfOk, IsTrue};
 ghost use Rattle.rule_always.specs.in_ground.in_typed_operations.DocumentView.{document_meant, operation_meant};
-ghost use Rattle.rule_fragments.specs.Rooted.{AreRoots};
+ghost use Rattle.rule_fragments.specs.Rooted.{AreRoots, HasSeveralFields};
+ghost use Rattle.rule_fragments.specs.Used.{AreUnderOwnNames};
 ghost use Rattle.rule_always.specs.Lent.{lent_all};
 
 use document_typed_operations::{ExecutableDocument, Operation};

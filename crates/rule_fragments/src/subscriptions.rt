@@ -1,16 +1,14 @@
 //! Rules on the root of a subscription.
-ghost use Rattle.std.specs.Prelude.{◌≡◌, ◌++◌, List, map, flat_map, IfOk, OnOk};
-ghost use Rattle.std.specs.List.{list_any};
-ghost use Rattle.std.specs.Str.{bytes_eq};
+ghost use Rattle.std.specs.Prelude.{false, flat_map, OnOk};
 ghost use Rattle.graphql_names.specs.Placed.{node_tree};
 ghost use Rattle.tree_directives.specs.DirectiveTree.{directive_tree};
 ghost use Rattle.rule_always.specs.in_ground.in_typed_operations.DocumentView.{document_meant, operation_meant};
-ghost use Rattle.rule_document_definitions.specs.RootFields.{meta_field_names};
-ghost use Rattle.rule_fragments.specs.Broken.{AddsThese};
-ghost use Rattle.rule_fragments.specs.ListedBreaches.{root_names, multiple_fields, introspection, conditional, at_root};
+ghost use Rattle.rule_document_definitions.specs.Subscriptions.{SubscriptionUsesMultipleFieldsAt, SubscriptionBreaks};
+ghost use Rattle.rule_fragments.specs.Broken.{AddsBroken, AddsThese};
+ghost use Rattle.rule_fragments.specs.ListedBreaches.{introspection, conditional, at_root};
 ghost use Rattle.rule_always.specs.Lent.{lent, lent_all};
+ghost use Rattle.rule_fragments.specs.Thinned.{StandIn};
 ghost use Rattle.rule_fragments.specs.Used.{AreUnderOwnNames};
-ghost use Rattle.rule_fragments.specs.SubscriptionTold.{AddsSubscription};
 
 use crate::breach::Breach;
 use crate::names::is_meta_field_name;

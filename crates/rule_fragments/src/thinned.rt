@@ -120,14 +120,17 @@ fn thin(
 
 /// Whether several operations are of a kind at which the rules look.
 fn are_several(deferred: bool, document: &ExecutableDocument) -> bool {
-    let mut found = 0;
+    let mut has_one = false;
     for operation in document.operations.iter() {
         let operation = operation.content();
         if operation.is_subscription() || (deferred && operation.is_mutation()) {
-            found += 1;
+            if has_one {
+                return true;
+            }
+            has_one = true;
         }
     }
-    found > 1
+    false
 }
 
 /// A document in which the rules on `@defer`, or if `deferred` is false those on the root of a subscription, find the same of each

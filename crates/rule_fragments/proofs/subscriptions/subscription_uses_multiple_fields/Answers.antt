@@ -1,4 +1,4 @@
-use Rattle.std.proofs.Common.{◌≡◌, [], ◌∷◌, option_map, refl, sym, ap, ◌∙◌, true≢false, rules}
+use Rattle.std.proofs.Common.{◌≡◌, [], ◌∷◌, option_map, refl, sym, ◌∙◌, true≢false, rules}
 use Rattle.std.proofs.lemmas.Result.{on_ok_weaker}
 use Rattle.graphql_names.specs.NameValue.{NameValue}
 use Rattle.fault_document_data.specs.DocumentBreaches.{SubscriptionUsesMultipleFields}
@@ -8,11 +8,11 @@ use Rattle.rule_document_definitions.specs.Selected.{operation_name}
 use Rattle.rule_fragments.proofs.Subscribed.{none_multiple, one_multiple}
 use Rattle.rule_fragments.proofs.subscriptions.subscription_uses_multiple_fields.Goals as goal
 
-pub returns-then-not-has_several_fields : goal.returns-then-not-has_several_fields
-returns-then-not-has_several_fields c =
+pub returns-then-not-branch : goal.returns-then-not-branch
+returns-then-not-branch c =
     let d = document_meant c.args.document.now in
     let o = operation_meant c.args.operation.now in
-    λ own. ([], (refl, none_multiple d o (λ has. true≢false (sym ((c.in_ok-has_several_fields.ensures own).1 has) ∙ c.if-not-has_several_fields.false))))
+    λ own. ([], (refl, none_multiple d o (λ has. true≢false (sym ((c.in_ok-has_several_fields.ensures own).1 has) ∙ c.if-not-branch.true))))
 
 pub returns : goal.returns
 returns c =
@@ -22,5 +22,5 @@ returns c =
     on_ok_weaker c.tell_breach.result
     (λ told own. (
       broken c.location.result (SubscriptionUsesMultipleFields (option_map (λ (n : NameValue). n.text) c.in_ok-name.name)) ∷ [],
-      (told, one_multiple d o ((c.in_ok-has_several_fields.ensures own).0 c.if-not-has_several_fields.true) _ (λ i. broken (c.location.ensures i) (SubscriptionUsesMultipleFields (name i)))),
+      (told, one_multiple d o ((c.in_ok-has_several_fields.ensures own).0 c.if-not-branch.false) _ (λ i. broken (c.location.ensures i) (SubscriptionUsesMultipleFields (name i)))),
     )) c.tell_breach.ensures.told

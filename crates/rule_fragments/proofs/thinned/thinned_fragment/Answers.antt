@@ -1,4 +1,4 @@
-use Rattle.std.proofs.Common.{ap, subst, sym, ◌∙◌}
+use Rattle.std.proofs.Common.{ap, subst, sym}
 use Rattle.graphql_names.specs.Node.{content}
 use Rattle.document_meaning.specs.MeantTree.{meant_of_set}
 use Rattle.document_typed_selections.specs.TypedTree.{typed_set_tree}
