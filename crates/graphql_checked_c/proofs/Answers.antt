@@ -11,7 +11,6 @@ use Rattle.document_meaning.specs.MeantTree.{MeantDocument}
 use Rattle.checker_calls.specs.declared.refusal.Refusal.{Refusal}
 use Rattle.checker_calls.specs.declared.refusal.Refusal.TheVariants.{Faults, Memory, Failed}
 use Rattle.graphql_checked.specs.in_checker_schemas.Refusals.{RefusalOfSchemas}
-use Rattle.graphql_checked.specs.in_checker_schemas.CheckedSchemaValue.{IsCheckedSchemaOf}
 use Rattle.graphql_checked.specs.CheckedView.{CheckedSchemaParts, CheckedDocumentParts, schema_value, document_value}
 use Rattle.graphql_checked.specs.CheckerValue.{IsCheckedDocumentOf, WritesCheckedDocument}
 use Rattle.verdict_definitions.specs.Out.{Layout}
@@ -21,7 +20,6 @@ use Rattle.graphql_checked.proofs.Verdicts.{yes_pair, refused_pair, certain_docu
 use Rattle.graphql_checked_c.specs.declared.handle.Kept.{Kept}
 use Rattle.graphql_checked_c.specs.declared.held.HeldText.{HeldText}
 use Rattle.graphql_checked_c.specs.HeldTexts.{text_of, AreHeld, AreNotNamed, OneHasNotUtf8}
-use Rattle.caller_memory.specs.Cut.{IsCut}
 use Rattle.caller_memory.specs.Room.{IsPut}
 use Rattle.caller_memory.proofs.Cuts.{one_cut}
 use Rattle.graphql_checked_c.specs.Told.{IsKeptOfTexts, HoldsSchemaOf, KeepsOrNot, IsToldIn, IsUntold, AreCertainTexts, IsStatus, IsDoneOrMemory, IsDoneOrMemoryOrPrefix, IsYesOver, IsToldOver, OneIsNotUtf8, IsCertainOver, IsSchemaText, IsDocumentText, TellsRefusal, AnswersTexts, AnswersOver}

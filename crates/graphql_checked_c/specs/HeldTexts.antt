@@ -1,5 +1,5 @@
 -- The texts of a schema that is held, under their names.
-use Rattle.std.specs.Prelude.{◌≡◌, ◌≢◌, ℕ, List, length, map, ◌⊎◌, IsUtf8}
+use Rattle.std.specs.Prelude.{◌≢◌, ℕ, List, length, map, ◌⊎◌, IsUtf8}
 use Rattle.std.specs.List.{All}
 use Rattle.caller_memory.specs.declared.texts.TextsFault.{TextsFault}
 use Rattle.caller_memory.specs.declared.texts.TextsFault.TheVariants.{Memory, Ends, NotUtf8}

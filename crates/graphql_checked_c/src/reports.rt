@@ -1,6 +1,6 @@
 //! How a refusal is told: as the program does, or as lines of JSON.
 
-ghost use Rattle.std.specs.Prelude.{◌≡◌, ◌≢◌, length, is_some, IfOk};
+ghost use Rattle.std.specs.Prelude.{◌≢◌, length, is_some, IfOk};
 ghost use Rattle.graphql_faults.specs.DetailsView.{diagnostics_of};
 ghost use Rattle.checker_calls.specs.declared.refusal.Refusal.TheVariants.{Failed};
 ghost use Rattle.graphql_checked_c.specs.Json.{AreLines, IsJson};

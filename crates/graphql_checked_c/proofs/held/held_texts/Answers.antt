@@ -1,4 +1,3 @@
-use Rattle.std.proofs.Common.{rules}
 use Rattle.graphql_checked_c.proofs.Named.{as_many}
 use Rattle.graphql_checked_c.proofs.held.held_texts.Goals as goal
 

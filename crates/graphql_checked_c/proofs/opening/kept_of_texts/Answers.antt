@@ -1,7 +1,6 @@
-use Rattle.std.proofs.Common.{List, sym, subst}
-use Rattle.graphql_checked_c.specs.declared.held.HeldText.{HeldText}
+use Rattle.std.proofs.Common.{sym, subst}
 use Rattle.graphql_checked_c.specs.HeldTexts.{AreHeld, IsHeldFault}
-use Rattle.graphql_checked_c.proofs.Answers.{texts_not_utf8, texts_uncut, texts_refused}
+use Rattle.graphql_checked_c.proofs.Answers.{texts_not_utf8, texts_refused}
 use Rattle.graphql_checked_c.proofs.opening.kept_of_texts.Goals as goal
 
 pub returns-in-Err-NotUtf8-clause-answer : goal.returns-in-Err-NotUtf8-clause-answer
