@@ -1,5 +1,5 @@
 -- What is kept of the faults of a document are those that last.
-use Rattle.std.proofs.Common.{◌≡◌, ◌⊎◌, inl, inr, Bool, true, false, List, ◌++◌, map, take, refl, ap, sym, ◌∙◌, subst, Contains, true≢false}
+use Rattle.std.proofs.Common.{◌≡◌, inl, inr, Bool, true, false, List, ◌++◌, map, take, refl, ap, sym, ◌∙◌, subst, Contains, true≢false}
 use Rattle.std.specs.List.{filter}
 use Rattle.graphql_names.specs.Placed.{Place}
 use Rattle.schema_types.specs.SchemaTree.{SchemaTree}
