@@ -36,7 +36,7 @@ use Rattle.checker_calls.proofs.Deciding.{one_tree, unread_not_read, is_read}
 -- what is told in full, in the words of the rules on documents
 besides : (schema : SchemaTree Place) (document : MeantDocument Place) (fault : PlacedDocumentFault) → RuleFailsBeside (places_in schema) (judged schema) document fault → FailsBesides schema document fault
 besides schema document (OfData fault) h = h
-besides schema document (OfDocument fault) h = inr h
+besides schema document (OfDocument fault) h = h
 besides schema document (OfLimit place) h = h
 
 -- a list of one is not empty

@@ -1,4 +1,3 @@
 pub mod Handles
 pub mod Answers
-pub mod JsonLines
-pub mod Named
+pub mod Reports

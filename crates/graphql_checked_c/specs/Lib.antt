@@ -1,4 +1,3 @@
 pub mod Json
 pub mod Told
 pub mod Held
-pub mod HeldTexts

@@ -17,5 +17,3 @@ pub mod Reasons
 pub mod Filtered
 pub mod Kept
 pub mod StandingFaults
-pub mod Joined
-pub mod Once

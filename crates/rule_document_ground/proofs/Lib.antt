@@ -6,6 +6,5 @@ pub mod OfDocuments
 pub mod AddingBroken
 pub mod ContentEquality
 pub mod NotedNames
-pub mod UsedNames
 -- Lists of what rules tell, for the layers above.
 pub use Rattle.rule_definitions.proofs.Listing

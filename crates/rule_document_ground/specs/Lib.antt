@@ -4,5 +4,4 @@ pub mod Gathered
 pub mod Fields
 pub mod Lent
 pub mod NotedNames
-pub mod UsedNames
 pub use Rattle.document_walks.specs.in_typed_operations as in_typed_operations

@@ -12,8 +12,6 @@
 //! - What a check adds to a list of breaches of documents is `AddsBroken` of `specs/Broken.antt`, with its lemmas in
 //!   `proofs/AddingBroken.antt`; those on lists of any faults are `rule_definitions`' `Listing`, handed on.
 //! - The names in a set are `noted_names` of `specs/NotedNames.antt`; `has_name` asks for one, `note_name` adds one.
-//!   `note_in_selection` and `note_in_directives` add those of the variables that stand there (`specs/UsedNames.antt`, with
-//!   its lemmas in `proofs/UsedNames.antt`).
 //!
 //! Begin with `specs/Reach.antt` and `reaching.rt`; and with `field_selection.rt`.
 #![tactic(auto)]
@@ -24,11 +22,9 @@ pub mod laws;
 mod lists;
 mod noted_names;
 mod reaching;
-mod used_names;
 
 pub use breaches::{push_breach, tell_breach};
 pub use field_selection::FieldSelection;
 pub use lists::Reach;
 pub use noted_names::{has_name, note_name};
 pub use reaching::reach;
-pub use used_names::{note_in_directives, note_in_selection};

@@ -2,7 +2,6 @@ pub mod Filing
 pub mod OneGroup
 pub mod Counts
 pub mod Parts
-pub mod Standing
 pub mod Sharing
 pub mod Telling
 pub mod Shaped

@@ -1,4 +1,3 @@
-pub mod Found
 pub mod Standing
 pub mod Rising
 pub mod Few

@@ -13,7 +13,6 @@ mod arguments;
 mod check;
 mod copies;
 mod empty;
-mod find_subtype;
 mod implementation;
 mod interface_arguments;
 mod interface_check;

@@ -12,5 +12,6 @@ mod reached;
 mod types;
 mod unique;
 mod unused;
+mod used;
 
 pub use check::{check_variables, check_variables_alone};

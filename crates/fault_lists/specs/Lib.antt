@@ -1,4 +1,0 @@
-pub mod Added
-pub mod Once
-pub mod PlacedBreach
-pub mod TracePlaces

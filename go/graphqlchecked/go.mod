@@ -1,3 +1,0 @@
-module graphqlchecked
-
-go 1.19
