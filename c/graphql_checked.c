@@ -1,121 +1,301 @@
-/* What C calls: null pointers and handles are looked at here, and all else is passed on to what is proved. A slice of no bytes
- * needs a pointer that is not null too, and gets that of a byte that nobody reads. */
+/* What C calls, over the proved functions: it looks for null pointers and for handles that are in a call, keeps a schema's texts and
+ * the last answer, and asks how much stack there is. No proof covers it. */
+#define _GNU_SOURCE
 #include "graphql_checked.h"
 
+#include <pthread.h>
 #include <stdbool.h>
+#include <stdlib.h>
+#include <string.h>
 
-uint32_t graphql_proved_check(const uint8_t *, size_t, const uint8_t *, size_t, size_t, size_t);
-uint32_t graphql_proved_report(const uint8_t *, size_t, const uint8_t *, size_t, size_t, size_t, uint8_t *, size_t, size_t *);
-uint32_t graphql_proved_report_json(const uint8_t *, size_t, const uint8_t *, size_t, size_t, size_t, uint8_t *, size_t, size_t *);
-uint32_t graphql_proved_schema_open(const uint8_t *, size_t, const size_t *, size_t, size_t, size_t, graphql_schema *, uint8_t *,
-                                    size_t, size_t *);
-uint32_t graphql_proved_schema_check(graphql_schema *, const uint8_t *, size_t, uint8_t *, size_t, size_t *);
-uint32_t graphql_proved_schema_text(graphql_schema *, bool, const uint8_t *, size_t, uint8_t *, size_t, size_t *);
-uint32_t graphql_proved_document_text(graphql_schema *, const uint8_t *, size_t, bool, const uint8_t *, size_t, uint8_t *, size_t,
-                                      size_t *);
-void graphql_proved_schema_close(graphql_schema *);
-uint32_t graphql_proved_version(void);
+/* The proved handle, as Rattle declares it. */
+typedef struct {
+    void *at;
+} proved_schema;
 
-static const size_t no_ends[1] = {0};
-
-/* Whether a pointer is null that is to lead to something. */
-static bool is_missing(const void *at, size_t length) { return !at && length; }
-
-/* The pointer, or one that is not null. */
-static const uint8_t *bytes(const uint8_t *at) { return at ? at : (const uint8_t *)""; }
-
-/* The status of a call that is not passed on: nothing is told. */
-static uint32_t untold(uint32_t status, size_t *needed) {
-    if (needed) *needed = 0;
-    return status;
-}
-
-uint32_t graphql_checked_version(void) { return graphql_proved_version(); }
+uint32_t graphql_proved_schema_open(const uint8_t *names, size_t, const size_t *name_ends, size_t, const uint8_t *texts, size_t,
+                                    const size_t *ends, size_t, size_t nesting, size_t stack, bool json, proved_schema *,
+                                    uint8_t *room, size_t, size_t *needed);
+uint32_t graphql_proved_schema_check(proved_schema *, bool json, const uint8_t *path, size_t, const uint8_t *document, size_t,
+                                     uint8_t *room, size_t, size_t *needed);
+uint32_t graphql_proved_schema_text(proved_schema *, bool lines, const uint8_t *prefix, size_t, uint8_t *room, size_t, size_t *needed);
+uint32_t graphql_proved_document_text(proved_schema *, bool json, const uint8_t *path, size_t, const uint8_t *document, size_t,
+                                      bool lines, const uint8_t *prefix, size_t, uint8_t *room, size_t, size_t *needed);
+void graphql_proved_schema_close(proved_schema *);
 
 /* scripts/c_library says what it builds from; whoever builds by hand has proved nothing. */
-#ifndef GRAPHQL_CHECKED_PROVED
-#define GRAPHQL_CHECKED_PROVED 0
+#ifndef GRAPHQL_CHECKED_IS_PROVED
+#define GRAPHQL_CHECKED_IS_PROVED 0
 #endif
 #ifndef GRAPHQL_CHECKED_COMMIT
 #define GRAPHQL_CHECKED_COMMIT "unknown"
 #endif
-#ifndef GRAPHQL_CHECKED_VERSION
-#define GRAPHQL_CHECKED_VERSION "unknown"
-#endif
+#define MADE GRAPHQL_CHECKED_VERSION " (commit " GRAPHQL_CHECKED_COMMIT
 
-uint32_t graphql_checked_proved(void) { return GRAPHQL_CHECKED_PROVED; }
+uint32_t graphql_checked_version(void) { return GRAPHQL_CHECKED_VERSION_NUMBER; }
+uint32_t graphql_checked_proved(void) { return GRAPHQL_CHECKED_IS_PROVED; }
+const char *graphql_checked_build(void) { return GRAPHQL_CHECKED_IS_PROVED ? MADE ", proved)" : MADE ", not proved)"; }
 
-const char *graphql_checked_build(void) {
-    return GRAPHQL_CHECKED_PROVED ? GRAPHQL_CHECKED_VERSION " (commit " GRAPHQL_CHECKED_COMMIT ", proved)"
-                                  : GRAPHQL_CHECKED_VERSION " (commit " GRAPHQL_CHECKED_COMMIT ", not proved)";
+const char *graphql_checked_status_text(graphql_checked_status status) {
+    switch (status) {
+    case GRAPHQL_CHECKED_ACCEPTED: return "accepted";
+    case GRAPHQL_CHECKED_REFUSED: return "refused";
+    case GRAPHQL_CHECKED_NOT_UTF8: return "a text or a path is not UTF-8";
+    case GRAPHQL_CHECKED_MEMORY: return "out of memory";
+    case GRAPHQL_CHECKED_STACK: return "the thread has too little stack for this nesting";
+    case GRAPHQL_CHECKED_NULL: return "a pointer is null that must not be";
+    case GRAPHQL_CHECKED_INDENT: return "the indent is not of spaces and tabs alone";
+    case GRAPHQL_CHECKED_CLOSED: return "the handle has no schema";
+    case GRAPHQL_CHECKED_OPEN: return "the handle has a schema already";
+    case GRAPHQL_CHECKED_BUSY: return "the handle is in a call";
+    case GRAPHQL_CHECKED_OPTIONS: return "the options have what this library does not know";
+    }
+    return "no status";
 }
 
-uint32_t graphql_check(const uint8_t *schema, size_t schema_length, const uint8_t *document, size_t document_length,
-                       size_t nesting, size_t stack) {
-    if (is_missing(schema, schema_length) || is_missing(document, document_length)) return GRAPHQL_NULL;
-    return graphql_proved_check(bytes(schema), schema_length, bytes(document), document_length, nesting, stack);
+/* ---- stack */
+
+/* The measures of `caller_memory`, of whose frames those without proofs are larger. */
+enum { BASE = 65536, EACH = GRAPHQL_CHECKED_IS_PROVED ? 1152 : 2304 };
+
+size_t graphql_checked_stack(size_t nesting) { return nesting > (SIZE_MAX - BASE) / EACH ? SIZE_MAX : BASE + EACH * nesting; }
+
+/* How many bytes of stack the thread has left; 1 where this runs on no stack of the thread's. */
+static size_t stack_left(void) {
+    static _Thread_local char *low, *high;
+    char here;
+    if (!high) {
+        pthread_attr_t attributes;
+        void *at = NULL;
+        size_t size = 0, guard = 0;
+        if (pthread_getattr_np(pthread_self(), &attributes)) return 1;
+        pthread_attr_getstack(&attributes, &at, &size);
+        pthread_attr_getguardsize(&attributes, &guard);
+        pthread_attr_destroy(&attributes);
+        low = (char *)at + guard, high = (char *)at + size;
+    }
+    char *volatile at = &here;
+    return at > low && at < high ? (size_t)(at - low) : 1;
 }
 
-uint32_t graphql_report(const uint8_t *schema, size_t schema_length, const uint8_t *document, size_t document_length,
-                        size_t nesting, size_t stack, uint8_t *room, size_t room_length, size_t *needed) {
-    uint8_t none[1];
-    if (is_missing(schema, schema_length) || is_missing(document, document_length) || is_missing(room, room_length) || !needed)
-        return untold(GRAPHQL_NULL, needed);
-    return graphql_proved_report(bytes(schema), schema_length, bytes(document), document_length, nesting, stack,
-                                 room ? room : none, room_length, needed);
+/* ---- handles */
+
+/* What a handle leads to. */
+typedef struct {
+    proved_schema schema; /* of nothing, where none is open */
+    graphql_checked_options options;
+    char *texts;   /* names and texts, into which the schema leads */
+    uint8_t *room; /* the last answer, with room for a zero byte */
+    size_t size;   /* of the room */
+} held;
+
+/* A handle leads here while it is in a call. */
+static char in_call;
+
+/* Takes what a handle leads to, so that no other call has it. */
+static void *take(graphql_checked_schema *schema) { return __atomic_exchange_n(&schema->at, &in_call, __ATOMIC_ACQ_REL); }
+static void give(graphql_checked_schema *schema, void *at) { __atomic_store_n(&schema->at, at, __ATOMIC_RELEASE); }
+
+/* Frees what a handle leads to, its schema first, since that leads into the texts. */
+static void drop(held *it) {
+    if (!it) return;
+    if (it->schema.at) graphql_proved_schema_close(&it->schema);
+    free(it->texts);
+    free(it->room);
+    free(it);
 }
 
-uint32_t graphql_report_json(const uint8_t *schema, size_t schema_length, const uint8_t *document, size_t document_length,
-                             size_t nesting, size_t stack, uint8_t *room, size_t room_length, size_t *needed) {
-    uint8_t none[1];
-    if (is_missing(schema, schema_length) || is_missing(document, document_length) || is_missing(room, room_length) || !needed)
-        return untold(GRAPHQL_NULL, needed);
-    return graphql_proved_report_json(bytes(schema), schema_length, bytes(document), document_length, nesting, stack,
-                                      room ? room : none, room_length, needed);
+static void *drop_there(void *it) { return drop(it), NULL; }
+
+/* Drops it on a thread of its own, where this one has too little stack for the nesting. */
+static bool drop_deep(held *it) {
+    pthread_t thread;
+    pthread_attr_t attributes;
+    size_t size = graphql_checked_stack(it->options.nesting);
+    if (!it->schema.at || it->options.stack || stack_left() >= size) return drop(it), true;
+    if (pthread_attr_init(&attributes)) return false;
+    bool is_made = !pthread_attr_setstacksize(&attributes, size + BASE) && !pthread_create(&thread, &attributes, drop_there, it);
+    pthread_attr_destroy(&attributes);
+    if (is_made) pthread_join(thread, NULL);
+    return is_made;
 }
 
-uint32_t graphql_schema_open(const uint8_t *texts, size_t texts_length, const size_t *ends, size_t count, size_t nesting,
-                             size_t stack, graphql_schema *handle, uint8_t *room, size_t room_length, size_t *needed) {
-    uint8_t none[1];
-    if (is_missing(texts, texts_length) || is_missing(ends, count) || !handle || is_missing(room, room_length) || !needed)
-        return untold(GRAPHQL_NULL, needed);
-    if (handle->at) return untold(GRAPHQL_HANDLE, needed);
-    return graphql_proved_schema_open(bytes(texts), texts_length, ends ? ends : no_ends, count, nesting, stack, handle,
-                                      room ? room : none, room_length, needed);
+/* Makes room for so many bytes and a zero byte, and at least twice what there was. */
+static bool grow(held *it, size_t length) {
+    if (length == SIZE_MAX) return false;
+    size_t size = length + 1 < 2 * it->size ? 2 * it->size : length + 1;
+    free(it->room);
+    it->room = malloc(size);
+    it->size = it->room ? size : 0;
+    return it->room != NULL;
 }
 
-/* Why a call on an open handle is not passed on, or 0. */
-static uint32_t fault_of_call(const graphql_schema *handle, const uint8_t *room, size_t room_length, const size_t *needed) {
-    if (!handle || is_missing(room, room_length) || !needed) return GRAPHQL_NULL;
-    return handle->at ? 0 : GRAPHQL_HANDLE;
+/* Tells an answer of so many bytes, if one is wanted. */
+static void tell(const held *it, size_t length, graphql_checked_answer *answer) {
+    if (length) it->room[length] = 0;
+    if (answer) answer->bytes = length ? (const char *)it->room : "", answer->length = length;
 }
 
-uint32_t graphql_schema_check(graphql_schema *handle, const uint8_t *document, size_t document_length, uint8_t *room,
-                              size_t room_length, size_t *needed) {
-    uint8_t none[1];
-    uint32_t fault = is_missing(document, document_length) ? GRAPHQL_NULL : fault_of_call(handle, room, room_length, needed);
-    if (fault) return untold(fault, needed);
-    return graphql_proved_schema_check(handle, bytes(document), document_length, room ? room : none, room_length, needed);
+/* How long a report is when it has no more faults than are wanted: each has a line, and one more begins a report as text. */
+static size_t cut(const held *it, size_t length) {
+    size_t lines = it->options.max_faults, at = 0;
+    if (!lines || lines == SIZE_MAX) return length;
+    for (lines += it->options.form == GRAPHQL_CHECKED_TEXT; lines && at < length; at++) lines -= it->room[at] == '\n';
+    return at;
 }
 
-uint32_t graphql_schema_text(graphql_schema *handle, const uint8_t *prefix, size_t prefix_length, uint8_t *room,
-                             size_t room_length, size_t *needed) {
-    uint8_t none[1];
-    uint32_t fault = is_missing(prefix, prefix_length) ? GRAPHQL_NULL : fault_of_call(handle, room, room_length, needed);
-    if (fault) return untold(fault, needed);
-    return graphql_proved_schema_text(handle, prefix != 0, bytes(prefix), prefix_length, room ? room : none, room_length, needed);
+/* ---- calls: each is made again where its answer does not fit the room */
+
+/* What is asked. */
+typedef struct {
+    enum { OPEN, CHECK, SCHEMA_TEXT, DOCUMENT_TEXT } call;
+    const graphql_checked_text *document;
+    const char *indent;
+    size_t count, names_length, texts_length, *ends; /* of an opening: names first, then texts, with their ends */
+} question;
+
+static const uint8_t *bytes(const char *at) { return (const uint8_t *)(at ? at : ""); }
+static size_t length_of(const char *at) { return at ? strlen(at) : 0; }
+
+static uint32_t call(held *it, const question *q, size_t room, size_t *needed) {
+    const graphql_checked_text *document = q->document;
+    const char *path = document && document->path ? document->path : "document";
+    bool json = it->options.form == GRAPHQL_CHECKED_JSON;
+    switch (q->call) {
+    case OPEN: {
+        size_t stack = it->options.stack ? it->options.stack : stack_left();
+        return graphql_proved_schema_open(bytes(it->texts), q->names_length, q->ends, q->count, bytes(it->texts) + q->names_length,
+                                          q->texts_length, q->ends + q->count, q->count, it->options.nesting, stack, json,
+                                          &it->schema, it->room, room, needed);
+    }
+    case CHECK:
+        return graphql_proved_schema_check(&it->schema, json, bytes(path), strlen(path), bytes(document->bytes), document->length,
+                                           it->room, room, needed);
+    case SCHEMA_TEXT:
+        return graphql_proved_schema_text(&it->schema, q->indent, bytes(q->indent), length_of(q->indent), it->room, room, needed);
+    default:
+        return graphql_proved_document_text(&it->schema, json, bytes(path), strlen(path), bytes(document->bytes), document->length,
+                                            q->indent, bytes(q->indent), length_of(q->indent), it->room, room, needed);
+    }
 }
 
-uint32_t graphql_document_text(graphql_schema *handle, const uint8_t *document, size_t document_length, const uint8_t *prefix,
-                               size_t prefix_length, uint8_t *room, size_t room_length, size_t *needed) {
-    uint8_t none[1];
-    bool is_null = is_missing(document, document_length) || is_missing(prefix, prefix_length);
-    uint32_t fault = is_null ? GRAPHQL_NULL : fault_of_call(handle, room, room_length, needed);
-    if (fault) return untold(fault, needed);
-    return graphql_proved_document_text(handle, bytes(document), document_length, prefix != 0, bytes(prefix), prefix_length,
-                                        room ? room : none, room_length, needed);
+/* Asks, and tells the answer. */
+static graphql_checked_status ask(held *it, const question *q, graphql_checked_answer *answer) {
+    enum { FIRST = 4095 };
+    size_t needed = 0;
+    uint32_t status = GRAPHQL_CHECKED_MEMORY;
+    if (it->room || grow(it, FIRST))
+        while (status = call(it, q, it->size - 1, &needed), needed > it->size - 1)
+            if (!grow(it, needed)) {
+                needed = 0, status = GRAPHQL_CHECKED_MEMORY;
+                break;
+            }
+    tell(it, status == GRAPHQL_CHECKED_REFUSED ? cut(it, needed) : needed, answer);
+    return status;
 }
 
-void graphql_schema_close(graphql_schema *handle) {
-    if (handle && handle->at) graphql_proved_schema_close(handle);
+/* A status without an answer. */
+static graphql_checked_status untold(graphql_checked_status status, graphql_checked_answer *answer) {
+    if (answer) answer->bytes = "", answer->length = 0;
+    return status;
+}
+
+/* ---- opening */
+
+/* The options with what stands for nothing, if all that is told is known: also where the caller's struct is shorter or longer. */
+static bool options_of(const graphql_checked_options *given, graphql_checked_options *options) {
+    static const graphql_checked_options none = GRAPHQL_CHECKED_DEFAULTS;
+    *options = none;
+    if (given) {
+        size_t size = given->size;
+        if (size < sizeof size) return false;
+        for (size_t i = sizeof none; i < size; i++)
+            if (((const char *)given)[i]) return false;
+        memcpy(options, given, size < sizeof none ? size : sizeof none);
+    }
+    if (!options->nesting) options->nesting = GRAPHQL_CHECKED_NESTING;
+    return options->form <= GRAPHQL_CHECKED_TEXT;
+}
+
+/* Copies names and texts one after the other, with the end of each. */
+static graphql_checked_status copy(held *it, question *q, const graphql_checked_text *texts) {
+    size_t whole = 0, at = 0, from = 0;
+    for (size_t i = 0; i < q->count; i++) {
+        if (!texts[i].bytes && texts[i].length) return GRAPHQL_CHECKED_NULL;
+        if (texts[i].length > PTRDIFF_MAX) return GRAPHQL_CHECKED_MEMORY;
+        whole += texts[i].length + strlen(texts[i].path ? texts[i].path : "schema");
+        if (whole > PTRDIFF_MAX) return GRAPHQL_CHECKED_MEMORY;
+    }
+    it->texts = malloc(whole + 1);
+    q->ends = malloc((2 * q->count + 1) * sizeof *q->ends);
+    if (!it->texts || !q->ends) return GRAPHQL_CHECKED_MEMORY;
+    for (size_t i = 0; i < 2 * q->count; i++) {
+        const graphql_checked_text *text = &texts[i % q->count];
+        const char *name = text->path ? text->path : "schema", *part = i < q->count ? name : text->bytes;
+        size_t length = i < q->count ? strlen(name) : text->length;
+        if (i == q->count) q->names_length = from = at;
+        if (length) memcpy(it->texts + at, part, length);
+        q->ends[i] = (at += length) - from;
+    }
+    q->texts_length = at - q->names_length;
+    return GRAPHQL_CHECKED_ACCEPTED;
+}
+
+graphql_checked_status graphql_checked_open(graphql_checked_schema *schema, const graphql_checked_text *texts, size_t count,
+                                            const graphql_checked_options *options, graphql_checked_answer *answer) {
+    if (!schema || (!texts && count)) return untold(GRAPHQL_CHECKED_NULL, answer);
+    held *it = take(schema);
+    if ((void *)it == &in_call) return untold(GRAPHQL_CHECKED_BUSY, answer);
+    if (it && it->schema.at) return give(schema, it), untold(GRAPHQL_CHECKED_OPEN, answer);
+    drop(it);
+    question q = {OPEN, .count = count};
+    graphql_checked_status status = GRAPHQL_CHECKED_MEMORY;
+    it = calloc(1, sizeof *it);
+    if (it) status = options_of(options, &it->options) ? copy(it, &q, texts) : GRAPHQL_CHECKED_OPTIONS;
+    status = status ? untold(status, answer) : ask(it, &q, answer);
+    free(q.ends);
+    if (status > GRAPHQL_CHECKED_REFUSED) drop(it), it = NULL;
+    return give(schema, it), status;
+}
+
+/* ---- an open handle */
+
+/* Asks what the handle leads to, if it has a schema, and the thread has as much stack as its nesting needs. */
+static graphql_checked_status ask_open(graphql_checked_schema *schema, const question *q, graphql_checked_answer *answer) {
+    if (!schema) return untold(GRAPHQL_CHECKED_NULL, answer);
+    held *it = take(schema);
+    if ((void *)it == &in_call) return untold(GRAPHQL_CHECKED_BUSY, answer);
+    graphql_checked_status status = GRAPHQL_CHECKED_ACCEPTED;
+    if (!it || !it->schema.at) status = GRAPHQL_CHECKED_CLOSED;
+    else if (!it->options.stack && stack_left() < graphql_checked_stack(it->options.nesting)) status = GRAPHQL_CHECKED_STACK;
+    status = status ? untold(status, answer) : ask(it, q, answer);
+    return give(schema, it), status;
+}
+
+/* Whether a document is told. */
+static bool is_told(const graphql_checked_text *document) { return document && (document->bytes || !document->length); }
+
+graphql_checked_status graphql_checked_check(graphql_checked_schema *schema, const graphql_checked_text *document,
+                                             graphql_checked_answer *answer) {
+    question q = {CHECK, .document = document};
+    return is_told(document) ? ask_open(schema, &q, answer) : untold(GRAPHQL_CHECKED_NULL, answer);
+}
+
+graphql_checked_status graphql_checked_schema_text(graphql_checked_schema *schema, const char *indent, graphql_checked_answer *answer) {
+    question q = {SCHEMA_TEXT, .indent = indent};
+    return ask_open(schema, &q, answer);
+}
+
+graphql_checked_status graphql_checked_document_text(graphql_checked_schema *schema, const graphql_checked_text *document,
+                                                     const char *indent, graphql_checked_answer *answer) {
+    question q = {DOCUMENT_TEXT, .document = document, .indent = indent};
+    return is_told(document) ? ask_open(schema, &q, answer) : untold(GRAPHQL_CHECKED_NULL, answer);
+}
+
+graphql_checked_status graphql_checked_close(graphql_checked_schema *schema) {
+    if (!schema) return GRAPHQL_CHECKED_ACCEPTED;
+    held *it = take(schema);
+    if ((void *)it == &in_call) return GRAPHQL_CHECKED_BUSY;
+    if (it && !drop_deep(it)) return give(schema, it), GRAPHQL_CHECKED_STACK;
+    return give(schema, NULL), GRAPHQL_CHECKED_ACCEPTED;
 }

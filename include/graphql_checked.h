@@ -1,33 +1,33 @@
-/* The proved GraphQL checker, for C. scripts/c_library makes libgraphql_checked.a and libgraphql_checked.so, which need the C
- * library alone. With --quick it makes them without proofs, in minutes: `graphql_checked_proved` tells which it is.
+/* The proved GraphQL checker, for C and C++.
  *
- * Texts go in as bytes with their length, and need no zero byte at the end. A status comes out. A report or a text is put into
- * room of the caller's: `*needed` gets its length in bytes, and where it fits it is at the front of the room, without a zero
- * byte; where it does not fit, the room is unchanged: call again with more. Where there is neither, `*needed` is 0 and the room
- * is unchanged. Texts, ends and room may be null where their length is 0.
+ *     graphql_checked_schema schema = {0};
+ *     graphql_checked_text text = {bytes, length, "schema.graphql"}, document = {other, its_length, "query.graphql"};
+ *     graphql_checked_answer answer;
+ *     graphql_checked_status status = graphql_checked_open(&schema, &text, 1, NULL, &answer);
+ *     if (status == GRAPHQL_CHECKED_ACCEPTED) status = graphql_checked_check(&schema, &document, &answer);
+ *     if (status == GRAPHQL_CHECKED_REFUSED) fwrite(answer.bytes, 1, answer.length, stdout);
+ *     else if (status) fprintf(stderr, "%s\n", graphql_checked_status_text(status));
+ *     graphql_checked_close(&schema);
  *
- * The caller owns all memory that it passes, and may free it after the call; what a handle holds belongs to the library until
- * `graphql_schema_close`. Nothing else outlives a call.
+ * A handle is opened on the texts of a schema, is then asked about one document after another, and is closed. Texts are UTF-8,
+ * with a length, and need no zero byte at the end.
  *
- * What the proofs say holds of callers that keep to this, which nothing checks:
- *   - a pointer that is not null leads to as many bytes, or numbers, as are told, aligned, and no other thread writes them
- *     during the call; lengths are below 2^63;
- *   - `room`, `needed` and a handle overlap neither each other nor the texts and ends;
- *   - a handle begins as { 0 }; what it has is never read, written, copied or freed but by these functions;
- *   - a handle belongs to one thread at a time. A call changes counters inside the schema, without atomic steps and without a
- *     lock, so two calls at once may free what is still used. A lock round each call keeps them apart, also where threads take
- *     turns; that a handle may change threads at all is not proved. Different handles share nothing but `malloc`;
- *   - `malloc`, `realloc` and `free` come from one allocator, which aligns as glibc's does;
- *   - no call from a signal handler, nor from the forked child of a process with threads;
- *   - the stack is as large as is told:
+ * MEMORY. The caller owns what it passes, and may free it after the call: a handle has its own copy of the schema's texts. What a
+ * handle leads to, and each answer, belong to the library. An answer lasts until the next call on its handle.
  *
- * A text needs the more stack the deeper its brackets nest, and no proof bounds how much. `stack` is how many bytes of it the
- * caller has left; 0 stands for 512 KB. A nesting for which that is too little by measure, 64 KB and 1,152 bytes for each
- * bracket, is refused with GRAPHQL_STACK: 398 is the greatest for 512 KB, 500 needs 641,536 bytes. A library without proofs has
- * larger frames: there each bracket counts 2,304 bytes, 0 stands for 960 KB, and 500 needs 1,217,536 bytes.
+ * THREADS. A handle belongs to one thread at a time, until its answer is read. A call on a handle that is in a call already
+ * answers GRAPHQL_CHECKED_BUSY and does nothing, from another thread, from a signal handler, and, for ever, in a child that was
+ * forked meanwhile. Different handles share nothing: for N threads at once take N handles. Otherwise signal handlers call nothing
+ * here, since `malloc` may be under way.
  *
- * The functions that are proved are called `graphql_proved_..`. Those of this header look for null pointers and for handles
- * that are not open, or open already, and call them: c/graphql_checked.c, 100 lines of C that no proof covers. */
+ * STACK. A text needs the more stack the deeper its brackets nest: `graphql_checked_stack` tells how much, by measure. If
+ * the calling thread has less left, the answer is GRAPHQL_CHECKED_STACK.
+ *
+ * PROOF. Where `graphql_checked_proved` answers 1, ACCEPTED is proved to mean that every rule holds, REFUSED that each fault of
+ * the report is so, and the texts that are written are proved to be canonical. It holds of callers for whom each pointer leads
+ * to as many bytes as are told, which no other thread writes during the call; who read, write, copy or free no handle but by
+ * these functions; and whose `malloc`, `realloc` and `free` are of one allocator. No proof covers c/graphql_checked.c, the 250
+ * lines of C between these functions and the proved ones: null pointers, copies of texts, answers, BUSY and the stack. */
 #ifndef GRAPHQL_CHECKED_H
 #define GRAPHQL_CHECKED_H
 
@@ -38,99 +38,111 @@
 extern "C" {
 #endif
 
-/* How a call ended. 0 to 4 are the statuses of the program graphql-checked; 2, wrong words, has no use here. */
-enum {
-    GRAPHQL_ACCEPTED = 0, /* proved: each text is read and every rule holds; or: what was asked for is done */
-    GRAPHQL_REFUSED = 1,  /* proved: each fault of the report is so */
-    GRAPHQL_NOT_UTF8 = 3, /* proved: a text is not UTF-8 */
-    GRAPHQL_MEMORY = 4,   /* memory ran out, and there is no verdict. All is unchanged and may be tried again */
-    GRAPHQL_STACK = 5,    /* the stack is too small for the nesting, by measure */
-    GRAPHQL_NULL = 6,     /* a pointer is null that must not be */
-    GRAPHQL_ENDS = 7,     /* proved: no texts end there: the ends are not in order, or the last is not that of the bytes */
-    GRAPHQL_PREFIX = 8,   /* the prefix has other bytes than spaces and tabs */
-    GRAPHQL_HANDLE = 9    /* the handle is open where it must be empty, or empty where it must be open */
-};
+/* The version of this header. By semantic versioning: before 1.0.0 a new minor number may change anything. */
+#define GRAPHQL_CHECKED_VERSION "0.1.0"
+#define GRAPHQL_CHECKED_VERSION_NUMBER 100 /* 10,000 times the major number, 100 times the minor one, and the patch */
 
-/* A handle: a checked schema, or nothing. It begins as { 0 }. The caller owns this struct; what it leads to is the library's. */
-typedef struct {
-    void *at; /* null where the handle is empty; else not yours */
-} graphql_schema;
-
-/* The version: 10,000 times the major number, 100 times the minor one, and the patch. Takes no memory and cannot fail. */
+/* The version of the library, as GRAPHQL_CHECKED_VERSION_NUMBER. */
 uint32_t graphql_checked_version(void);
 
-/* 1 where the library was proved before it was built; 0 where it was built without proofs, and what is said here to be proved is
- * not. Cannot fail. */
+/* 1 where the library was proved before it was built; 0 where it was built without proofs. */
 uint32_t graphql_checked_proved(void);
 
 /* How the library was made: its version, the commit of its sources, which ends in `+` where they were changed since, and `proved`
- * or `not proved`, as in `0.1.0 (commit 0123456789ab, proved)`. The text ends with a zero byte and lasts as long as the library
- * is loaded. Cannot fail. */
+ * or `not proved`, as in `0.1.0 (commit 0123456789ab, proved)`. Lasts as long as the library is loaded. */
 const char *graphql_checked_build(void);
 
-/* Judges one schema text and a document over it, with at most `nesting` brackets open at once. Tells the verdict alone.
- * Answers ACCEPTED, REFUSED, NOT_UTF8, MEMORY, STACK or NULL. Keeps nothing, whatever the answer, and may be called by several
- * threads at once. */
-uint32_t graphql_check(const uint8_t *schema, size_t schema_length,
-                       const uint8_t *document, size_t document_length,
-                       size_t nesting, size_t stack);
+/* How a call ended. */
+typedef enum {
+    GRAPHQL_CHECKED_ACCEPTED = 0, /* the texts are accepted, or what was asked for is done */
+    GRAPHQL_CHECKED_REFUSED = 1,  /* a text is refused; the answer is the report */
+    GRAPHQL_CHECKED_NOT_UTF8 = 3, /* a text or a path is not UTF-8 */
+    GRAPHQL_CHECKED_MEMORY = 4,   /* memory ran out, and there is no verdict: the same call may be made again */
+    GRAPHQL_CHECKED_STACK = 5,    /* the thread has too little stack for the nesting */
+    GRAPHQL_CHECKED_NULL = 6,     /* a pointer is null that must not be */
+    GRAPHQL_CHECKED_INDENT = 8,   /* the indent has other bytes than spaces and tabs */
+    GRAPHQL_CHECKED_CLOSED = 9,   /* the handle has no schema */
+    GRAPHQL_CHECKED_OPEN = 10,    /* the handle has a schema already */
+    GRAPHQL_CHECKED_BUSY = 11,    /* the handle is in a call */
+    GRAPHQL_CHECKED_OPTIONS = 12  /* the options have a form, or a field, that this library does not know */
+} graphql_checked_status;
 
-/* As `graphql_check`, and where the answer is REFUSED the report is put into the room: the bytes that graphql-checked writes,
- * `refused` and a line for each fault, where the schema is text 1 and the document text 2. After MEMORY the room is unchanged,
- * and so it is after each other answer. `needed` must not be null. */
-uint32_t graphql_report(const uint8_t *schema, size_t schema_length,
-                        const uint8_t *document, size_t document_length,
-                        size_t nesting, size_t stack,
-                        uint8_t *room, size_t room_length, size_t *needed);
+/* The status in words. Lasts as long as the library is loaded. */
+const char *graphql_checked_status_text(graphql_checked_status status);
 
-/* As `graphql_report`, and the report is lines of JSON, as `graphql-report --format json` writes them: an object and a line feed for
- * each fault, in the order of texts and places. An object has `path`, which is "schema" or "document"; `line`, `column`, `end`,
- * `offset` and `length`, null where there is no place; `rule`, `message`, `related`, `hint` and `fields`. Of what is told at a place,
- * and in which words, GUIDE.md says more. Proved is that there is a line for each fault, and that entries with its place, rule and
- * message stand behind the lines; not that a line is its entry. */
-uint32_t graphql_report_json(const uint8_t *schema, size_t schema_length,
-                             const uint8_t *document, size_t document_length,
-                             size_t nesting, size_t stack,
-                             uint8_t *room, size_t room_length, size_t *needed);
+/* A handle: a checked schema, or nothing. It begins as { 0 }. The caller owns the struct; what it leads to is the library's. */
+typedef struct {
+    void *at; /* not yours */
+} graphql_checked_schema;
 
-/* Opens an empty handle on the schema of `count` texts, which are in `texts` one after the other: text i ends before byte
- * ends[i], and the last at `texts_length`. They may be freed after the call: the schema has its own copy.
- * Answers ACCEPTED, and then the handle is open, and holds memory until `graphql_schema_close`. After each other answer it is
- * empty and holds nothing: REFUSED, with the report in the room (texts are numbered from 1), NOT_UTF8, MEMORY (it may be tried
- * again), STACK, NULL, ENDS; but after HANDLE it was open already, and stays so.
- * `nesting` and `stack` hold for each later call on the handle too, so each needs as much stack. */
-uint32_t graphql_schema_open(const uint8_t *texts, size_t texts_length,
-                             const size_t *ends, size_t count,
-                             size_t nesting, size_t stack,
-                             graphql_schema *handle,
-                             uint8_t *room, size_t room_length, size_t *needed);
+/* A text, and the name that reports are to have for it. */
+typedef struct {
+    const char *bytes; /* may be null where the length is 0 */
+    size_t length;     /* in bytes */
+    const char *path;  /* ends with a zero byte; null: "schema" or "document" */
+} graphql_checked_text;
 
-/* Checks a document over the schema of an open handle. Its text has the number after those of the schema's.
- * Answers ACCEPTED, REFUSED with the report in the room, NOT_UTF8, MEMORY, NULL or HANDLE. Whatever the answer, the handle is
- * open as before and its schema is unchanged: after MEMORY the same call may be made again. Nothing of the document is kept. */
-uint32_t graphql_schema_check(graphql_schema *handle,
-                              const uint8_t *document, size_t document_length,
-                              uint8_t *room, size_t room_length, size_t *needed);
+/* A report or a text, which belongs to the handle: it lasts until the next call on it. Behind the last byte is a zero byte. */
+typedef struct {
+    const char *bytes; /* never null */
+    size_t length;     /* in bytes, without the zero byte; 0 where there is no answer */
+} graphql_checked_answer;
 
-/* Puts the canonical text of the schema of an open handle into the room: where `prefix` is null on one line, without a line
- * feed; else in lines, each of which begins with the prefix once for each level, and the last ends with a line feed.
- * Answers ACCEPTED with the text in the room, MEMORY, PREFIX, NULL or HANDLE. The handle is open as before, whatever the
+/* How a schema is opened, and documents over it are checked. */
+typedef struct {
+    size_t size;       /* sizeof(graphql_checked_options) */
+    size_t nesting;    /* how many brackets may be open at once; 0: GRAPHQL_CHECKED_NESTING */
+    size_t stack;      /* bytes of stack that each calling thread has left at least; 0: the thread is asked at each call. It must
+                        * be told where a call runs on a stack that the program made by itself, and none of the thread's */
+    size_t max_faults; /* how many faults a report has at most; 0: all that a check tells, at most 1,000 of the rules */
+    size_t form;       /* GRAPHQL_CHECKED_JSON or GRAPHQL_CHECKED_TEXT */
+} graphql_checked_options;
+
+/* The nesting where the options tell none. Proved, it takes 512 KB of stack; without proofs 960 KB. */
+#define GRAPHQL_CHECKED_NESTING 398
+
+/* A report as lines of JSON, an object and a line feed for each fault, in the order of texts and places: `path`; `line`, `column`,
+ * `end`, `offset` and `length`, null where there is no place; `rule`, `message`, `hint`, which may be null; `related`, other places
+ * with `path`, `line`, `column` and `words`; `fields`, the data of the fault. Lines and columns count from 1, columns in
+ * characters, offsets from 0 in bytes. `rule` is a name of docs/RULES.md, or `SyntaxError` or the like where a text is not read. */
+#define GRAPHQL_CHECKED_JSON 0
+/* A report as the program graphql-checked writes it: `refused`, and a line for each fault, with the number of the text, from 1, the
+ * offset in it, and the message. The texts of the schema come first, then the document. */
+#define GRAPHQL_CHECKED_TEXT 1
+
+/* The options where a call is given none. */
+#define GRAPHQL_CHECKED_DEFAULTS {sizeof(graphql_checked_options), 0, 0, 0, GRAPHQL_CHECKED_JSON}
+
+/* How many bytes of stack a nesting needs, by measure; SIZE_MAX where no stack suffices. */
+size_t graphql_checked_stack(size_t nesting);
+
+/* Opens a handle on the schema of `count` texts. `options` may be null for the defaults, `answer` where no report is wanted.
+ * Answers ACCEPTED, and then the handle has the schema. After each other answer it has none: REFUSED, with the report; NOT_UTF8,
+ * MEMORY, STACK, NULL, OPTIONS; but after OPEN and BUSY it is as before. Close it in each case. */
+graphql_checked_status graphql_checked_open(graphql_checked_schema *schema, const graphql_checked_text *texts, size_t count,
+                                            const graphql_checked_options *options, graphql_checked_answer *answer);
+
+/* Checks a document over the schema. `answer` may be null where no report is wanted.
+ * Answers ACCEPTED; REFUSED with the report; NOT_UTF8, MEMORY, STACK, NULL, CLOSED or BUSY. The schema is as before, whatever the
  * answer. */
-uint32_t graphql_schema_text(graphql_schema *handle,
-                             const uint8_t *prefix, size_t prefix_length,
-                             uint8_t *room, size_t room_length, size_t *needed);
+graphql_checked_status graphql_checked_check(graphql_checked_schema *schema, const graphql_checked_text *document,
+                                             graphql_checked_answer *answer);
 
-/* Checks a document as `graphql_schema_check` does. Answers ACCEPTED with the canonical text of the document in the room, laid
- * out as `graphql_schema_text` does; REFUSED with the report there; NOT_UTF8, MEMORY, PREFIX, NULL or HANDLE. The handle is open
- * as before, whatever the answer. */
-uint32_t graphql_document_text(graphql_schema *handle,
-                               const uint8_t *document, size_t document_length,
-                               const uint8_t *prefix, size_t prefix_length,
-                               uint8_t *room, size_t room_length, size_t *needed);
+/* Writes the canonical text of the schema: where `indent` is null on one line, without a line feed; else in lines, each of which
+ * begins with the indent, of spaces and tabs and a zero byte, once for each level.
+ * Answers ACCEPTED with the text; MEMORY, STACK, INDENT, NULL, CLOSED or BUSY. */
+graphql_checked_status graphql_checked_schema_text(graphql_checked_schema *schema, const char *indent,
+                                                   graphql_checked_answer *answer);
 
-/* Frees the schema, and leaves the handle empty: it may be opened again. Does nothing where `handle` is null or empty. Takes no
- * memory and cannot fail. */
-void graphql_schema_close(graphql_schema *handle);
+/* Checks a document as `graphql_checked_check` does, and where it is accepted writes its canonical text, as
+ * `graphql_checked_schema_text` does the schema's. Answers as both do. */
+graphql_checked_status graphql_checked_document_text(graphql_checked_schema *schema, const graphql_checked_text *document,
+                                                     const char *indent, graphql_checked_answer *answer);
+
+/* Frees the schema and the answer; on a thread of its own where this one has too little stack for that. The handle is { 0 } again,
+ * and may be opened. Answers ACCEPTED, also where there is nothing to free; BUSY, or STACK where no thread is to be had, and then
+ * all is as before. */
+graphql_checked_status graphql_checked_close(graphql_checked_schema *schema);
 
 #ifdef __cplusplus
 }

@@ -136,6 +136,22 @@ def sets_apart(size):
     return counted(texts)(size)
 
 
+def sets_in_halves(size):
+    """As `sets_apart`, but no list that is examined has the fields of all fragments: they are met in two halves."""
+
+    def texts(count):
+        names, half = iter(NAMES), count // 2
+        spread = lambda first, last: " ".join(f"...f{i}" for i in range(first, last))
+        own = ["".join(f"q{{{next(names)}:a}}" for _ in range(count + count // 3)) for _ in range(count)]
+        met = f"x:q{{{spread(0, half)}}} y:q{{{spread(half, count)}}} "
+        spent = "".join(f"spent{i}:q{{...one own{i}:a}}" for i in range(10))
+        sets = "".join(f"sets:q{{...f{i}}}" for i in range(count))
+        fragments = "".join(f"fragment f{i} on Query{{{body}}}" for i, body in enumerate(own))
+        return "type Query{q:Query a:ID}", "{" + met + spent + sets + "}fragment one on Query{" + spread(0, half) + "}" + fragments
+
+    return counted(texts)(size)
+
+
 def tower(size):
     """Inline fragments are in each other, and in each some fields, beside one spread that is repeated; compared in pairs."""
     deep = min(480, size // 10)
@@ -547,6 +563,7 @@ FAMILIES = [
     family(repeat_heavy, 80, 18_500),
     family(pairs, 2_000, 18_300, bound=4.3),
     family(sets_apart, 1_000, bound=4.3),
+    family(sets_in_halves, 1_000, bound=4.3),
     family(tower, 160, 18_800),
     family(lists_heavy, 300),
     family(dag, 4_000),

@@ -2,8 +2,9 @@
 """What is written from docs/rulebook.txt: scripts/rulebook.py [--check] [--write] [--count]
 
 The rulebook has an entry for each variant of the three enums of faults. All that is the list of these variants again is written
-from it: the enums and their `Drop`, the copies, the views, the messages, the names, the maps of places. A part that is written
-stands in a file with other text, and is found by the item in which it stands; no mark in the file says so.
+from it: the enums and their `Drop`, the copies, the views, the messages, the names, the maps of places, why `==` decides what is
+seen. A part that is written stands in a file with other text, and is found by the item in which it stands; no mark in the file
+says so.
 
 --check prints a line for each part that is not what the rulebook makes, with the place where it first differs, and each entry that
 is not well formed; its status is then 1. --write writes the parts. --count prints how many lines of each file are written.
@@ -16,13 +17,14 @@ import sys
 import sources
 from variants import (
     COPIED, DATA, TYPES, alphabet, box_drop_lines, box_lines, clone_lines, conflict, conflict_lines,
-    constructor_lines, copied_lines, document_gap_words, document_view, document_words, drop_by_owned_lines,
+    constructor_lines, copied_lines, decided_lines, document_gap_words, document_view, document_words, drop_by_owned_lines,
     drop_lines, equations, folding_message, folding_words, gap_words, group_lines, letters, message_arms,
     message_text, name_lines, owned, plain_applied, repeat_error_lines, repeat_lines, repeating, short_view,
-    template_lines, unplaced, variant_lines, with_lines,
+    template_lines, unplaced, variant_lines, with_lines, with_trace,
 )
 
 BOOK = "docs/rulebook.txt"
+SAME = "crates/fault_lists/proofs/"
 STAGES = ["folding", "schemas", "typing", "documents", "merging"]
 
 
@@ -182,14 +184,14 @@ def below(head):
 
 
 def item(head):
-    """The item that begins so, with its comment."""
+    """The item that begins so, with its comment and what it derives."""
 
     def find(lines):
         first = at(lines, head)
         if first is None:
             return None
         end = at(lines, "}", first) + 1
-        while lines[first - 1].startswith("///"):
+        while lines[first - 1].startswith(("///", "#[derive")):
             first -= 1
         return first, end
 
@@ -249,6 +251,9 @@ def data_parts(e):
         function = f"is_of_{kind}"
         yield Part(specs + "CopyGroups.antt", function, below(f"abbrev pub {function} "),
                    group_lines(function, e, kind, lambda entry: "true", "false"))
+    numbers = {entry.name: str(number) for number, entry in enumerate(e)}
+    yield Part(SAME + "DataEquality.antt", "number", below("abbrev number "), equations("number", e, "tree.", lambda entry: numbers[entry.name], alphabet))
+    yield Part(SAME + "DataEquality.antt", "data_same", below("pub data_same "), decided_lines("data_same", e, "tree.", with_trace))
     front = "use Rattle.rule_definitions.specs.Diagnostics.{Diagnostic, "
     yield Part(specs + "Messages.antt", "the import", line(front), imported(front, e))
     yield Part(specs + "Messages.antt", "diagnostic_message", below("  abbrev pub diagnostic_message "),
@@ -270,6 +275,10 @@ def document_parts(e):
                constructor_lines(e, "DocumentBreach P", "TypeTree (Unit {0})"))
     yield Part(specs + "DocumentBreachView.antt", "document_breach_of", below("abbrev pub document_breach_of "),
                equations("document_breach_of", e, "rust.", document_view, letters))
+    numbers = {entry.name: str(number) for number, entry in enumerate(e)}
+    yield Part(SAME + "BreachEquality.antt", "number", below("abbrev number "), equations("number", e, "breach.", lambda entry: numbers[entry.name], alphabet))
+    yield Part(SAME + "BreachEquality.antt", "breach_eq-Decides", below("pub breach_eq-Decides "),
+               decided_lines("breach_eq-Decides", e, "breach.", lambda entry, reason: reason))
     front = "use Rattle.fault_document_data.specs.DocumentBreaches.{DocumentBreach, "
     yield Part(specs + "DocumentMessages.antt", "the import", line(front), imported(front, e))
     yield Part(specs + "DocumentMessages.antt", "document_message", below("  abbrev pub document_message "),

@@ -45,6 +45,27 @@ TYPES = {
     "Vec<Node<FragmentSpread>>": trace_type("SpreadTree", "plain_spread"),
 }
 
+# The lemma by which `==` of such data decides whether contracts see the same of them (`Parts` and `DataParts` of fault_lists).
+DECIDES = {
+    "place": "place_decides {0} {1}",
+    "places": "pointwise_decides place_decides {0}.items {1}.items",
+    "Name": "text_decides {0} {1}",
+    "Option<Name>": "names_decide {0} {1}",
+    "String": "bytes_decides (string_bytes {0}) (string_bytes {1})",
+    "&'static str": "bytes_decides {0}.now {1}.now",
+    "OperationType": "operation_type_eq-Decides {0} {1}",
+    "DirectiveLocation": "location_eq-Decides {0} {1}",
+    "Vec<DirectiveLocation>": "pointwise_decides location_eq-Decides {0}.items {1}.items",
+    "Type": "type_eq-Decides {0} {1}",
+    "Node<Type>": "type_eq-Decides (content {0}) (content {1})",
+    "Node<Value>": "value_eq-Decides (content {0}) (content {1})",
+    "SchemaCoordinate": "coordinate_decides {0} {1}",
+    "TypeAttributeCoordinate": "attribute_decides {0} {1}",
+    "Vec<Node<InputValueDefinition>>": "inputs_same {0}.items {1}.items",
+    "Vec<Node<Directive>>": "directives_same {0}.items {1}.items",
+    "Vec<Node<FragmentSpread>>": "spreads_same {0}.items {1}.items",
+}
+
 
 def is_trace(field):
     return field.type.startswith("Vec<Node<")
@@ -230,7 +251,7 @@ def drop_by_owned_lines(enum, entries):
 
 def box_lines(entry):
     """The struct of a variant whose data are in a box."""
-    lines = [f"/// {entry.one('boxed')}", f"pub struct {entry.name} {{"]
+    lines = [f"/// {entry.one('boxed')}", "#[derive(PartialEq, Eq)]", f"pub struct {entry.name} {{"]
     for field in entry.data:
         lines += [f"    /// {field.comment}"] if field.comment else []
         lines.append(f"    pub {field.name}: {field.rust()},")
@@ -557,3 +578,45 @@ def unplaced(entry):
 def group_lines(function, entries, kind, result, otherwise):
     lines = equations(function, of_copies(entries, kind), "rust.", result, lambda e: [field.name for field in e.data])
     return lines + [f"{function} _ = {otherwise}"]
+
+
+# ---- `==` and what contracts see
+
+
+def paired(items, join):
+    """Pairs in pairs: `join` puts one before the others."""
+    return items[0] if len(items) == 1 else join(items[0], paired(items[1:], join))
+
+
+def decided(entry, prefix):
+    """Why `==` of two of a variant decides whether the same is seen of both; of a trace, the places are compared beside it."""
+    if entry.is_boxed:
+        return f"{conflict(entry)}_decides c.value d.value"
+    if not entry.data:
+        return "((λ r. refl), (λ r. refl))"
+    parts = [f"({DECIDES[field.type].format(field.name, other(field.name))})" for field in entry.data]
+    front, through = ("front _ _", "via") if is_trace(entry.data[-1]) else ("pair_decides _ _", "through")
+    both = paired(parts, lambda one, others: f"({front} {one} {others})")
+    if len(parts) == 1:
+        return f"through {both} (ap {prefix}{entry.name}) (λ r. cc)"
+    places = ["s" + ".1" * number + ".0" for number in range(len(parts) - 1)] + ["s" + ".1" * (len(parts) - 1)]
+    back = paired(["cc"] * len(parts), lambda one, others: f"({one}, {others})")
+    return f"{through} {both} (λ s i. {prefix}{entry.name} {' '.join(f'({place} i)' for place in places)}) (λ r. {back})"
+
+
+def other(name):
+    return name + "'"
+
+
+def decided_lines(function, entries, prefix, wrap):
+    """A line for each variant with itself, and one for two variants."""
+    lines = []
+    for entry in entries:
+        ones, others = (["c"], ["d"]) if entry.is_boxed else ([field.name for field in entry.data], [other(field.name) for field in entry.data])
+        lines.append(f"{function} {applied('rust.' + entry.name, ones)} {applied('rust.' + entry.name, others)} = {wrap(entry, decided(entry, prefix))}")
+    return lines + [f"{function} a b = apart a b refl refl"]
+
+
+def with_trace(entry, reason):
+    """What has no trace is compared by `==` alone."""
+    return reason if any(is_trace(field) for field in entry.data) else f"alone ({reason})"

@@ -1,297 +1,320 @@
-/* Wrong calls, and calls whose answers are known: abuse [bytes N | stack | threads | opens N | documents N [SCHEMA [DOCUMENT]]]
+/* Wrong calls, and calls whose answers are known:
+ * abuse [bytes N | stack | small | threads | shared N | fork | signal | opens N | documents N [SCHEMA [DOCUMENT]] | handles N [SCHEMA]]
  *
- * A difference is told with its line, and ends the program with 1. Each text ends where memory ends, and so does the room, so that
- * a byte too far ends the program too. Without a word it compares answers. It is also run by scripts/refused.py --library, which
- * refuses requests for memory: then MEMORY is a right answer, and where one request alone is refused the call is made again and is
- * to give what is wanted. The words:
- *   bytes N        documents cut at each byte, and N with some other bytes: both ways of asking give the same
+ * A difference is told with its line, and ends the program with 1. Each text ends where memory ends, so that a byte too far ends the
+ * program too. Without a word it compares answers. It is also run by scripts/refused.py --library, which refuses requests for
+ * memory: then MEMORY is a right answer, and where one request alone is refused the call is made again and is to give what is
+ * wanted. The words:
+ *   bytes N        documents cut at each byte, and N with some other bytes: all ways of asking give the same
  *   stack          the deepest texts on threads of 512 KB and of 1 MB; without proofs, of 960 KB and 2 MB
+ *   small          threads of 128 KB, which are asked for their stack: too deep a nesting is told, a small one is judged
  *   threads        four threads, each with its own handle
+ *   shared N       four threads with one handle, which ask it N times each: each is answered, or told that it is busy
+ *   fork           children that are forked while another thread is in a call: each ends with an answer
+ *   signal         a signal handler that asks the handle that is asked: it is told that it is busy
  *   opens N        N handles opened and closed: nothing is left of them
  *   documents N    N documents that are accepted over one handle, and N that are refused: nothing is left of them. Tells how much
- *                  processor time each takes. SCHEMA and DOCUMENT are files, in place of small texts */
-#define _DEFAULT_SOURCE
+ *                  processor time each takes. SCHEMA and DOCUMENT are files, in place of small texts
+ *   handles N      N handles on one schema: tells how much memory each takes */
+#define _GNU_SOURCE
 #include "graphql_checked.h"
 
 #include <malloc.h>
 #include <pthread.h>
+#include <signal.h>
 #include <stdio.h>
 #include <stdlib.h>
 #include <string.h>
 #include <sys/mman.h>
+#include <sys/time.h>
+#include <sys/wait.h>
 #include <time.h>
 #include <unistd.h>
 
-enum { SCHEMA, DOCUMENT, PREFIX, ROOM, AREAS, BYTES = 1 << 14, UNTOUCHED = 0xAA };
+enum { SCHEMA, DOCUMENT, INDENT, AREAS, BYTES = 1 << 14 };
 
-static uint8_t *end_of[AREAS]; /* where the memory of each area ends */
-static int memory_is_refused, is_each, told; /* by scripts/refused.py; how often MEMORY was the answer */
-static uint32_t status;
-static size_t needed;
-static int has_room; /* whether the call has the room of its area */
+static char *end_of[AREAS];                   /* where the memory of each area ends */
+static int memory_is_refused, is_each, told;  /* by scripts/refused.py; how often MEMORY was the answer */
+static graphql_checked_status status;
+static graphql_checked_answer answer;
 
 /* Makes the areas: after each is a page that nobody may touch. */
 static void make_areas(void) {
     size_t page = (size_t)sysconf(_SC_PAGESIZE);
     for (int area = 0; area < AREAS; area++) {
-        uint8_t *at = mmap(0, BYTES + page, PROT_READ | PROT_WRITE, MAP_PRIVATE | MAP_ANONYMOUS, -1, 0);
+        char *at = mmap(0, BYTES + page, PROT_READ | PROT_WRITE, MAP_PRIVATE | MAP_ANONYMOUS, -1, 0);
         if (at == MAP_FAILED || mprotect(at + BYTES, page, PROT_NONE)) exit(2);
         end_of[area] = at + BYTES;
     }
 }
 
 /* The bytes, at the end of the area. */
-static const uint8_t *placed(int area, const char *bytes, size_t length) {
-    return memcpy(end_of[area] - length, bytes, length);
-}
-
-/* A room of so many bytes. */
-static uint8_t *room_of(size_t length) {
-    memset(end_of[ROOM] - BYTES, UNTOUCHED, BYTES);
-    needed = 12345;
-    has_room = 1;
-    return end_of[ROOM] - length;
-}
-
-/* The stack that a nesting needs, as the header says. */
-static size_t stack_of(size_t nesting) { return 65536 + nesting * (graphql_checked_proved() ? 1152 : 2304); }
-
-#define TEXT(area, text) placed(area, text, sizeof(text) - 1), sizeof(text) - 1
-#define ROOM_OF(length) room_of(length), length, &needed
+static const char *placed(int area, const char *bytes, size_t length) { return memcpy(end_of[area] - length, bytes, length); }
 
 static void differs(int line, const char *what, unsigned long found, unsigned long wanted) {
     fprintf(stderr, "abuse.c:%d: %s: %lu and not %lu\n", line, what, found, wanted);
     exit(1);
 }
 
-/* Whether the area of the room has this text at the front of so many bytes, and nothing else is touched. */
-static void has(int line, size_t length, const char *text) {
-    const uint8_t *begin = end_of[ROOM] - BYTES, *room = end_of[ROOM] - length;
-    size_t wanted = strlen(text), there = wanted <= length ? wanted : 0;
-    if (needed != wanted) differs(line, "needed", needed, wanted);
-    if (memcmp(room, text, there)) differs(line, "the first byte that is told", room[0], (uint8_t)text[0]);
-    for (const uint8_t *at = begin; at < end_of[ROOM]; at++)
-        if ((at < room || at >= room + there) && *at != UNTOUCHED) differs(line, "a byte that is to be untouched", *at, UNTOUCHED);
+/* A text at the end of its area, under a name. */
+static const graphql_checked_text *text_at(int area, const char *bytes, size_t length, const char *path) {
+    static graphql_checked_text texts[AREAS];
+    texts[area] = (graphql_checked_text){placed(area, bytes, length), length, path};
+    return &texts[area];
+}
+
+#define TEXT(area, text) text_at(area, text, sizeof(text) - 1, 0)
+#define NAMED(area, text, path) text_at(area, text, sizeof(text) - 1, path)
+#define DOC(text) TEXT(DOCUMENT, text)
+#define PREFIX(text) placed(INDENT, text, sizeof(text))
+#define AS_TEXT {sizeof(graphql_checked_options), 100, 0, 0, GRAPHQL_CHECKED_TEXT}
+#define AS_JSON {sizeof(graphql_checked_options), 100, 0, 0, GRAPHQL_CHECKED_JSON}
+static const graphql_checked_options as_text = AS_TEXT, as_json = AS_JSON;
+
+/* Whether the answer is this text, with a zero byte behind it. */
+static void has(int line, const char *text) {
+    size_t wanted = strlen(text);
+    if (!answer.bytes) differs(line, "bytes of the answer", 0, 1);
+    if (answer.length != wanted) fprintf(stderr, "%s", answer.bytes), differs(line, "length", answer.length, wanted);
+    if (memcmp(answer.bytes, text, wanted + 1)) fprintf(stderr, "%s", answer.bytes), differs(line, "the answer", 1, 0);
 }
 
 /* Whether the call is to be made again, since one request for memory was refused. */
 static int is_again(int line) {
-    if (status != GRAPHQL_MEMORY || !memory_is_refused) return 0;
-    if (has_room) has(line, 0, "");
+    if (status != GRAPHQL_CHECKED_MEMORY || !memory_is_refused) return 0;
+    has(line, "");
     told++;
     return !is_each;
 }
 
-/* Whether the status is the one that is wanted; else memory is refused. Where nothing is told, the room is untouched. */
-static int is(int line, uint32_t wanted, uint32_t found) {
-    int is_told = found == GRAPHQL_ACCEPTED || found == GRAPHQL_REFUSED;
-    if (found != wanted && !(found == GRAPHQL_MEMORY && is_each)) differs(line, "status", found, wanted);
-    if (has_room && !is_told) has(line, 0, "");
-    has_room = 0;
-    return found == wanted;
+/* Whether the status is the one that is wanted; else memory is refused. */
+static int is(int line, graphql_checked_status wanted) {
+    if (status != wanted && !(status == GRAPHQL_CHECKED_MEMORY && is_each)) differs(line, graphql_checked_status_text(status), status, wanted);
+    if (status != GRAPHQL_CHECKED_ACCEPTED && status != GRAPHQL_CHECKED_REFUSED) has(line, "");
+    return status == wanted;
 }
 
-#define ASK(wanted, call) is(__LINE__, wanted, (status = (call), is_again(__LINE__)) ? (call) : status)
-#define TELLS(wanted, length, text, call) (ASK(wanted, call) ? has(__LINE__, length, text) : (void)0)
+#define ASK(wanted, call) (answer = (graphql_checked_answer){"", 0}, status = (call), is_again(__LINE__) ? (void)(status = (call)) : (void)0, is(__LINE__, wanted))
+#define TELLS(wanted, text, call) (ASK(wanted, call) ? has(__LINE__, text) : (void)0)
 #define A_FIELD TEXT(SCHEMA, "type Query { a: Int }")
-#define MISSING TEXT(DOCUMENT, "{ missing }")
 #define REPORT "refused\n2:2: `Query` has no field `missing`\n"
-#define JSON                                                                                                              \
-    "{\"path\":\"document\",\"line\":1,\"column\":3,\"end\":{\"line\":1,\"column\":10},\"offset\":2,\"length\":7," \
-    "\"rule\":\"UndefinedField\",\"message\":\"`Query` has no field `missing`\",\"related\":[],\"hint\":null,"         \
+#define JSON_AT(path)                                                                                             \
+    "{\"path\":\"" path "\",\"line\":1,\"column\":3,\"end\":{\"line\":1,\"column\":10},\"offset\":2,\"length\":7," \
+    "\"rule\":\"UndefinedField\",\"message\":\"`Query` has no field `missing`\",\"related\":[],\"hint\":null,"     \
     "\"fields\":{\"type_name\":\"Query\",\"field_name\":\"missing\"}}\n"
 
-/* One schema text and a document. */
-static void by_value(void) {
-    ASK(GRAPHQL_ACCEPTED, graphql_check(A_FIELD, TEXT(DOCUMENT, "{ a }"), 100, 0));
-    ASK(GRAPHQL_REFUSED, graphql_check(A_FIELD, MISSING, 100, 0));
-    ASK(GRAPHQL_NOT_UTF8, graphql_check(A_FIELD, TEXT(DOCUMENT, "\xff"), 100, 0));
-    ASK(GRAPHQL_NOT_UTF8, graphql_check(TEXT(SCHEMA, "\xc3"), TEXT(DOCUMENT, "{ a }"), 100, 0));
-    ASK(GRAPHQL_REFUSED, graphql_check(0, 0, 0, 0, 100, 0));
-    ASK(GRAPHQL_REFUSED, graphql_check(A_FIELD, TEXT(DOCUMENT, "{ a \0 }"), 100, 0));
-    ASK(GRAPHQL_NULL, graphql_check(0, 1, TEXT(DOCUMENT, "{ a }"), 100, 0));
-    ASK(GRAPHQL_NULL, graphql_check(A_FIELD, 0, SIZE_MAX, 100, 0));
+/* What is no opening. Each leaves the handle without a schema. */
+static void not_opened(graphql_checked_schema *schema) {
+    static const graphql_checked_text no_bytes = {0, 1, 0}, nothing = {0, 0, 0}, huge[] = {{"", PTRDIFF_MAX, 0}, {"", PTRDIFF_MAX, 0}, {"", 2, 0}};
+    struct { graphql_checked_options known; size_t more; } later = {AS_JSON, 1};
+    graphql_checked_options other = AS_JSON;
+    ASK(GRAPHQL_CHECKED_NULL, graphql_checked_open(0, A_FIELD, 1, 0, &answer));
+    ASK(GRAPHQL_CHECKED_NULL, graphql_checked_open(schema, 0, 1, 0, &answer));
+    ASK(GRAPHQL_CHECKED_NULL, graphql_checked_open(schema, &no_bytes, 1, 0, &answer));
+    if (!memory_is_refused) ASK(GRAPHQL_CHECKED_MEMORY, graphql_checked_open(schema, huge, 3, 0, &answer));
+    ASK(GRAPHQL_CHECKED_REFUSED, graphql_checked_open(schema, 0, 0, 0, &answer));
+    ASK(GRAPHQL_CHECKED_REFUSED, graphql_checked_open(schema, &nothing, 1, 0, &answer));
+    ASK(GRAPHQL_CHECKED_NOT_UTF8, graphql_checked_open(schema, TEXT(SCHEMA, "# \xc3"), 1, 0, &answer));
+    ASK(GRAPHQL_CHECKED_NOT_UTF8, graphql_checked_open(schema, NAMED(SCHEMA, "type Query { a: Int }", "\xff"), 1, 0, &answer));
+    /* options */
+    other.form = 2;
+    ASK(GRAPHQL_CHECKED_OPTIONS, graphql_checked_open(schema, A_FIELD, 1, &other, &answer));
+    other.form = 0, other.size = 1;
+    ASK(GRAPHQL_CHECKED_OPTIONS, graphql_checked_open(schema, A_FIELD, 1, &other, &answer));
+    later.known.size = sizeof later;
+    ASK(GRAPHQL_CHECKED_OPTIONS, graphql_checked_open(schema, A_FIELD, 1, &later.known, &answer));
     /* nesting and stack */
-    ASK(GRAPHQL_ACCEPTED, graphql_check(A_FIELD, TEXT(DOCUMENT, "{ a }"), 1, 0));
-    ASK(GRAPHQL_REFUSED, graphql_check(A_FIELD, TEXT(DOCUMENT, "{ a }"), 0, 0));
-    ASK(GRAPHQL_ACCEPTED, graphql_check(A_FIELD, TEXT(DOCUMENT, "{ a }"), 398, 0));
-    ASK(GRAPHQL_STACK, graphql_check(A_FIELD, TEXT(DOCUMENT, "{ a }"), 399, 0));
-    ASK(GRAPHQL_STACK, graphql_check(A_FIELD, TEXT(DOCUMENT, "{ a }"), 1, 1));
-    ASK(GRAPHQL_STACK, graphql_check(A_FIELD, TEXT(DOCUMENT, "{ a }"), 500, stack_of(500) - 1));
-    ASK(GRAPHQL_ACCEPTED, graphql_check(A_FIELD, TEXT(DOCUMENT, "{ a }"), 500, stack_of(500)));
-    ASK(GRAPHQL_STACK, graphql_check(A_FIELD, TEXT(DOCUMENT, "{ a }"), SIZE_MAX, SIZE_MAX));
-    /* rooms of each length */
-    for (size_t length = 0; length <= sizeof REPORT; length++)
-        TELLS(GRAPHQL_REFUSED, length, REPORT, graphql_report(A_FIELD, MISSING, 100, 0, ROOM_OF(length)));
-    TELLS(GRAPHQL_ACCEPTED, 64, "", graphql_report(A_FIELD, TEXT(DOCUMENT, "{ a }"), 100, 0, ROOM_OF(64)));
-    ASK(GRAPHQL_NOT_UTF8, graphql_report(A_FIELD, TEXT(DOCUMENT, "{ a \xed\xa0\x80 }"), 100, 0, ROOM_OF(64)));
-    ASK(GRAPHQL_STACK, graphql_report(A_FIELD, MISSING, 399, 0, ROOM_OF(64)));
-    ASK(GRAPHQL_REFUSED, graphql_report(A_FIELD, MISSING, 100, 0, 0, 0, &needed));
-    if (!is_each && needed != strlen(REPORT)) differs(__LINE__, "needed", needed, strlen(REPORT));
-    ASK(GRAPHQL_NULL, graphql_report(A_FIELD, MISSING, 100, 0, 0, 1, &needed));
-    ASK(GRAPHQL_NULL, graphql_report(A_FIELD, MISSING, 100, 0, end_of[ROOM] - 64, 64, 0));
-    ASK(GRAPHQL_NULL, graphql_report(0, 1, MISSING, 100, 0, ROOM_OF(64)));
-    ASK(GRAPHQL_NULL, graphql_report(A_FIELD, 0, 1, 100, 0, ROOM_OF(64)));
+    other = as_json, other.nesting = 500, other.stack = graphql_checked_stack(500) - 1;
+    ASK(GRAPHQL_CHECKED_STACK, graphql_checked_open(schema, A_FIELD, 1, &other, &answer));
+    other.nesting = SIZE_MAX, other.stack = SIZE_MAX;
+    ASK(GRAPHQL_CHECKED_STACK, graphql_checked_open(schema, A_FIELD, 1, &other, &answer));
+    other.nesting = (size_t)1 << 40, other.stack = 0;
+    ASK(GRAPHQL_CHECKED_STACK, graphql_checked_open(schema, A_FIELD, 1, &other, &answer));
+    /* reports: texts under their names and numbers */
+    graphql_checked_text two[] = {{"type Query { a: Int }", 21, "one"}, {"extend type Query { b: Missing }", 32, "two"}};
+    TELLS(GRAPHQL_CHECKED_REFUSED, "refused\n2:23: cannot find type `Missing` in this document\n", graphql_checked_open(schema, two, 2, &as_text, &answer));
+    TELLS(GRAPHQL_CHECKED_REFUSED,
+          "{\"path\":\"two\",\"line\":1,\"column\":24,\"end\":{\"line\":1,\"column\":31},\"offset\":23,\"length\":7,\"rule\":\"UndefinedDefinition\","
+          "\"message\":\"cannot find type `Missing` in this document\",\"related\":[],\"hint\":null,\"fields\":{\"name\":\"Missing\"}}\n",
+          graphql_checked_open(schema, two, 2, &as_json, &answer));
+    ASK(GRAPHQL_CHECKED_REFUSED, graphql_checked_open(schema, two, 2, &as_json, 0));
+    two[0].length = two[1].length = 0;
+    TELLS(GRAPHQL_CHECKED_REFUSED, "refused\n1:0: unexpected end of text\n2:0: unexpected end of text\n", graphql_checked_open(schema, two, 2, &as_text, &answer));
+    ASK(GRAPHQL_CHECKED_CLOSED, graphql_checked_check(schema, DOC("{ a }"), &answer));
 }
 
-/* The same, told as lines of JSON. */
-static void as_json(void) {
-    for (size_t length = 0; length <= sizeof JSON; length += length < 8 ? 1 : sizeof JSON / 8)
-        TELLS(GRAPHQL_REFUSED, length, JSON, graphql_report_json(A_FIELD, MISSING, 100, 0, ROOM_OF(length)));
-    TELLS(GRAPHQL_REFUSED, strlen(JSON), JSON, graphql_report_json(A_FIELD, MISSING, 100, 0, ROOM_OF(strlen(JSON))));
-    TELLS(GRAPHQL_REFUSED, strlen(JSON) - 1, JSON, graphql_report_json(A_FIELD, MISSING, 100, 0, ROOM_OF(strlen(JSON) - 1)));
-    TELLS(GRAPHQL_ACCEPTED, 64, "", graphql_report_json(A_FIELD, TEXT(DOCUMENT, "{ a }"), 100, 0, ROOM_OF(64)));
-    ASK(GRAPHQL_REFUSED, graphql_report_json(0, 0, 0, 0, 100, 0, ROOM_OF(999)));
-    ASK(GRAPHQL_NOT_UTF8, graphql_report_json(A_FIELD, TEXT(DOCUMENT, "{ a \xed\xa0\x80 }"), 100, 0, ROOM_OF(64)));
-    ASK(GRAPHQL_NOT_UTF8, graphql_report_json(TEXT(SCHEMA, "\xc3"), MISSING, 100, 0, ROOM_OF(64)));
-    ASK(GRAPHQL_STACK, graphql_report_json(A_FIELD, MISSING, 399, 0, ROOM_OF(64)));
-    ASK(GRAPHQL_REFUSED, graphql_report_json(A_FIELD, MISSING, 100, 0, 0, 0, &needed));
-    if (!is_each && needed != strlen(JSON)) differs(__LINE__, "needed", needed, strlen(JSON));
-    ASK(GRAPHQL_NULL, graphql_report_json(A_FIELD, MISSING, 100, 0, 0, 1, &needed));
-    ASK(GRAPHQL_NULL, graphql_report_json(A_FIELD, MISSING, 100, 0, end_of[ROOM] - 64, 64, 0));
-    ASK(GRAPHQL_NULL, graphql_report_json(0, 1, MISSING, 100, 0, ROOM_OF(64)));
-    ASK(GRAPHQL_NULL, graphql_report_json(A_FIELD, 0, SIZE_MAX, 100, 0, ROOM_OF(64)));
+#define TWO "type Query { a: Int }", "extend type Query { b: Int }"
+#define BOTH "type Query { a: Int } extend type Query { b: Int }"
+
+/* Opens a handle on two texts. */
+static int opens_two(graphql_checked_schema *schema, const graphql_checked_options *options) {
+    static const char *const texts[] = {TWO};
+    graphql_checked_text two[] = {{texts[0], strlen(texts[0]), "one"}, {texts[1], strlen(texts[1]), 0}};
+    return ASK(GRAPHQL_CHECKED_ACCEPTED, graphql_checked_open(schema, two, 2, options, &answer));
 }
 
-#define TWO TEXT(SCHEMA, "type Query { a: Int }extend type Query { b: Int }")
-#define LENGTH 49
-
-/* What is no opening. Each leaves the handle empty. */
-static void not_opened(graphql_schema *schema) {
-    static const size_t ends[] = {21, LENGTH}, back[] = {30, 21}, over[] = {21, LENGTH + 1}, under[] = {21, 40};
-    static const size_t huge[] = {SIZE_MAX, LENGTH}, cut[] = {3};
-    ASK(GRAPHQL_ENDS, graphql_schema_open(TWO, back, 2, 100, 0, schema, ROOM_OF(99)));
-    ASK(GRAPHQL_ENDS, graphql_schema_open(TWO, over, 2, 100, 0, schema, ROOM_OF(99)));
-    ASK(GRAPHQL_ENDS, graphql_schema_open(TWO, under, 2, 100, 0, schema, ROOM_OF(99)));
-    ASK(GRAPHQL_ENDS, graphql_schema_open(TWO, huge, 2, 100, 0, schema, ROOM_OF(99)));
-    ASK(GRAPHQL_ENDS, graphql_schema_open(TWO, 0, 0, 100, 0, schema, ROOM_OF(99)));
-    ASK(GRAPHQL_NULL, graphql_schema_open(TWO, 0, 2, 100, 0, schema, ROOM_OF(99)));
-    ASK(GRAPHQL_NULL, graphql_schema_open(0, LENGTH, ends, 2, 100, 0, schema, ROOM_OF(99)));
-    ASK(GRAPHQL_NULL, graphql_schema_open(TWO, ends, 2, 100, 0, 0, ROOM_OF(99)));
-    ASK(GRAPHQL_NULL, graphql_schema_open(TWO, ends, 2, 100, 0, schema, 0, 1, &needed));
-    ASK(GRAPHQL_NULL, graphql_schema_open(TWO, ends, 2, 100, 0, schema, end_of[ROOM] - 9, 9, 0));
-    ASK(GRAPHQL_STACK, graphql_schema_open(TWO, ends, 2, 399, 0, schema, ROOM_OF(99)));
-    ASK(GRAPHQL_NOT_UTF8, graphql_schema_open(TEXT(SCHEMA, "# \xc3\xa9"), (size_t[]){3, 4}, 2, 100, 0, schema, ROOM_OF(99)));
-    ASK(GRAPHQL_ENDS, graphql_schema_open(TEXT(SCHEMA, "# \xc3\xa9"), cut, 1, 100, 0, schema, ROOM_OF(99)));
-    ASK(GRAPHQL_REFUSED, graphql_schema_open(0, 0, 0, 0, 100, 0, schema, ROOM_OF(999)));
-    TELLS(GRAPHQL_REFUSED, 99, "refused\n1:16: cannot find type `Missing` in this document\n",
-          graphql_schema_open(TEXT(SCHEMA, "type Query { a: Missing }"), (size_t[]){25}, 1, 100, 0, schema, ROOM_OF(99)));
-    TELLS(GRAPHQL_REFUSED, 99, "refused\n1:0: unexpected end of text\n3:0: unexpected end of text\n",
-          graphql_schema_open(TEXT(SCHEMA, "type Query { a: Int }"), (size_t[]){0, 21, 21}, 3, 100, 0, schema, ROOM_OF(99)));
-    if (schema->at) differs(__LINE__, "a handle that is to be empty", 1, 0);
-}
-
-/* What is asked of an open handle. */
-static void asked(graphql_schema *schema) {
-    ASK(GRAPHQL_ACCEPTED, graphql_schema_check(schema, TEXT(DOCUMENT, "{ a b }"), ROOM_OF(99)));
-    TELLS(GRAPHQL_REFUSED, 99, "refused\n3:2: `Query` has no field `c`\n", graphql_schema_check(schema, TEXT(DOCUMENT, "{ c }"), ROOM_OF(99)));
-    TELLS(GRAPHQL_REFUSED, 9, "refused\n3:2: `Query` has no field `c`\n", graphql_schema_check(schema, TEXT(DOCUMENT, "{ c }"), ROOM_OF(9)));
-    ASK(GRAPHQL_NOT_UTF8, graphql_schema_check(schema, TEXT(DOCUMENT, "{ a \xff }"), ROOM_OF(99)));
-    ASK(GRAPHQL_REFUSED, graphql_schema_check(schema, 0, 0, ROOM_OF(99)));
-    ASK(GRAPHQL_NULL, graphql_schema_check(schema, 0, 1, ROOM_OF(99)));
-    ASK(GRAPHQL_NULL, graphql_schema_check(schema, TEXT(DOCUMENT, "{ a }"), 0, 1, &needed));
-    ASK(GRAPHQL_NULL, graphql_schema_check(schema, TEXT(DOCUMENT, "{ a }"), 0, 0, 0));
-    ASK(GRAPHQL_NULL, graphql_schema_check(0, TEXT(DOCUMENT, "{ a }"), ROOM_OF(99)));
-    ASK(GRAPHQL_HANDLE, graphql_schema_open(TWO, (size_t[]){21, LENGTH}, 2, 100, 0, schema, ROOM_OF(99)));
+/* What is asked of an open handle, whatever the form of reports. */
+static void asked(graphql_checked_schema *schema) {
+    static const graphql_checked_text no_bytes = {0, 1, 0}, nothing = {0, 0, 0};
+    TELLS(GRAPHQL_CHECKED_ACCEPTED, "", graphql_checked_check(schema, DOC("{ a b }"), &answer));
+    ASK(GRAPHQL_CHECKED_REFUSED, graphql_checked_check(schema, DOC("{ c }"), 0));
+    ASK(GRAPHQL_CHECKED_REFUSED, graphql_checked_check(schema, DOC("{ a \0 }"), &answer));
+    ASK(GRAPHQL_CHECKED_NOT_UTF8, graphql_checked_check(schema, DOC("{ a \xff }"), &answer));
+    ASK(GRAPHQL_CHECKED_NOT_UTF8, graphql_checked_check(schema, DOC("{ a \xed\xa0\x80 }"), &answer));
+    ASK(GRAPHQL_CHECKED_NOT_UTF8, graphql_checked_check(schema, NAMED(DOCUMENT, "{ a }", "\xc3"), &answer));
+    ASK(GRAPHQL_CHECKED_REFUSED, graphql_checked_check(schema, &nothing, &answer));
+    ASK(GRAPHQL_CHECKED_NULL, graphql_checked_check(schema, 0, &answer));
+    ASK(GRAPHQL_CHECKED_NULL, graphql_checked_check(schema, &no_bytes, &answer));
+    ASK(GRAPHQL_CHECKED_NULL, graphql_checked_check(0, DOC("{ a }"), &answer));
+    ASK(GRAPHQL_CHECKED_OPEN, graphql_checked_open(schema, A_FIELD, 1, 0, &answer));
     /* canonical texts */
-    TELLS(GRAPHQL_ACCEPTED, 99, "type Query { a: Int } extend type Query { b: Int }", graphql_schema_text(schema, 0, 0, ROOM_OF(99)));
-    TELLS(GRAPHQL_ACCEPTED, 9, "type Query { a: Int } extend type Query { b: Int }", graphql_schema_text(schema, 0, 0, ROOM_OF(9)));
-    TELLS(GRAPHQL_ACCEPTED, 99, "type Query {\n a: Int\n}\n\nextend type Query {\n b: Int\n}\n", graphql_schema_text(schema, TEXT(PREFIX, " "), ROOM_OF(99)));
-    ASK(GRAPHQL_PREFIX, graphql_schema_text(schema, TEXT(PREFIX, "- "), ROOM_OF(99)));
-    ASK(GRAPHQL_PREFIX, graphql_schema_text(schema, TEXT(PREFIX, " \n"), ROOM_OF(99)));
-    ASK(GRAPHQL_NULL, graphql_schema_text(schema, 0, 1, ROOM_OF(99)));
-    TELLS(GRAPHQL_ACCEPTED, 99, "{ b a }", graphql_document_text(schema, TEXT(DOCUMENT, "{b,a}"), 0, 0, ROOM_OF(99)));
-    TELLS(GRAPHQL_ACCEPTED, 99, "{\n\tb\n\ta\n}\n", graphql_document_text(schema, TEXT(DOCUMENT, "{b a}"), TEXT(PREFIX, "\t"), ROOM_OF(99)));
-    TELLS(GRAPHQL_ACCEPTED, 99, "{\na\n}\n", graphql_document_text(schema, TEXT(DOCUMENT, "{a}"), TEXT(PREFIX, ""), ROOM_OF(99)));
-    TELLS(GRAPHQL_REFUSED, 99, "refused\n3:2: `Query` has no field `c`\n", graphql_document_text(schema, TEXT(DOCUMENT, "{ c }"), TEXT(PREFIX, " "), ROOM_OF(99)));
-    ASK(GRAPHQL_NOT_UTF8, graphql_document_text(schema, TEXT(DOCUMENT, "\xff"), TEXT(PREFIX, " "), ROOM_OF(99)));
-    ASK(GRAPHQL_PREFIX, graphql_document_text(schema, TEXT(DOCUMENT, "{a}"), TEXT(PREFIX, "\xff"), ROOM_OF(99)));
-    ASK(GRAPHQL_NULL, graphql_document_text(schema, 0, 1, TEXT(PREFIX, " "), ROOM_OF(99)));
+    TELLS(GRAPHQL_CHECKED_ACCEPTED, BOTH, graphql_checked_schema_text(schema, 0, &answer));
+    TELLS(GRAPHQL_CHECKED_ACCEPTED, "type Query {\n a: Int\n}\n\nextend type Query {\n b: Int\n}\n", graphql_checked_schema_text(schema, PREFIX(" "), &answer));
+    ASK(GRAPHQL_CHECKED_INDENT, graphql_checked_schema_text(schema, PREFIX("- "), &answer));
+    ASK(GRAPHQL_CHECKED_INDENT, graphql_checked_schema_text(schema, PREFIX(" \n"), &answer));
+    ASK(GRAPHQL_CHECKED_NULL, graphql_checked_schema_text(0, 0, &answer));
+    TELLS(GRAPHQL_CHECKED_ACCEPTED, "{ b a }", graphql_checked_document_text(schema, DOC("{b,a}"), 0, &answer));
+    TELLS(GRAPHQL_CHECKED_ACCEPTED, "{\n\tb\n\ta\n}\n", graphql_checked_document_text(schema, DOC("{b a}"), PREFIX("\t"), &answer));
+    TELLS(GRAPHQL_CHECKED_ACCEPTED, "{\na\n}\n", graphql_checked_document_text(schema, DOC("{a}"), PREFIX(""), &answer));
+    ASK(GRAPHQL_CHECKED_NOT_UTF8, graphql_checked_document_text(schema, DOC("\xff"), PREFIX(" "), &answer));
+    ASK(GRAPHQL_CHECKED_INDENT, graphql_checked_document_text(schema, DOC("{a}"), PREFIX("\xff"), &answer));
+    ASK(GRAPHQL_CHECKED_NULL, graphql_checked_document_text(schema, 0, PREFIX(" "), &answer));
+    ASK(GRAPHQL_CHECKED_NULL, graphql_checked_document_text(schema, &no_bytes, PREFIX(" "), &answer));
+}
+
+/* The reports of an open handle. */
+static void told_as_text(graphql_checked_schema *schema) {
+    TELLS(GRAPHQL_CHECKED_REFUSED, "refused\n3:2: `Query` has no field `c`\n", graphql_checked_check(schema, DOC("{ c }"), &answer));
+    TELLS(GRAPHQL_CHECKED_REFUSED, "refused\n3:2: `Query` has no field `c`\n", graphql_checked_document_text(schema, DOC("{ c }"), PREFIX(" "), &answer));
+}
+
+static void told_as_json(graphql_checked_schema *schema) {
+    TELLS(GRAPHQL_CHECKED_REFUSED, JSON_AT("document"), graphql_checked_check(schema, DOC("{ missing }"), &answer));
+    TELLS(GRAPHQL_CHECKED_REFUSED, JSON_AT("q.graphql"), graphql_checked_check(schema, NAMED(DOCUMENT, "{ missing }", "q.graphql"), &answer));
+    TELLS(GRAPHQL_CHECKED_REFUSED, JSON_AT("q.graphql"), graphql_checked_document_text(schema, NAMED(DOCUMENT, "{ missing }", "q.graphql"), 0, &answer));
+    /* a place in the schema's text, which this program has freed since */
+    ASK(GRAPHQL_CHECKED_REFUSED, graphql_checked_check(schema, DOC("{ b(x: 1) }"), &answer));
+    const char *place = "\"related\":[{\"path\":\"schema\",\"line\":1,\"column\":21,\"words\":\"the definition\"}]";
+    if (status == GRAPHQL_CHECKED_REFUSED && !strstr(answer.bytes, place)) fprintf(stderr, "%s", answer.bytes), differs(__LINE__, "place in the schema", 0, 1);
 }
 
 /* Handles that are opened, asked and closed, two at a time. */
 static void by_handle(void) {
-    graphql_schema schema = {0}, other = {0};
-    ASK(GRAPHQL_HANDLE, graphql_schema_check(&schema, TEXT(DOCUMENT, "{ a }"), ROOM_OF(99)));
-    ASK(GRAPHQL_HANDLE, graphql_schema_text(&schema, 0, 0, ROOM_OF(99)));
-    ASK(GRAPHQL_HANDLE, graphql_document_text(&schema, TEXT(DOCUMENT, "{ a }"), 0, 0, ROOM_OF(99)));
-    graphql_schema_close(&schema);
-    graphql_schema_close(0);
+    graphql_checked_schema schema = {0}, other = {0};
+    ASK(GRAPHQL_CHECKED_CLOSED, graphql_checked_check(&schema, DOC("{ a }"), &answer));
+    ASK(GRAPHQL_CHECKED_CLOSED, graphql_checked_schema_text(&schema, 0, &answer));
+    ASK(GRAPHQL_CHECKED_CLOSED, graphql_checked_document_text(&schema, DOC("{ a }"), 0, &answer));
+    ASK(GRAPHQL_CHECKED_ACCEPTED, graphql_checked_close(&schema));
+    ASK(GRAPHQL_CHECKED_ACCEPTED, graphql_checked_close(0));
     for (int round = 0; round < 2; round++) {
         not_opened(&schema);
-        if (!ASK(GRAPHQL_ACCEPTED, graphql_schema_open(TWO, (size_t[]){21, LENGTH}, 2, 100, 0, &schema, ROOM_OF(99)))) continue;
-        int is_other = ASK(GRAPHQL_ACCEPTED, graphql_schema_open(TEXT(SCHEMA, "type Query { c: Int }"), (size_t[]){21}, 1, 100, 0, &other, ROOM_OF(99)));
+        if (!opens_two(&schema, round ? 0 : &as_text)) continue;
+        int is_other = ASK(GRAPHQL_CHECKED_ACCEPTED, graphql_checked_open(&other, TEXT(SCHEMA, "type Query { c: Int }"), 1, 0, &answer));
         void *at = schema.at;
         asked(&schema);
-        if (is_other) ASK(GRAPHQL_ACCEPTED, graphql_schema_check(&other, TEXT(DOCUMENT, "{ c }"), ROOM_OF(99)));
-        graphql_schema_close(&other);
+        if (is_other) ASK(GRAPHQL_CHECKED_ACCEPTED, graphql_checked_check(&other, DOC("{ c }"), &answer));
+        graphql_checked_close(&other);
         asked(&schema);
+        round ? told_as_json(&schema) : told_as_text(&schema);
         if (schema.at != at) differs(__LINE__, "a handle that is to be unchanged", 1, 0);
-        graphql_schema_close(&schema);
+        ASK(GRAPHQL_CHECKED_ACCEPTED, graphql_checked_close(&schema));
         if (schema.at) differs(__LINE__, "a handle that is to be empty", 1, 0);
-        graphql_schema_close(&schema);
-        ASK(GRAPHQL_HANDLE, graphql_schema_check(&schema, TEXT(DOCUMENT, "{ a }"), ROOM_OF(99)));
+        ASK(GRAPHQL_CHECKED_ACCEPTED, graphql_checked_close(&schema));
+        ASK(GRAPHQL_CHECKED_CLOSED, graphql_checked_check(&schema, DOC("{ a }"), &answer));
     }
+}
+
+/* How many lines the answer has. */
+static size_t lines_of(void) {
+    size_t lines = 0;
+    for (size_t i = 0; i < answer.length; i++) lines += answer.bytes[i] == '\n';
+    return lines;
+}
+
+/* Options, one by one, and reports of many faults. */
+static void options(void) {
+    static char many[8000] = "{";
+    for (int i = 0; i < 300; i++) sprintf(many + strlen(many), " f%d", i);
+    strcat(many, " }");
+    graphql_checked_text document = {many, strlen(many), 0};
+    for (size_t form = 0; form < 2; form++)
+        for (size_t most = 0; most < 400; most += most < 3 ? 1 : 190) {
+            graphql_checked_schema schema = {0};
+            graphql_checked_options given = {sizeof given, 500, graphql_checked_stack(500), most, form};
+            if (!ASK(GRAPHQL_CHECKED_ACCEPTED, graphql_checked_open(&schema, A_FIELD, 1, &given, &answer))) continue;
+            if (ASK(GRAPHQL_CHECKED_REFUSED, graphql_checked_check(&schema, &document, &answer))) {
+                size_t wanted = (most && most < 300 ? most : 300) + (form == GRAPHQL_CHECKED_TEXT);
+                if (lines_of() != wanted || answer.bytes[answer.length - 1] != '\n' || answer.bytes[answer.length]) differs(__LINE__, "lines", lines_of(), wanted);
+            }
+            ASK(GRAPHQL_CHECKED_ACCEPTED, graphql_checked_close(&schema));
+        }
+    /* a nesting */
+    graphql_checked_schema schema = {0};
+    graphql_checked_options given = {offsetof(graphql_checked_options, stack), 1, 0, 0, 0};
+    if (ASK(GRAPHQL_CHECKED_ACCEPTED, graphql_checked_open(&schema, A_FIELD, 1, &given, &answer))) {
+        ASK(GRAPHQL_CHECKED_ACCEPTED, graphql_checked_check(&schema, DOC("{ a }"), &answer));
+        ASK(GRAPHQL_CHECKED_REFUSED, graphql_checked_check(&schema, DOC("{ a { b } }"), &answer));
+    }
+    ASK(GRAPHQL_CHECKED_ACCEPTED, graphql_checked_close(&schema));
+    if (graphql_checked_version() != GRAPHQL_CHECKED_VERSION_NUMBER) differs(__LINE__, "version", graphql_checked_version(), GRAPHQL_CHECKED_VERSION_NUMBER);
+    for (int i = 0; i < 13; i++)
+        if (i != 2 && i != 7 && !strcmp(graphql_checked_status_text((graphql_checked_status)i), "no status")) differs(__LINE__, "a status without words", (unsigned long)i, 0);
 }
 
 static const char SMALL[] = "type Query { a(b: In, c: [Int!]): Query d: U e: E } input In { f: ID g: In } union U = Query enum E { H }";
 static const char LONG[] = "query Q($v: In = { f: \"\xc3\xa9\" }) { a(b: $v, c: [1, 2]) @skip(if: false) { ...F } } fragment F on Query "
                            "{ k: a { e } d { ... on Query { a(b: { f: 3, g: null }) { __typename } } } } # \xe2\x82\xac";
 
-/* Whether so many bytes are lines, each an object. */
-static int are_objects(const uint8_t *at, const uint8_t *end) {
+/* Whether the answer is lines, each an object, or nothing. */
+static int are_objects(void) {
+    const char *at = answer.bytes, *end = at + answer.length;
     while (at < end) {
-        const uint8_t *feed = memchr(at, '\n', (size_t)(end - at));
+        const char *feed = memchr(at, '\n', (size_t)(end - at));
         if (!feed || feed - at < 9 || memcmp(at, "{\"path\":\"", 9) || feed[-1] != '}') return 0;
         at = feed + 1;
     }
     return 1;
 }
 
-/* Whether a document has the same answer by value, as JSON and by a handle, and a report or a text as they are to be. */
-static void same(graphql_schema *schema, const char *bytes, size_t length) {
-    static uint8_t first[BYTES];
-    const uint8_t *document = placed(DOCUMENT, bytes, length);
-    uint32_t by_value = graphql_report(TEXT(SCHEMA, SMALL), document, length, 100, 0, ROOM_OF(BYTES));
-    size_t long_as = needed;
-    memcpy(first, end_of[ROOM] - BYTES, long_as);
-    uint32_t as_json = graphql_report_json(TEXT(SCHEMA, SMALL), document, length, 100, 0, ROOM_OF(BYTES));
-    if (as_json != by_value || !needed != !long_as) differs(__LINE__, "status as JSON", as_json, by_value);
-    if (needed <= BYTES && !are_objects(end_of[ROOM] - BYTES, end_of[ROOM] - BYTES + needed)) differs(__LINE__, "lines of JSON", needed, long_as);
-    uint32_t by_handle = graphql_schema_check(schema, document, length, ROOM_OF(BYTES));
-    const uint8_t *room = end_of[ROOM] - BYTES;
-    if (by_value > GRAPHQL_REFUSED && by_value != GRAPHQL_NOT_UTF8) differs(__LINE__, "status", by_value, GRAPHQL_REFUSED);
-    if (by_handle != by_value) differs(__LINE__, "status by a handle", by_handle, by_value);
-    if (needed != long_as || memcmp(room, first, needed)) differs(__LINE__, "report by a handle", needed, long_as);
-    if ((by_value == GRAPHQL_REFUSED) != (needed > 0)) differs(__LINE__, "length of the report", needed, by_value);
-    if (needed && (memcmp(room, "refused\n", 8) || room[needed - 1] != '\n' || memchr(room, 0, needed)))
-        differs(__LINE__, "form of the report", room[0], 'r');
-    uint32_t text = graphql_document_text(schema, document, length, 0, 0, ROOM_OF(BYTES));
-    if (text != by_value) differs(__LINE__, "status of the text", text, by_value);
-    if (text != GRAPHQL_ACCEPTED) return;
+/* Whether a document has the same answer as text, as JSON and where it is to be written. */
+static void same(graphql_checked_schema two[2], const char *bytes, size_t length) {
+    static char first[BYTES];
+    const graphql_checked_text *document = text_at(DOCUMENT, bytes, length, 0);
+    graphql_checked_status found = graphql_checked_check(&two[0], document, &answer);
+    size_t lines = lines_of(), long_as = answer.length;
+    if (found > GRAPHQL_CHECKED_REFUSED && found != GRAPHQL_CHECKED_NOT_UTF8) differs(__LINE__, "status", found, GRAPHQL_CHECKED_REFUSED);
+    if ((found == GRAPHQL_CHECKED_REFUSED) != (long_as > 0)) differs(__LINE__, "length of the report", long_as, found);
+    if (long_as && (memcmp(answer.bytes, "refused\n", 8) || answer.bytes[long_as - 1] != '\n' || strlen(answer.bytes) != long_as)) differs(__LINE__, "form of the report", 0, 1);
+    graphql_checked_status as_json = graphql_checked_check(&two[1], document, &answer);
+    if (as_json != found || (found == GRAPHQL_CHECKED_REFUSED && lines_of() + 1 != lines) || !are_objects()) differs(__LINE__, "lines of JSON", lines_of() + 1, lines);
+    graphql_checked_status text = graphql_checked_document_text(&two[0], document, 0, &answer);
+    if (text != found) differs(__LINE__, "status of the text", text, found);
+    if (text == GRAPHQL_CHECKED_REFUSED && answer.length != long_as) differs(__LINE__, "report of the text", answer.length, long_as);
+    if (text != GRAPHQL_CHECKED_ACCEPTED) return;
     /* what is written is accepted, and written with the same bytes */
-    memcpy(first, room, long_as = needed);
-    text = graphql_document_text(schema, placed(DOCUMENT, (const char *)first, long_as), long_as, 0, 0, ROOM_OF(BYTES));
-    if (text != GRAPHQL_ACCEPTED || needed != long_as || memcmp(room, first, needed)) differs(__LINE__, "text written again", needed, long_as);
+    memcpy(first, answer.bytes, long_as = answer.length);
+    text = graphql_checked_document_text(&two[1], text_at(DOCUMENT, first, long_as, 0), 0, &answer);
+    if (text != GRAPHQL_CHECKED_ACCEPTED || answer.length != long_as || memcmp(answer.bytes, first, long_as)) differs(__LINE__, "text written again", answer.length, long_as);
 }
 
 /* Documents cut at each byte, and so many with some other bytes. */
 static void other_bytes(long count) {
     static const char common[] = "{}()[]:=|!$@\"\\#,. \n\t\r\0\xff\xc3\xa9\xef\xbb\xbf" "aef1-";
-    graphql_schema schema = {0};
-    if (graphql_schema_open(TEXT(SCHEMA, SMALL), (size_t[]){sizeof SMALL - 1}, 1, 100, 0, &schema, ROOM_OF(99))) differs(__LINE__, "open", 1, 0);
+    graphql_checked_schema two[2] = {{0}, {0}};
+    ASK(GRAPHQL_CHECKED_ACCEPTED, graphql_checked_open(&two[0], TEXT(SCHEMA, SMALL), 1, &as_text, 0));
+    ASK(GRAPHQL_CHECKED_ACCEPTED, graphql_checked_open(&two[1], TEXT(SCHEMA, SMALL), 1, &as_json, 0));
     uint64_t random = 88172645463325252u;
     char bytes[sizeof LONG];
-    for (size_t length = 0; length < sizeof LONG; length++) same(&schema, LONG, length);
+    for (size_t length = 0; length < sizeof LONG; length++) same(two, LONG, length);
     for (long i = 0; i < count; i++) {
         memcpy(bytes, LONG, sizeof LONG);
         for (int changes = 1 + i % 4; changes > 0; changes--) {
             random ^= random << 13, random ^= random >> 7, random ^= random << 17; /* Marsaglia's xorshift */
             bytes[random % (sizeof LONG - 1)] = common[(random >> 32) % (sizeof common - 1)];
         }
-        same(&schema, bytes, sizeof LONG - 1);
+        same(two, bytes, sizeof LONG - 1);
     }
-    graphql_schema_close(&schema);
+    graphql_checked_close(&two[0]), graphql_checked_close(&two[1]);
 }
 
 /* A text with so many brackets open, and the stack and nesting for which it is judged. Without a schema it is the schema. */
@@ -310,72 +333,122 @@ static char *add(char *to, const char *text, size_t times) {
     return to;
 }
 
+/* Opens, checks and writes, with the form of both reports, on this thread. */
 static void *judged(void *word) {
     const deep *it = word;
     size_t times = it->nesting - it->other;
     static char text[1 << 20];
     add(add(add(add(add(text, it->before, 1), it->open, times), it->inside, 1), it->close, times), it->after, 1);
     const char *schema = it->schema ? it->schema : text, *document = it->schema ? text : "{ __typename }";
-    const uint8_t *at = (const uint8_t *)schema, *over = (const uint8_t *)document;
-    uint32_t found = graphql_check(at, strlen(schema), over, strlen(document), it->nesting, it->stack);
-    if (found > GRAPHQL_REFUSED) differs(__LINE__, it->open, found, GRAPHQL_ACCEPTED);
-    /* and as it is told, with its data */
-    size_t length;
-    uint32_t as_json = graphql_report_json(at, strlen(schema), over, strlen(document), it->nesting, it->stack, 0, 0, &length);
-    if (as_json != found || !length != !found) differs(__LINE__, it->open, as_json, found);
+    graphql_checked_text one = {schema, strlen(schema), 0}, over = {document, strlen(document), 0};
+    for (size_t form = 0; form < 2; form++) {
+        graphql_checked_schema handle = {0};
+        graphql_checked_options given = {sizeof given, it->nesting, it->stack, 0, form};
+        graphql_checked_status found = graphql_checked_open(&handle, &one, 1, &given, 0);
+        if (!found) graphql_checked_schema_text(&handle, "  ", 0), found = graphql_checked_check(&handle, &over, 0);
+        if (!found) found = graphql_checked_document_text(&handle, &over, "  ", 0);
+        if (found > GRAPHQL_CHECKED_REFUSED) differs(__LINE__, it->open, found, GRAPHQL_CHECKED_ACCEPTED);
+        if ((found = graphql_checked_close(&handle))) differs(__LINE__, it->open, found, GRAPHQL_CHECKED_ACCEPTED);
+    }
     return 0;
 }
+
+/* Runs it on a thread of so many bytes of stack. */
+static void run_on(size_t stack, void *(*run)(void *), void *word) {
+    pthread_t thread;
+    pthread_attr_t attributes;
+    if (pthread_attr_init(&attributes) || pthread_attr_setstacksize(&attributes, stack)) exit(2);
+    if (pthread_create(&thread, &attributes, run, word) || pthread_join(thread, 0)) exit(2);
+    pthread_attr_destroy(&attributes);
+}
+
+static deep kinds[] = {
+    {DEEP, "", "{ q ", "{ __typename }", " }", "", 1, 0, 0},
+    {DEEP, "{ ", "... { ", "__typename", " }", " }", 1, 0, 0},
+    {DEEP, "{ ", "... on Query { ", "__typename", " }", " }", 1, 0, 0},
+    {DEEP, "{ any(value: ", "[", "1", "]", ") }", 2, 0, 0},
+    {DEEP, "{ any(value: ", "{ a: ", "1", " }", ") }", 2, 0, 0},
+    {DEEP, "{ in(value: ", "{ in: ", "null", " }", ") }", 2, 0, 0},
+    {DEEP, "{ any @with(any: ", "[", "1", "]", ") }", 2, 0, 0},
+    {DEEP, "query ($v: Any = ", "[", "1", "]", ") { any(value: $v) }", 1, 0, 0},
+    {DEEP, "{ in(value: ", "{ in: ", "1", " }", ") }", 2, 0, 0},
+    {DEEP, "query ($v: ", "[", "Any", "]", ") { in(value: $v) }", 1, 0, 0},
+    {DEEP, "query ($v: ", "[", "Missing", "]", ") { any(value: $v) }", 1, 0, 0},
+    {0, "type Query { deep: ", "[", "Missing", "]", " }", 1, 0, 0},
+    {0, "type Query { deep: ", "[", "Int", "]", " }", 1, 0, 0},
+    {0, "scalar Any type Query { deep(v: Any = ", "[", "1", "]", "): Int }", 2, 0, 0},
+    {0, "input In { in: In } type Query { deep(v: In = ", "{ in: ", "null", " }", "): Int }", 2, 0, 0},
+};
+enum { KINDS = sizeof kinds / sizeof *kinds };
 
 /* The deepest text of each kind, on threads that have no more stack than is told. */
 static void deepest(void) {
-    deep kinds[] = {
-        {DEEP, "", "{ q ", "{ __typename }", " }", "", 1, 0, 0},
-        {DEEP, "{ ", "... { ", "__typename", " }", " }", 1, 0, 0},
-        {DEEP, "{ ", "... on Query { ", "__typename", " }", " }", 1, 0, 0},
-        {DEEP, "{ any(value: ", "[", "1", "]", ") }", 2, 0, 0},
-        {DEEP, "{ any(value: ", "{ a: ", "1", " }", ") }", 2, 0, 0},
-        {DEEP, "{ in(value: ", "{ in: ", "null", " }", ") }", 2, 0, 0},
-        {DEEP, "{ any @with(any: ", "[", "1", "]", ") }", 2, 0, 0},
-        {DEEP, "query ($v: Any = ", "[", "1", "]", ") { any(value: $v) }", 1, 0, 0},
-        {DEEP, "{ in(value: ", "{ in: ", "1", " }", ") }", 2, 0, 0},
-        {DEEP, "query ($v: ", "[", "Any", "]", ") { in(value: $v) }", 1, 0, 0},
-        {DEEP, "query ($v: ", "[", "Missing", "]", ") { any(value: $v) }", 1, 0, 0},
-        {0, "type Query { deep: ", "[", "Missing", "]", " }", 1, 0, 0},
-        {0, "type Query { deep: ", "[", "Int", "]", " }", 1, 0, 0},
-        {0, "scalar Any type Query { deep(v: Any = ", "[", "1", "]", "): Int }", 2, 0, 0},
-        {0, "input In { in: In } type Query { deep(v: In = ", "{ in: ", "null", " }", "): Int }", 2, 0, 0},
-    };
     const size_t stacks[] = {graphql_checked_proved() ? 512 << 10 : 960 << 10, graphql_checked_proved() ? 1 << 20 : 2 << 20};
     static const size_t nestings[] = {398, 853};
     for (size_t size = 0; size < 2; size++)
-        for (size_t kind = 0; kind < sizeof kinds / sizeof *kinds; kind++) {
-            pthread_t thread;
-            pthread_attr_t attributes;
+        for (size_t kind = 0; kind < KINDS; kind++) {
             kinds[kind].stack = stacks[size], kinds[kind].nesting = nestings[size];
-            if (pthread_attr_init(&attributes) || pthread_attr_setstacksize(&attributes, stacks[size])) exit(2);
-            if (pthread_create(&thread, &attributes, judged, &kinds[kind]) || pthread_join(thread, 0)) exit(2);
-            pthread_attr_destroy(&attributes);
+            run_on(stacks[size], judged, &kinds[kind]);
         }
 }
 
-static void *own_handle(void *unused) {
-    static const char text[] = "type Query { a: Int }";
-    const size_t end = sizeof text - 1;
-    (void)unused;
-    for (int round = 0; round < 20; round++) {
-        graphql_schema schema = {0};
-        uint8_t room[99];
-        size_t length;
-        if (graphql_schema_open((const uint8_t *)text, end, &end, 1, 100, 0, &schema, room, 99, &length)) differs(__LINE__, "open", 1, 0);
-        for (int i = 0; i < 100; i++) {
-            const char *document = i % 2 ? "{ a }" : "{ missing }";
-            uint32_t found = graphql_schema_check(&schema, (const uint8_t *)document, strlen(document), room, 99, &length);
-            if (found != (i % 2 ? GRAPHQL_ACCEPTED : GRAPHQL_REFUSED)) differs(__LINE__, document, found, i % 2);
-            if (length != (i % 2 ? 0 : strlen(REPORT)) || memcmp(room, REPORT, length)) differs(__LINE__, document, length, strlen(REPORT));
-        }
-        graphql_schema_close(&schema);
+/* What a thread of 128 KB may ask, told nothing of its stack: a nesting of 300 is too much for it, one of 15 is not. */
+static void *on_little(void *unused) {
+    graphql_checked_schema schema = {0};
+    graphql_checked_options given = AS_JSON;
+    given.nesting = 300;
+    ASK(GRAPHQL_CHECKED_STACK, graphql_checked_open(&schema, A_FIELD, 1, &given, &answer));
+    ASK(GRAPHQL_CHECKED_STACK, graphql_checked_open(&schema, A_FIELD, 1, 0, &answer));
+    given.nesting = 15;
+    ASK(GRAPHQL_CHECKED_ACCEPTED, graphql_checked_open(&schema, A_FIELD, 1, &given, &answer));
+    TELLS(GRAPHQL_CHECKED_REFUSED, JSON_AT("document"), graphql_checked_check(&schema, DOC("{ missing }"), &answer));
+    ASK(GRAPHQL_CHECKED_ACCEPTED, graphql_checked_close(&schema));
+    for (size_t kind = 0; kind < KINDS; kind++) {
+        kinds[kind].stack = 0, kinds[kind].nesting = 15;
+        judged(&kinds[kind]);
     }
+    return unused;
+}
+
+/* A handle of this thread's may be too much for another, which is told so; closing it takes as little as it has. */
+static void *on_little_too(void *schema) {
+    ASK(GRAPHQL_CHECKED_STACK, graphql_checked_check(schema, DOC("{ a }"), &answer));
+    ASK(GRAPHQL_CHECKED_STACK, graphql_checked_schema_text(schema, 0, &answer));
+    ASK(GRAPHQL_CHECKED_ACCEPTED, graphql_checked_close(schema));
     return 0;
+}
+
+static void small(void) {
+    static char text[1 << 16];
+    run_on(128 << 10, on_little, 0);
+    for (size_t kind = KINDS - 4; kind < KINDS; kind++) {
+        const deep *it = &kinds[kind];
+        graphql_checked_schema schema = {0};
+        add(add(add(add(add(text, it->before, 1), it->open, 390), it->inside, 1), it->close, 390), it->after, 1);
+        graphql_checked_text one = {text, strlen(text), 0};
+        status = graphql_checked_open(&schema, &one, 1, 0, 0);
+        if (status == GRAPHQL_CHECKED_ACCEPTED) run_on(128 << 10, on_little_too, &schema);
+        else if (status != GRAPHQL_CHECKED_REFUSED) differs(__LINE__, it->open, status, 0);
+        graphql_checked_close(&schema);
+    }
+}
+
+#define FIELD {"type Query { a: Int }", 21, 0}
+
+static void *own_handle(void *unused) {
+    const graphql_checked_text text = FIELD, wrong = {"{ missing }", 11, 0}, right = {"{ a }", 5, 0};
+    for (int round = 0; round < 20; round++) {
+        graphql_checked_schema schema = {0};
+        graphql_checked_answer own;
+        if (graphql_checked_open(&schema, &text, 1, &as_text, &own)) differs(__LINE__, "open", 1, 0);
+        for (int i = 0; i < 100; i++) {
+            graphql_checked_status found = graphql_checked_check(&schema, i % 2 ? &right : &wrong, &own);
+            if (found != (i % 2 ? GRAPHQL_CHECKED_ACCEPTED : GRAPHQL_CHECKED_REFUSED)) differs(__LINE__, "status", found, i % 2);
+            if (strcmp(own.bytes, i % 2 ? "" : REPORT)) differs(__LINE__, "report", own.length, strlen(REPORT));
+        }
+        graphql_checked_close(&schema);
+    }
+    return unused;
 }
 
 /* Four threads, each with its own handle. */
@@ -386,8 +459,105 @@ static void threads(void) {
     for (int i = 0; i < 4; i++) pthread_join(four[i], 0);
 }
 
+static graphql_checked_schema one_handle;
+static int is_over;
+static long asks = 20000;
+static unsigned long answered, busy;
+
+/* Asks one handle, whoever else does. Its answer is not read, since it belongs to whoever asks last. */
+static void *asks_one(void *unused) {
+    const graphql_checked_text right = {"{ a }", 5, 0}, wrong = {"{ missing }", 11, 0};
+    for (long i = 0; i < asks && !__atomic_load_n(&is_over, __ATOMIC_SEQ_CST); i++) {
+        graphql_checked_status found = graphql_checked_check(&one_handle, i % 2 ? &right : &wrong, 0);
+        if (found == GRAPHQL_CHECKED_BUSY) __atomic_add_fetch(&busy, 1, __ATOMIC_RELAXED);
+        else if (found == (i % 2 ? GRAPHQL_CHECKED_ACCEPTED : GRAPHQL_CHECKED_REFUSED)) __atomic_add_fetch(&answered, 1, __ATOMIC_RELAXED);
+        else if (found != GRAPHQL_CHECKED_CLOSED || !__atomic_load_n(&is_over, __ATOMIC_SEQ_CST)) differs(__LINE__, "status", found, i % 2);
+    }
+    return unused;
+}
+
+static void open_one_handle(void) {
+    const graphql_checked_text text = FIELD;
+    if (graphql_checked_open(&one_handle, &text, 1, 0, 0)) differs(__LINE__, "open", 1, 0);
+}
+
+/* Four threads with one handle, which is closed while they ask. */
+static void shared(long count) {
+    pthread_t four[4];
+    asks = count;
+    for (int round = 0; round < 5; round++) {
+        __atomic_store_n(&is_over, 0, __ATOMIC_SEQ_CST);
+        open_one_handle();
+        for (int i = 0; i < 4; i++)
+            if (pthread_create(&four[i], 0, asks_one, 0)) exit(2);
+        if (round % 2) {
+            usleep(20000);
+            __atomic_store_n(&is_over, 1, __ATOMIC_SEQ_CST);
+            while (graphql_checked_close(&one_handle) == GRAPHQL_CHECKED_BUSY) usleep(10);
+        }
+        for (int i = 0; i < 4; i++) pthread_join(four[i], 0);
+        graphql_checked_close(&one_handle);
+    }
+    if (!answered || !busy) differs(__LINE__, "answers, and calls that found it busy", answered, busy);
+}
+
+/* Children that are forked while another thread asks. A child that hangs is ended by its alarm. */
+static void forked(void) {
+    const graphql_checked_text right = {"{ a }", 5, 0};
+    pthread_t other;
+    asks = 1L << 40;
+    open_one_handle();
+    if (pthread_create(&other, 0, asks_one, 0)) exit(2);
+    for (int i = 0; i < 100; i++) {
+        int ended = 0;
+        pid_t child = fork();
+        if (!child) {
+            graphql_checked_schema own = {0};
+            const graphql_checked_text text = FIELD;
+            alarm(20);
+            graphql_checked_status found = graphql_checked_check(&one_handle, &right, 0);
+            if (found && found != GRAPHQL_CHECKED_BUSY) _exit(1);
+            if (graphql_checked_open(&own, &text, 1, 0, 0) || graphql_checked_check(&own, &right, 0)) _exit(2);
+            _exit(graphql_checked_close(&own));
+        }
+        if (child < 0 || waitpid(child, &ended, 0) < 0 || ended) differs(__LINE__, "the child's end", (unsigned long)ended, 0);
+    }
+    __atomic_store_n(&is_over, 1, __ATOMIC_SEQ_CST);
+    pthread_join(other, 0);
+    graphql_checked_close(&one_handle);
+}
+
+static volatile sig_atomic_t found_busy, found_wrong;
+
+static void asks_in_handler(int unused) {
+    static const graphql_checked_text right = {"{ a }", 5, 0};
+    graphql_checked_status found = graphql_checked_check(&one_handle, &right, 0);
+    (void)unused;
+    found_busy += found == GRAPHQL_CHECKED_BUSY;
+    found_wrong += found != GRAPHQL_CHECKED_BUSY && found != GRAPHQL_CHECKED_ACCEPTED;
+}
+
+/* A handler that asks the handle that is asked. */
+static void signals(void) {
+    static char many[60000] = "{";
+    struct sigaction action = {0};
+    struct itimerval often = {{0, 500}, {0, 500}}, never = {{0, 0}, {0, 0}};
+    for (int i = 0; i < 5000; i++) strcat(many + 3 * i, " a ");
+    strcat(many, "}");
+    const graphql_checked_text long_one = {many, strlen(many), 0};
+    action.sa_handler = asks_in_handler;
+    open_one_handle();
+    sigaction(SIGALRM, &action, 0);
+    setitimer(ITIMER_REAL, &often, 0);
+    for (int i = 0; i < 2000 && found_busy < 20; i++)
+        if (graphql_checked_check(&one_handle, &long_one, 0)) differs(__LINE__, "status", 1, 0);
+    setitimer(ITIMER_REAL, &never, 0);
+    if (found_wrong || !found_busy) differs(__LINE__, "handlers that found it busy", (unsigned long)found_busy, 20);
+    graphql_checked_close(&one_handle);
+}
+
 /* Bytes that are not free. */
-static size_t held(void) { return mallinfo2().uordblks; }
+static size_t held(void) { return mallinfo2().uordblks + mallinfo2().hblkhd; }
 
 /* Kilobytes that the process has in memory. */
 static long resident(void) {
@@ -421,29 +591,33 @@ static void not_grown(int line, size_t bytes, long kilobytes) {
  * held, until it has as many as it keeps. Of what is lost in each of ten thousand rounds after that, 4 KB are too many. */
 enum { BEFORE = 100 };
 
-static void open_one(graphql_schema *schema, const uint8_t *text, size_t length) {
-    ASK(GRAPHQL_ACCEPTED, graphql_schema_open(text, length, &length, 1, 100, 0, schema, ROOM_OF(4096)));
+static void open_one(graphql_checked_schema *schema, const char *text, size_t length) {
+    const graphql_checked_text one = {text, length, 0};
+    ASK(GRAPHQL_CHECKED_ACCEPTED, graphql_checked_open(schema, &one, 1, 0, &answer));
 }
 
-/* So many handles, each asked and closed, and a report as JSON beside each. */
+/* So many handles, each asked and closed. */
 static void opens(long count) {
-    graphql_schema schema = {0};
+    graphql_checked_schema schema = {0};
     size_t bytes = 0;
     long kilobytes = 0;
     for (long i = -BEFORE; i < count; i++) {
         if (!i) resident(), bytes = held(), kilobytes = resident();
-        open_one(&schema, TEXT(SCHEMA, SMALL));
-        ASK(GRAPHQL_REFUSED, graphql_schema_check(&schema, MISSING, ROOM_OF(99)));
-        ASK(GRAPHQL_REFUSED, graphql_report_json(TEXT(SCHEMA, SMALL), MISSING, 100, 0, ROOM_OF(999)));
-        graphql_schema_close(&schema);
+        open_one(&schema, SMALL, sizeof SMALL - 1);
+        ASK(GRAPHQL_CHECKED_REFUSED, graphql_checked_check(&schema, DOC("{ missing }"), &answer));
+        ASK(GRAPHQL_CHECKED_OPEN, graphql_checked_open(&schema, A_FIELD, 1, 0, &answer));
+        graphql_checked_close(&schema);
+        ASK(GRAPHQL_CHECKED_REFUSED, graphql_checked_open(&schema, TEXT(SCHEMA, "type Query { a: Missing }"), 1, 0, &answer));
+        if (i % 2) graphql_checked_close(&schema);
     }
+    graphql_checked_close(&schema);
     not_grown(__LINE__, bytes, kilobytes);
 }
 
 /* What is in the file, or else the small text. */
-static uint8_t *text_of(const char *path, const char *small, size_t *length) {
+static char *text_of(const char *path, const char *small, size_t *length) {
     enum { MOST = 64 << 20 };
-    uint8_t *text = malloc(MOST);
+    char *text = malloc(MOST);
     FILE *file = path ? fopen(path, "rb") : 0;
     if (!text || (path && !file)) exit(2);
     *length = file ? fread(text, 1, MOST, file) : strlen(memcpy(text, small, strlen(small) + 1));
@@ -454,31 +628,44 @@ static uint8_t *text_of(const char *path, const char *small, size_t *length) {
 /* So many documents that are accepted over one handle, and as many that are refused. */
 static void documents(long count, const char *schema_path, const char *document_path) {
     size_t length, width;
-    uint8_t *text = text_of(schema_path, SMALL, &length), *document = text_of(document_path, "{ __typename }", &width);
-    graphql_schema schema = {0};
+    char *text = text_of(schema_path, SMALL, &length), *document = text_of(document_path, "{ __typename }", &width);
+    graphql_checked_schema schema = {0};
     double start = microseconds();
     open_one(&schema, text, length);
     double opened = microseconds() - start, each[2];
-    for (int i = 0; i < BEFORE; i++) {
-        ASK(GRAPHQL_ACCEPTED, graphql_schema_check(&schema, document, width, ROOM_OF(99)));
-        ASK(GRAPHQL_REFUSED, graphql_schema_check(&schema, MISSING, ROOM_OF(99)));
-    }
+    graphql_checked_text both[] = {{document, width, 0}, {"{ missing }", 11, 0}};
+    for (int i = 0; i < 2 * BEFORE; i++) ASK(i % 2 ? GRAPHQL_CHECKED_REFUSED : GRAPHQL_CHECKED_ACCEPTED, graphql_checked_check(&schema, &both[i % 2], &answer));
     resident();
     size_t bytes = held();
     long kilobytes = resident();
     for (int is_missing = 0; is_missing < 2; is_missing++) {
-        const uint8_t *bytes_of = is_missing ? (const uint8_t *)"{ missing }" : document;
-        uint8_t room[99];
         start = microseconds();
         for (long i = 0; i < count; i++)
-            ASK(is_missing ? GRAPHQL_REFUSED : GRAPHQL_ACCEPTED, graphql_schema_check(&schema, bytes_of, is_missing ? 11 : width, room, 99, &needed));
+            ASK(is_missing ? GRAPHQL_CHECKED_REFUSED : GRAPHQL_CHECKED_ACCEPTED, graphql_checked_check(&schema, &both[is_missing], &answer));
         each[is_missing] = (microseconds() - start) / (double)(count ? count : 1);
     }
     not_grown(__LINE__, bytes, kilobytes);
-    graphql_schema_close(&schema);
+    graphql_checked_close(&schema);
     free(text);
     free(document);
     printf("schema of %zu bytes opened in %.0f us, a document accepted in %.1f us, refused in %.1f us\n", length, opened, each[0], each[1]);
+}
+
+/* So many handles on one schema. */
+static void handles(long count, const char *schema_path) {
+    size_t length;
+    char *text = text_of(schema_path, SMALL, &length);
+    graphql_checked_schema *all = calloc((size_t)count, sizeof *all);
+    size_t before = held();
+    if (!all) exit(2);
+    for (long i = 0; i < count; i++) {
+        open_one(&all[i], text, length);
+        ASK(GRAPHQL_CHECKED_REFUSED, graphql_checked_check(&all[i], DOC("{ missing }"), &answer));
+    }
+    printf("schema of %zu bytes: %ld handles hold %zu KB, each %zu KB\n", length, count, (held() - before) / 1024, (held() - before) / 1024 / (size_t)count);
+    for (long i = 0; i < count; i++) graphql_checked_close(&all[i]);
+    free(all);
+    free(text);
 }
 
 int main(int argc, char **argv) {
@@ -489,12 +676,17 @@ int main(int argc, char **argv) {
     memory_is_refused = getenv("REFUSED_FIRST") != 0;
     is_each = getenv("REFUSED_EACH") != 0;
     make_areas();
-    if (!*word) by_value(), as_json(), by_handle();
+    if (!*word) by_handle(), options();
     else if (!strcmp(word, "bytes")) other_bytes(count);
     else if (!strcmp(word, "stack")) deepest();
+    else if (!strcmp(word, "small")) small();
     else if (!strcmp(word, "threads")) threads();
+    else if (!strcmp(word, "shared")) shared(count);
+    else if (!strcmp(word, "fork")) forked();
+    else if (!strcmp(word, "signal")) signals();
     else if (!strcmp(word, "opens")) opens(count);
     else if (!strcmp(word, "documents")) documents(count, argc > 3 ? argv[3] : 0, argc > 4 ? argv[4] : 0);
+    else if (!strcmp(word, "handles")) handles(count, argc > 3 ? argv[3] : 0);
     else return 2;
     puts(told ? "as wanted, out of memory told" : "as wanted");
     return 0;

@@ -7,109 +7,76 @@
 #include <stdlib.h>
 #include <string.h>
 
-enum { WRONG_WORDS = 2, UNREAD = 3, NESTING = 500, STACK = 2 << 20 };
+enum { WRONG_WORDS = 2, UNREAD = 3 };
 
-/* Bytes that grow. */
-typedef struct {
-    uint8_t *at;
-    size_t length, room;
-} bytes;
-
-/* Makes room for so many bytes, or ends the program. */
-static void reserve(bytes *list, size_t room) {
-    if (room <= list->room) return;
-    uint8_t *at = realloc(list->at, room);
-    if (!at) {
-        fputs("out of memory\n", stderr);
-        exit(GRAPHQL_MEMORY);
-    }
-    list->at = at;
-    list->room = room;
+/* Ends the program where a call has no answer. */
+static int failed(graphql_checked_status status) {
+    fprintf(stderr, "%s\n", graphql_checked_status_text(status));
+    exit((int)status);
 }
 
-/* Adds what is in the file of this number, or ends the program. */
-static void read_file(bytes *list, const char *path, int number) {
+/* The text in the file of this number, or the program ends. */
+static graphql_checked_text read_file(const char *path, int number) {
     FILE *file = fopen(path, "rb");
-    size_t got = 0;
+    size_t length = 0, room = 0, got = 0;
+    char *bytes = NULL;
     do {
-        reserve(list, 2 * list->length + 4096);
-        got = file ? fread(list->at + list->length, 1, list->room - list->length, file) : 0;
-        list->length += got;
+        if (length == room && !(bytes = realloc(bytes, room = 2 * room + 4096))) failed(GRAPHQL_CHECKED_MEMORY);
+        got = file ? fread(bytes + length, 1, room - length, file) : 0;
+        length += got;
     } while (got);
     if (!file || ferror(file)) {
         fprintf(stderr, "file %d cannot be read\n", number);
         exit(UNREAD);
     }
     fclose(file);
+    return (graphql_checked_text){bytes, length, path};
 }
 
-/* The prefix of a line, and null for one line. */
-static const char *prefix_of(const char *layout) {
-    static const char *const names[] = {"line", "two", "four", "tab"}, *const prefixes[] = {0, "  ", "    ", "\t"};
+/* The indent of a line, and null for one line. */
+static const char *indent_of(const char *layout) {
+    static const char *const names[] = {"line", "two", "four", "tab"}, *const indents[] = {NULL, "  ", "    ", "\t"};
     for (int i = 0; i < 4; i++)
-        if (!strcmp(layout, names[i])) return prefixes[i];
+        if (!strcmp(layout, names[i])) return indents[i];
     exit(WRONG_WORDS);
 }
 
-/* Prints what is in the room, with a line feed where there is none at the end. */
-static void print(const bytes *room) {
-    fwrite(room->at, 1, room->length, stdout);
-    if (room->length && room->at[room->length - 1] != '\n') putchar('\n');
-}
-
-/* The status of a program that ends without an answer. */
-static int failed(uint32_t status) {
-    fputs(status == GRAPHQL_NOT_UTF8 ? "a text is not UTF-8\n" : status == GRAPHQL_MEMORY ? "out of memory\n" : "wrong call\n", stderr);
-    return (int)status;
+/* Prints an answer, with a line feed where there is none at the end. */
+static void print(const char *bytes, size_t length) {
+    fwrite(bytes, 1, length, stdout);
+    if (length && bytes[length - 1] != '\n') putchar('\n');
 }
 
 int main(int argc, char **argv) {
     int first = argc > 2 && !strcmp(argv[1], "--indent") ? 3 : 1, count = argc - first - 1;
-    const char *prefix = first == 3 ? prefix_of(argv[2]) : 0;
-    if (count < 1) return WRONG_WORDS;
+    const char *indent = first == 3 ? indent_of(argv[2]) : NULL;
+    graphql_checked_text *texts = count < 1 ? NULL : malloc((size_t)count * sizeof *texts);
+    if (!texts) return WRONG_WORDS;
+    for (int i = 0; i < count; i++) texts[i] = read_file(argv[first + 1 + i], i + 1);
+    graphql_checked_text document = read_file(argv[first], count + 1);
 
-    /* the schema texts one after the other, each with its end; then the document */
-    bytes texts = {0}, document = {0}, room = {0};
-    size_t *ends = malloc((size_t)count * sizeof *ends);
-    if (!ends) return failed(GRAPHQL_MEMORY);
-    for (int i = 0; i < count; i++) {
-        read_file(&texts, argv[first + 1 + i], i + 1);
-        ends[i] = texts.length;
-    }
-    read_file(&document, argv[first], count + 1);
+    graphql_checked_schema schema = {0};
+    graphql_checked_answer answer;
+    graphql_checked_options options = {sizeof options, 500, 0, 0, GRAPHQL_CHECKED_TEXT};
+    graphql_checked_status status = graphql_checked_open(&schema, texts, (size_t)count, &options, &answer);
+    for (int i = 0; i < count; i++) free((char *)texts[i].bytes); /* the handle has its own copy */
+    free(texts);
 
-    /* a call is made again where its answer does not fit the room */
-    graphql_schema schema = {0};
-    uint32_t status;
-    do {
-        reserve(&room, room.length ? room.length : 4096);
-        status = graphql_schema_open(texts.at, texts.length, ends, (size_t)count, NESTING, STACK, &schema, room.at, room.room, &room.length);
-    } while (room.length > room.room);
-    free(ends);
-    free(texts.at);
-
-    /* both texts, once the document is accepted */
-    bytes written = {0};
-    size_t width = prefix ? strlen(prefix) : 0;
-    if (status == GRAPHQL_ACCEPTED) {
-        do {
-            reserve(&written, written.length ? written.length : 4096);
-            status = graphql_document_text(&schema, document.at, document.length, (const uint8_t *)prefix, width, written.at, written.room, &written.length);
-        } while (written.length > written.room);
-        room.length = 0;
+    /* the document's text comes last, and is kept while the schema's is asked for */
+    char *written = NULL;
+    size_t length = 0;
+    if (!status) status = graphql_checked_document_text(&schema, &document, indent, &answer);
+    if (!status) {
+        if (!(written = malloc(answer.length + 1))) failed(GRAPHQL_CHECKED_MEMORY);
+        memcpy(written, answer.bytes, length = answer.length);
+        status = graphql_checked_schema_text(&schema, indent, &answer);
     }
-    while (status == GRAPHQL_ACCEPTED) {
-        status = graphql_schema_text(&schema, (const uint8_t *)prefix, width, room.at, room.room, &room.length);
-        if (room.length <= room.room) break;
-        reserve(&room, room.length);
-    }
-    graphql_schema_close(&schema);
-    if (status > GRAPHQL_REFUSED) return failed(status);
-    if (status == GRAPHQL_ACCEPTED) puts("accepted");
-    print(&room);
-    print(&written);
-    free(document.at);
-    free(room.at);
-    free(written.at);
+    if (status > GRAPHQL_CHECKED_REFUSED) failed(status);
+    if (!status) puts("accepted");
+    print(answer.bytes, answer.length);
+    print(written, length);
+    graphql_checked_close(&schema);
+    free((char *)document.bytes);
+    free(written);
     return (int)status;
 }

@@ -1,45 +1,45 @@
 """The proved GraphQL checker, over its library for C.
 
-    schema = Schema(["type Query { a: Int }"])
-    report = schema.check("{ b }")
-    for fault in report.faults:
-        print(fault.line, fault.column, fault.rule, fault.message)
+    schema = Schema([open("schema.graphql").read()], paths=["schema.graphql"])
+    for fault in schema.check("{ b }", path="query.graphql"):
+        print(fault.path, fault.line, fault.column, fault.rule, fault.message, fault.hint)
 
-A verdict is proved where `graphql_checked.proved` is True; this package passes texts and numbers on, and is not.
-`scripts/c_library` makes the library, `libgraphql_checked.so`: it is loaded from the path in GRAPHQL_CHECKED_LIBRARY, or else
-from beside this file, or else from where that script makes it.
+`schema.check(text)` gives a `Report`. **A report is true where the text is accepted**: `if schema.check(text): run(text)`. It is
+also a sequence of its faults, which is empty exactly then.
+
+A verdict is proved where `graphql_checked.proved` is True; this package passes texts and numbers on, and is not. The library,
+`libgraphql_checked.so`, is loaded when it is first needed: from the path in GRAPHQL_CHECKED_LIBRARY, or else from beside this
+file, where a wheel has it, or else from where `scripts/c_library` makes it, or from where the system has it.
 """
 
 from ._library import Library, Status, build, is_proved, version
+from ._report import Fault, Related, Report
 from ._schema import (
     NESTING,
-    EndsError,
-    Fault,
     LibraryError,
     NotUtf8Error,
     RefusedError,
-    Report,
     Schema,
     StackError,
     check,
-    check_json,
 )
+from ._version import __version__
 
 __all__ = [
     "NESTING",
-    "EndsError",
     "Fault",
     "Library",
     "LibraryError",
     "NotUtf8Error",
     "RefusedError",
+    "Related",
     "Report",
     "Schema",
     "StackError",
     "Status",
+    "__version__",
     "build",
     "check",
-    "check_json",
     "proved",
     "version",
 ]

@@ -4,12 +4,11 @@ import ctypes
 import enum
 import functools
 import os
-from typing import Any, Callable, Dict, List, Tuple
+from typing import Any, Dict, List, Tuple
+
+from ._version import __version__
 
 NAME = "libgraphql_checked.so"
-
-_bytes, _size, _pointer = ctypes.c_char_p, ctypes.c_size_t, ctypes.POINTER
-_room = [ctypes.c_void_p, _size, _pointer(_size)]
 
 
 class Status(enum.IntEnum):
@@ -21,34 +20,63 @@ class Status(enum.IntEnum):
     MEMORY = 4
     STACK = 5
     NULL = 6
-    ENDS = 7
-    PREFIX = 8
-    HANDLE = 9
+    INDENT = 8
+    CLOSED = 9
+    OPEN = 10
+    BUSY = 11
+    OPTIONS = 12
 
 
 class Handle(ctypes.Structure):
-    """`graphql_schema`: what it points to belongs to the library."""
+    """`graphql_checked_schema`: what it points to belongs to the library."""
 
     _fields_ = [("at", ctypes.c_void_p)]
 
 
-_handle = _pointer(Handle)
+class TextBytes(ctypes.Structure):
+    """`graphql_checked_text`."""
+
+    _fields_ = [("bytes", ctypes.c_char_p), ("length", ctypes.c_size_t), ("path", ctypes.c_char_p)]
+
+
+class Answer(ctypes.Structure):
+    """`graphql_checked_answer`: it lasts until the next call on its handle."""
+
+    _fields_ = [("bytes", ctypes.c_void_p), ("length", ctypes.c_size_t)]
+
+    def copied(self) -> bytes:
+        """The bytes."""
+        return ctypes.string_at(self.bytes, self.length) if self.bytes else b""
+
+
+class Options(ctypes.Structure):
+    """`graphql_checked_options`."""
+
+    _fields_ = [(name, ctypes.c_size_t) for name in ("size", "nesting", "stack", "max_faults", "form")]
+
+
+def text_bytes(text: bytes, path: str) -> TextBytes:
+    """A text under a name."""
+    return TextBytes(text, len(text), path.encode())
+
+
+_handle, _text, _answer = ctypes.POINTER(Handle), ctypes.POINTER(TextBytes), ctypes.POINTER(Answer)
 _types: Dict[str, List[Any]] = {
     "graphql_checked_version": [],
     "graphql_checked_proved": [],
-    "graphql_report": [_bytes, _size, _bytes, _size, _size, _size, *_room],
-    "graphql_report_json": [_bytes, _size, _bytes, _size, _size, _size, *_room],
-    "graphql_schema_open": [_bytes, _size, _pointer(_size), _size, _size, _size, _handle, *_room],
-    "graphql_schema_check": [_handle, _bytes, _size, *_room],
-    "graphql_schema_text": [_handle, _bytes, _size, *_room],
-    "graphql_document_text": [_handle, _bytes, _size, _bytes, _size, *_room],
+    "graphql_checked_open": [_handle, _text, ctypes.c_size_t, ctypes.POINTER(Options), _answer],
+    "graphql_checked_check": [_handle, _text, _answer],
+    "graphql_checked_schema_text": [_handle, ctypes.c_char_p, _answer],
+    "graphql_checked_document_text": [_handle, _text, ctypes.c_char_p, _answer],
+    "graphql_checked_close": [_handle],
 }
 
 
 class Library:
-    """The functions of the shared library at a path. Raises OSError where there is none."""
+    """The functions of the shared library at a path. Raises OSError where there is none, or where its version is another."""
 
     def __init__(self, path: str) -> None:
+        self.path = path
         try:
             self.functions = ctypes.CDLL(path)
         except OSError as error:
@@ -58,32 +86,37 @@ class Library:
             function.argtypes, function.restype = types, ctypes.c_uint32
         self.functions.graphql_checked_build.argtypes = []
         self.functions.graphql_checked_build.restype = ctypes.c_char_p
-        self.functions.graphql_schema_close.argtypes = [_handle]
-        self.functions.graphql_schema_close.restype = None
+        self.functions.graphql_checked_status_text.argtypes = [ctypes.c_uint32]
+        self.functions.graphql_checked_status_text.restype = ctypes.c_char_p
+        if self.version != tuple(map(int, __version__.split("."))):
+            raise OSError(f"{path} is of version {'.'.join(map(str, self.version))}, and this package of {__version__}")
 
     @staticmethod
     @functools.lru_cache(maxsize=None)
     def default() -> "Library":
-        """The library at GRAPHQL_CHECKED_LIBRARY, or else beside this file, or else where scripts/c_library makes it."""
+        """The library at GRAPHQL_CHECKED_LIBRARY, or else beside this file, or where scripts/c_library makes it, or where
+        scripts/install puts it, or the system's."""
+        named = os.environ.get("GRAPHQL_CHECKED_LIBRARY")
         here = os.path.dirname(os.path.abspath(__file__))
-        beside, made = os.path.join(here, NAME), os.path.join(here, "../../.built/c", NAME)
-        return Library(os.environ.get("GRAPHQL_CHECKED_LIBRARY") or (made if os.path.exists(made) and not os.path.exists(beside) else beside))
+        places = [os.path.join(here, NAME), os.path.join(here, "../../.built/c", NAME), os.path.join(here, "../../..", NAME + ".0")]
+        there: List[str] = [place for place in places if os.path.exists(place)]
+        return Library(named or (there[0] if there else NAME + ".0"))
 
-    def call(self, name: str, *words: object, room: int = 4096) -> Tuple[Status, bytes]:
-        """Calls a function that puts bytes into room, again with more room where they do not fit; its status, and the bytes."""
-        function: Callable[..., int] = getattr(self.functions, name)
-        while True:
-            place, needed = ctypes.create_string_buffer(room), _size()
-            status = Status(function(*words, place, room, ctypes.byref(needed)))
-            if needed.value <= room:
-                return status, ctypes.string_at(place, needed.value)
-            room = needed.value
+    @property
+    def version(self) -> Tuple[int, int, int]:
+        """Its version: major, minor, patch."""
+        number: int = self.functions.graphql_checked_version()
+        return number // 10_000, number // 100 % 100, number % 100
+
+    def status_text(self, status: Status) -> str:
+        """A status in words."""
+        text: bytes = self.functions.graphql_checked_status_text(status)
+        return text.decode()
 
 
 def version() -> Tuple[int, int, int]:
     """The version of the library: major, minor, patch."""
-    number: int = Library.default().functions.graphql_checked_version()
-    return number // 10_000, number // 100 % 100, number % 100
+    return Library.default().version
 
 
 def build() -> str:

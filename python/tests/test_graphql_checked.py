@@ -2,37 +2,42 @@
 
 What is expected comes from the specification, from `docs/rulebook.txt`, and from `examples/report/rules.txt`."""
 
+import copy
 import gc
-import glob
 import importlib.util
 import json
 import os
 import pickle
 import re
+import signal
 import sys
 import threading
+import time
 import unittest
-from typing import Any, Dict, Iterator, Tuple
+from typing import Any, Callable, Dict, Iterator, List, Tuple, Union
 
 TOP = os.path.join(os.path.dirname(os.path.abspath(__file__)), "../..")
 sys.path.insert(0, os.path.join(TOP, "python"))
 
 import graphql_checked  # noqa: E402
 from graphql_checked import (  # noqa: E402
+    Fault,
     Library,
     NotUtf8Error,
     RefusedError,
+    Related,
     Report,
     Schema,
     StackError,
     Status,
     build,
     check,
-    check_json,
     version,
 )
 
 SHOP = "type Query {\n  product: Product\n}\ntype Product { id: ID! price: Int }\n"
+FIELD = "type Query { a: Int }"
+Text = Union[str, bytes]
 
 
 class TestPairs(unittest.TestCase):
@@ -41,63 +46,100 @@ class TestPairs(unittest.TestCase):
     def test_accepted(self) -> None:
         report = check(SHOP, "{ product { id } }")
         self.assertTrue(report)
-        self.assertEqual((report.faults, report.text), ((), ""))
+        self.assertTrue(report.accepted)
+        self.assertEqual((report.faults, list(report), len(report), str(report)), ((), [], 0, "accepted"))
 
     def test_refused(self) -> None:
         report = check(SHOP, "{ product {\n  prize } }")
-        self.assertFalse(report.accepted)
-        (fault,) = report.faults
-        self.assertEqual((fault.text, fault.offset, fault.line, fault.column), (2, 14, 2, 3))
-        self.assertEqual(fault.message, "`Product` has no field `prize`")
-        self.assertEqual(fault.rule, "UndefinedField")
-        self.assertEqual(report.text, "refused\n2:14: `Product` has no field `prize`\n")
+        self.assertFalse(report)
+        (fault,) = report
+        self.assertIs(report[0], fault)
+        fields = {"type_name": "Product", "field_name": "prize"}
+        self.assertEqual(
+            fault,
+            Fault("document", 2, 2, 3, 2, 8, 14, 5, "UndefinedField", "`Product` has no field `prize`", "did you mean `price`?", (), fields),
+        )
+        self.assertEqual(str(report), "document:2:3: UndefinedField: `Product` has no field `prize` (did you mean `price`?)")
+
+    def test_places_in_the_schema(self) -> None:
+        (fault,) = check("type Query { a(b: Int!): Int }", "{ a }")
+        self.assertEqual(fault.related, (Related("schema", 1, 16, "the definition"),))
+        (fault,) = check("type Query { a: Missing }", "{ a }")
+        self.assertEqual((fault.path, fault.text, fault.offset, fault.rule), ("schema", 1, 16, "UndefinedDefinition"))
 
     def test_columns_are_of_characters(self) -> None:
-        (fault,) = check("type Query { a(b: String): Int }", '# \u00e9\r\n{ a(b: "\u00e9") c }').faults
+        (fault,) = check("type Query { a(b: String): Int }", '# \u00e9\r\n{ a(b: "\u00e9") c }')
         self.assertEqual((fault.offset, fault.line, fault.column), (19, 2, 13))
 
     def test_a_text_that_is_not_read(self) -> None:
-        (fault,) = check(SHOP, "{ product { id }").faults
+        (fault,) = check(SHOP, "{ product { id }")
         self.assertEqual((fault.text, fault.offset, fault.rule), (2, 16, "Syntax"))
-        (fault,) = check("", "{ product { id }").faults
+        (fault,) = check("", "{ product { id }")
         self.assertEqual((fault.text, fault.offset, fault.rule), (1, 0, "Syntax"))
 
     def test_texts_that_are_not_utf8(self) -> None:
-        with self.assertRaises(NotUtf8Error):
-            check(SHOP, b"\xff")
-        with self.assertRaises(NotUtf8Error):
-            check("\ud800", "{ a }")
+        pairs: List[Tuple[Text, Text]] = [(SHOP, b"\xff"), (b"\xc3", "{ a }"), ("\ud800", "{ a }")]
+        for schema, document in pairs:
+            with self.assertRaises(NotUtf8Error):
+                check(schema, document)
 
     def test_a_zero_byte_does_not_end_a_text(self) -> None:
-        (fault,) = check(SHOP, "{ product { id } }\0").faults
+        (fault,) = check(SHOP, "{ product { id } }\0")
         self.assertEqual((fault.offset, fault.rule), (18, "Syntax"))
+
+    def test_what_is_no_text(self) -> None:
+        wrong: List[Any] = [5, None, [123], bytearray(b"{ a }"), memoryview(b"{ a }"), b"{ a }"[0]]
+        with Schema(FIELD) as schema:
+            for text in wrong:
+                with self.assertRaises(TypeError):
+                    schema.check(text)
+                with self.assertRaises(TypeError):
+                    Schema(text)
+            with self.assertRaises(TypeError):
+                schema.check("{ a }", path=5)  # type: ignore[arg-type]
 
     def test_nesting_and_stack(self) -> None:
         with self.assertRaises(StackError):
-            check(SHOP, "{ product { id } }", nesting=399)
-        self.assertTrue(check(SHOP, "{ product { id } }", nesting=500, stack=2 << 20))
-        self.assertEqual(check(SHOP, "{ product { id } }", nesting=1).faults[0].rule, "Nesting")
-        for wrong in (-1, 1 << 63):
-            with self.assertRaises(ValueError):
-                check(SHOP, "{ product { id } }", nesting=wrong)
-
-    def test_lines_of_json(self) -> None:
-        self.assertEqual(check_json(SHOP, "{ product { id } }"), "")
-        (line,) = check_json(SHOP, "{ product {\n  prize } }").splitlines()
-        told = json.loads(line)
-        self.assertEqual([told[name] for name in ("path", "line", "column", "rule")], ["document", 2, 3, "UndefinedField"])
-        self.assertEqual(told["hint"], "did you mean `price`?")
-        (line,) = check_json("type Query { a: Missing }", "{ a }").splitlines()
-        self.assertEqual([json.loads(line)[name] for name in ("path", "offset")], ["schema", 16])
-        with self.assertRaises(NotUtf8Error):
-            check_json(SHOP, b"\xff")
+            check(FIELD, "{ a }", nesting=1 << 40)
         with self.assertRaises(StackError):
-            check_json(SHOP, "{ product { id } }", nesting=399)
+            check(FIELD, "{ a }", nesting=500, stack=100000)
+        self.assertTrue(check(FIELD, "{ a }", nesting=500))
+        self.assertTrue(check(FIELD, "{ a }", nesting=500, stack=2 << 20))
+        self.assertEqual([fault.rule for fault in check(FIELD, "{ a { b } }", nesting=1)], ["Nesting"])
+        wrong: Any
+        for wrong in -1, 1 << 63:
+            with self.assertRaises(ValueError):
+                check(FIELD, "{ a }", nesting=wrong)
+        for wrong in 1.5, True, "1":
+            with self.assertRaises(TypeError):
+                check(FIELD, "{ a }", stack=wrong)
+
+    def test_greatest_number_of_faults(self) -> None:
+        self.assertEqual([fault.fields["field_name"] for fault in check(FIELD, "{ b c d }", max_faults=2)], ["b", "c"])
+
+    def test_a_thread_with_little_stack(self) -> None:
+        told: List[object] = []
+
+        def work() -> None:
+            try:
+                check(FIELD, "{ a }", nesting=300)
+            except StackError as error:
+                told.append(error)
+            told.append(check(FIELD, "{ a }", nesting=10).accepted)
+
+        size = threading.stack_size(128 << 10)
+        try:
+            thread = threading.Thread(target=work)
+            thread.start()
+        finally:
+            threading.stack_size(size)
+        thread.join()
+        self.assertEqual([str(it) for it in told], ["the thread has too little stack for this nesting", "True"])
 
     def test_version(self) -> None:
         with open(os.path.join(TOP, "VERSION"), encoding="utf-8") as file:
             told = file.read().strip()
-        self.assertEqual(".".join(map(str, version())), told)
+        self.assertEqual((".".join(map(str, version())), graphql_checked.__version__), (told, told))
         self.assertTrue(build().startswith(f"{told} (commit "))
 
     def test_proved(self) -> None:
@@ -109,28 +151,31 @@ class TestSchemas(unittest.TestCase):
     """Schemas that are kept."""
 
     def test_texts_and_paths(self) -> None:
-        with Schema([SHOP, "extend type Product { name: String }"], paths=["shop", "names"]) as schema:
+        with Schema([SHOP, "extend type Product { name: String }"], paths=["shop", None]) as schema:
             self.assertTrue(schema.check("{ product { id name } }"))
-            (fault,) = schema.check("{ product { size } }", path="query").faults
+            (fault,) = schema.check("{ product { size } }", path="query")
             self.assertEqual((fault.path, fault.text, fault.offset, fault.line, fault.column), ("query", 3, 12, 1, 13))
-            self.assertEqual(str(fault), "query:1:13: `Product` has no field `size`")
+            self.assertEqual(schema.check("{ size }")[0].path, None)
+            (fault,) = schema.check("{ product { name(a: 1) } }", path="a \0 \ud800")
+            self.assertEqual((fault.path, fault.related[0]), ("a \0 \ud800", Related(None, 1, 23, "the definition")))
             self.assertTrue(schema.check("{ product { name } }"), "the schema is unchanged")
 
     def test_a_refused_schema_carries_its_report(self) -> None:
         with self.assertRaises(RefusedError) as refused:
             Schema([SHOP, "extend type Missing { a: Int }"], paths=["shop", "other"])
-        (fault,) = refused.exception.report.faults
-        self.assertEqual((fault.path, fault.text), ("other", 2))
-        self.assertEqual(fault.rule, "OrphanTypeExtension")
+        (fault,) = refused.exception.report
+        self.assertEqual((fault.path, fault.text, fault.rule), ("other", 2, "OrphanTypeExtension"))
         self.assertIn("`Missing`", str(refused.exception))
         self.assertEqual(pickle.loads(pickle.dumps(refused.exception)).report, refused.exception.report)
 
     def test_no_texts(self) -> None:
         with self.assertRaises(RefusedError) as refused:
             Schema([])
-        self.assertEqual([fault.rule for fault in refused.exception.report.faults], ["QueryRootOperationType"])
+        self.assertEqual([(fault.rule, fault.line, fault.path) for fault in refused.exception.report], [("QueryRootOperationType", None, None)])
         with self.assertRaises(ValueError):
             Schema([SHOP], paths=["one", "two"])
+        with self.assertRaises(ValueError):
+            Schema([SHOP], paths=[])
 
     def test_canonical_texts(self) -> None:
         with Schema("type Query{a:Int}") as schema:
@@ -140,35 +185,42 @@ class TestSchemas(unittest.TestCase):
             self.assertEqual(schema.document_text("{a}", None), "{ a }")
             with self.assertRaises(RefusedError) as refused:
                 schema.document_text("{b}", path="query")
-            self.assertEqual(refused.exception.report.faults[0].path, "query")
-            for wrong in ("--", -1):
+            self.assertEqual(refused.exception.report[0].path, "query")
+            indents: List[Union[int, str]] = ["--", -1, " \0"]
+            for wrong in indents:
                 with self.assertRaises(ValueError):
                     schema.text(wrong)
 
-    def test_a_report_longer_than_the_room(self) -> None:
+    def test_long_answers(self) -> None:
         fields = " ".join(f"missing{i}" for i in range(500))
         with Schema("type Query{a:Int}") as schema:
             report = schema.check("{" + fields + "}")
-        self.assertEqual(len(report.faults), 500)
-        self.assertEqual(report.faults[499].message, "`Query` has no field `missing499`")
-
-    def test_a_text_longer_than_the_room(self) -> None:
+        self.assertEqual((len(report), report[499].message), (500, "`Query` has no field `missing499`"))
         fields = " ".join(f"field{i}: Int" for i in range(2000))
         with Schema("type Query{" + fields + "}") as schema:
             self.assertEqual(schema.text(None), "type Query { " + fields + " }")
 
     def test_a_closed_schema(self) -> None:
-        schema = Schema("type Query{a:Int}")
+        schema = Schema(FIELD, paths=["a.graphql"])
+        self.assertEqual(repr(schema), "<graphql_checked.Schema: 1 texts, a.graphql>")
         schema.close()
         schema.close()
-        with self.assertRaises(ValueError):
-            schema.check("{a}")
-        with self.assertRaises(ValueError):
-            schema.text()
+        self.assertEqual(repr(schema), "<graphql_checked.Schema: closed, a.graphql>")
+        calls: List[Callable[[], object]] = [lambda: schema.check("{a}"), schema.text, lambda: copy.copy(schema)]
+        for call in calls:
+            with self.assertRaises(ValueError):
+                call()
+
+    def test_copies_open_the_texts_again(self) -> None:
+        schema = Schema([FIELD, "extend type Query { b: Int }"], paths=["a", "b"], max_faults=1)
+        for other in copy.copy(schema), copy.deepcopy(schema), pickle.loads(pickle.dumps(schema)):
+            self.assertEqual(len(other.check("{ c d }")), 1)
+            other.close()
+            self.assertEqual(schema.check("{ c }", path="q"), schema.check("{ c }", path="q"))
 
     def test_threads_wait_for_each_other(self) -> None:
-        answers = []
-        with Schema("type Query{a:Int}") as schema:
+        answers: List[bool] = []
+        with Schema(FIELD) as schema:
 
             def work() -> None:
                 answers.extend(bool(schema.check("{a}" if i % 2 else "{b}")) for i in range(100))
@@ -179,6 +231,47 @@ class TestSchemas(unittest.TestCase):
             for thread in threads:
                 thread.join()
         self.assertEqual((answers.count(True), answers.count(False)), (200, 200))
+
+    def test_a_signal_handler_asks_too(self) -> None:
+        asked: List[int] = []
+        with Schema(FIELD) as schema:
+            document = "{" + " b" * 900 + "}"
+            old = signal.signal(signal.SIGALRM, lambda *_: asked.append(len(schema.check("{ c d }"))))
+            signal.setitimer(signal.ITIMER_REAL, 0.001, 0.001)
+            try:
+                while len(asked) < 50:
+                    self.assertEqual(len(schema.check(document)), 900)
+            finally:
+                signal.setitimer(signal.ITIMER_REAL, 0)
+                signal.signal(signal.SIGALRM, old)
+        self.assertEqual(set(asked), {2})
+
+    def test_children_that_are_forked_while_a_thread_checks(self) -> None:
+        with Schema(FIELD) as schema:
+            is_over = threading.Event()
+
+            def work() -> None:
+                while not is_over.is_set():
+                    schema.check("{" + " b" * 300 + "}")
+
+            thread = threading.Thread(target=work)
+            thread.start()
+            try:
+                for _ in range(20):
+                    child = os.fork()
+                    if not child:
+                        signal.alarm(20)
+                        status = 1
+                        try:
+                            status = 0 if schema.check("{ a }") and len(schema.check("{ b c }")) == 2 else 2
+                            schema.close()
+                        finally:
+                            os._exit(status)
+                    self.assertEqual(os.waitpid(child, 0)[1], 0)
+                    time.sleep(0.01)
+            finally:
+                is_over.set()
+                thread.join()
 
     def test_many_schemas_are_freed(self) -> None:
         for _ in range(200):
@@ -191,7 +284,7 @@ class TestNames(unittest.TestCase):
 
     def test_statuses_are_those_of_the_header(self) -> None:
         with open(os.path.join(TOP, "include/graphql_checked.h"), encoding="utf-8") as header:
-            found = dict(re.findall(r"GRAPHQL_(\w+) = (\d+)", header.read()))
+            found = dict(re.findall(r"GRAPHQL_CHECKED_(\w+) = (\d+)", header.read()))
         self.assertEqual(found, {status.name: str(status.value) for status in Status})
 
     def test_a_library_that_is_not_there(self) -> None:
@@ -212,43 +305,21 @@ class TestNames(unittest.TestCase):
             case.schema = case.schema if case.schema.plain else common.schema
             yield case, case.message(rules[case.rule][0]), rules[case.rule][1]
 
-    def test_both_reports_say_the_same(self) -> None:
-        with open(os.path.join(TOP, "examples/shop/schema.graphql"), encoding="utf-8") as file:
-            schema = file.read()
-        paths = glob.glob(os.path.join(TOP, "examples/*/*.graphql"))
-        self.assertGreater(len(paths), 20)
-        for path in paths:
-            with self.subTest(path=path), open(path, encoding="utf-8") as file:
-                text = file.read()
-                found = [(fault.offset, fault.line, fault.column, fault.message) for fault in check(schema, text).faults]
-                lines = map(json.loads, check_json(schema, text).splitlines())
-                told = [tuple(line[name] for name in ("offset", "line", "column", "message")) for line in lines]
-                self.assertEqual(sorted(map(str, told)), sorted(map(str, found)))
-
-    def test_each_rule_as_json(self) -> None:
+    def test_each_rule_has_what_is_told_of_it(self) -> None:
         for case, message, types in self.cases():
             with self.subTest(rule=case.rule):
                 case.schema.path, case.document.path = "schema", "document"
-                told = [json.loads(line) for line in check_json(case.schema.plain, case.document.plain).splitlines()]
-                self.assertEqual([fault["rule"] for fault in told], case.told)
-                self.assertEqual([fault for fault in told if fault["rule"] == case.rule], [case.object(message, types)])
+                report = check(case.schema.plain, case.document.plain)
+                self.assertEqual([fault.rule for fault in report], case.told)
+                self.assertEqual([as_json(fault) for fault in report if fault.rule == case.rule], [case.object(message, types)])
 
-    def test_each_rule_has_its_name_and_place(self) -> None:
-        for case, message, _ in self.cases():
-            with self.subTest(rule=case.rule):
-                place = case.place_of("«")
-                wanted = (place.path, *place.position(place.at["«"]), message)
-                told = self.report(case.schema.plain, case.document.plain).faults
-                found = [(fault.path, fault.line, fault.column, fault.message) for fault in told if case.rule in fault.rules]
-                self.assertIn(wanted, found)
 
-    def report(self, schema: str, document: str) -> Report:
-        """What is found of a schema text, or else of a document over it."""
-        try:
-            with Schema(schema, paths=["schema.graphql"]) as held:
-                return held.check(document, path="document.graphql")
-        except RefusedError as refused:
-            return refused.report
+def as_json(fault: Fault) -> Dict[str, Any]:
+    """The fault as `graphql-report --format json` tells it."""
+    told: Dict[str, Any] = json.loads(json.dumps(vars(fault), default=vars))
+    line, column = told.pop("end_line"), told.pop("end_column")
+    told.pop("text")
+    return {**told, "end": None if line is None else {"line": line, "column": column}}
 
 
 if __name__ == "__main__":

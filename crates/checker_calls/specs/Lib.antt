@@ -5,6 +5,7 @@ pub mod TextsView
 pub mod TellsOnly
 pub mod Devices
 pub mod ReadFaults
+pub mod Parts
 pub mod ExitStatus
 pub mod Refusals
 pub mod Layouts

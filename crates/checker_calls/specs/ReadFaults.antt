@@ -1,5 +1,5 @@
 -- Private: leads to `RunFaultIsDue`. Why readers give no texts, and why an answer is not out.
-use Rattle.std.specs.Prelude.{◌≡◌, ℕ, ◌<◌, true, List, length, take, Option}
+use Rattle.std.specs.Prelude.{◌≡◌, ℕ, ◌+◌, ◌<◌, true, List, length, take, Option}
 use Rattle.std.specs.Io.KnownBytes.{Appends}
 use Rattle.graphql_names.specs.declared.device.Device.{Device}
 use Rattle.graphql_names.specs.Device.{device_inner, device_failed}
@@ -39,3 +39,7 @@ IsPutFault contents old new bytes (run.Writer count) =
 IsPutFault contents old new bytes run.Memory = ⊥
 IsPutFault contents old new bytes (run.Reader number) = ⊥
 IsPutFault contents old new bytes (run.NotUtf8 number) = ⊥
+
+-- the same of bytes after so many others, which are out
+abbrev pub IsPutFaultAfter : {W : Type 0} → (W → Option (List ℕ)) → ℕ → Device W → Device W → List ℕ → RunFault → Type 0
+IsPutFaultAfter contents before old new bytes fault = (count : ℕ) × (fault ≡ run.Writer (before + count)) × IsPutFault contents old new bytes (run.Writer count)

@@ -1,7 +1,9 @@
 -- What a refusal of texts is answered as.
-use Rattle.std.specs.Prelude.{◌≡◌, ℕ, ◌++◌, List, flat_map, codes, Result, Ok, Err, Vec}
+use Rattle.std.specs.Prelude.{◌≡◌, ℕ, ◌++◌, List, flat_map, codes, Result, Ok, Err}
 use Rattle.verdict_definitions.specs.in_faults.DetailsView.{diagnostics_of}
 use Rattle.verdict_definitions.specs.Answer.{fault_line}
+use Rattle.checker_calls.specs.Parts.{parts_bytes, AreSound}
+use Rattle.checker_calls.specs.declared.parts.Parts.{Parts}
 use Rattle.checker_calls.specs.declared.refusal.Refusal.{Refusal}
 use Rattle.checker_calls.specs.declared.refusal.Refusal.TheVariants as refusal
 use Rattle.checker_calls.specs.declared.run_fault.Outcome.{Outcome}
@@ -20,8 +22,8 @@ refusal_verdict refusal.Memory = Err error.Memory
 refusal_verdict refusal.Failed = Err error.Memory
 
 -- the refusal of some texts, with the bytes that go with it; none says that a checker has failed
-abbrev pub IsAnswerOfRefusal : {Z : Type 0} → Refusal → Result (Outcome × Vec ℕ Z) RunFault → Type 0
-IsAnswerOfRefusal (refusal.Faults list) (Ok (outcome, bytes)) = (outcome ≡ Refused) × (bytes.items ≡ codes "refused\n" ++ flat_map fault_line (diagnostics_of list))
+abbrev pub IsAnswerOfRefusal : Refusal → Result (Outcome × Parts) RunFault → Type 0
+IsAnswerOfRefusal (refusal.Faults list) (Ok (outcome, parts)) = (outcome ≡ Refused) × AreSound parts × (parts_bytes parts ≡ codes "refused\n" ++ flat_map fault_line (diagnostics_of list))
 IsAnswerOfRefusal (refusal.Faults list) (Err fault) = fault ≡ run.Memory
 IsAnswerOfRefusal refusal.Memory answer = answer ≡ Err run.Memory
 IsAnswerOfRefusal refusal.Failed answer = ⊥

@@ -6,9 +6,13 @@ ghost use Rattle.std.specs.Option.{option_copied};
 ghost use Rattle.verdict_definitions.specs.in_faults.DetailsView.{details_at, diagnostics_of};
 ghost use Rattle.verdict_definitions.specs.Answer.{fault_line, place_text};
 ghost use Rattle.verdict_definitions.specs.Out.{as_lines};
+ghost use Rattle.checker_calls.specs.Parts.{parts_bytes, AreSound, AddsBytes};
 
+use crate::parts::Parts;
 use graphql_names::{FileId, SourceSpan};
 use std::alloc::{AllocError, Global};
+use std::fmt;
+use std::fmt::Write;
 use verdict_definitions::{Details, DiagnosticList};
 
 /// `accepted`, and the two written texts, each ending with a line feed: a text under a prefix has one, a text on one line gets one.
@@ -17,14 +21,14 @@ pub fn accepted(
     written_schema: &str,
     written_document: &str,
     prefix: Option<&str>,
-) -> Result<Vec<u8>, AllocError>
-    ensures { IfOk result (λ bytes. bytes.items
-        ≡ codes "accepted\n" ++ as_lines (option_copied prefix.entry) written_schema.now ++ as_lines (option_copied prefix.entry) written_document.now) }
+) -> Result<Parts, AllocError>
+    ensures { IfOk result (λ parts. AreSound parts × (parts_bytes parts
+        ≡ codes "accepted\n" ++ as_lines (option_copied prefix.entry) written_schema.now ++ as_lines (option_copied prefix.entry) written_document.now)) }
 {
     let mut text = String::from_str(alloc, "accepted\n")?;
     push_as_lines(&mut text, written_schema, prefix)?;
     push_as_lines(&mut text, written_document, prefix)?;
-    Ok(text.into_bytes())
+    Ok(Parts::of(alloc, text.into_bytes()))
 }
 
 /// Adds a written text, and a line feed where it is all on one line.
@@ -47,6 +51,34 @@ pub fn refused(alloc: Global, list: &DiagnosticList) -> Result<Vec<u8>, AllocErr
         text.push_str(&line(alloc, *place, details)?)?;
     }
     Ok(text.into_bytes())
+}
+
+/// `refused`, and a line for each fault, in parts.
+pub(crate) fn refused_parts(alloc: Global, list: &DiagnosticList) -> Result<Parts, AllocError>
+    ensures { IfOk result (λ parts. AreSound parts × (parts_bytes parts ≡ codes "refused\n" ++ flat_map fault_line (diagnostics_of list.now))) }
+{
+    let mut parts = Parts::of(alloc, Vec::new(alloc));
+    parts.add(b"refused\n")?;
+    for (place, details) in list.iter().as_slice() {
+        add_line(alloc, &mut parts, *place, details)?;
+    }
+    Ok(parts)
+}
+
+/// Adds the line of a fault.
+fn add_line(
+    alloc: Global,
+    parts: &mut Parts,
+    place: Option<SourceSpan>,
+    details: &Details,
+) -> Result<(), AllocError>
+    ensures { OnOk result (AddsBytes parts.old (fault_line (details_at (place, details.now))) parts.new) }
+{
+    let place = place_line(alloc, place)?;
+    match write!(parts, "{place}: {details}\n") {
+        Ok(()) => Ok(()),
+        Err(fmt::Error) => Err(AllocError),
+    }
 }
 
 /// The line of a fault: its place, and what it tells.

@@ -10,9 +10,10 @@
 //!   program's arguments, read by `clap` (`specs/Program.antt`, `specs/ReadSettings.antt`; `command.rt`).
 //! - **Devices**: readers are read to their ends, in turn, and what they hold is a text where it is UTF-8 (`read_device.rt`). An
 //!   answer is written whole (`write_device.rt`).
-//! - **Answers**: an answer is `accepted` and two written texts, or `refused` and a line for each fault (`answer.rt`). How a run
-//!   ends has a status (`run_fault.rt`, `status.rt`). A call that judges texts gives a verdict (`verdict.rt`), that of a refusal
-//!   among others (`refusals.rt`).
+//! - **Answers**: an answer is `accepted` and two written texts, or `refused` and a line for each fault (`answer.rt`). It is made
+//!   before it is written, in parts, of which a long one that comes again is kept once (`parts.rt`). How a run ends has a status
+//!   (`run_fault.rt`, `status.rt`). A call that judges texts gives a verdict (`verdict.rt`), that of a refusal among others
+//!   (`refusals.rt`).
 //!
 //! Begin with `schema_texts.rt`, `layout.rt` and `settings.rt`; then `specs/Devices.antt` here, and `specs/Answer.antt` of
 //! `verdict_definitions`.
@@ -21,6 +22,7 @@
 mod answer;
 mod command;
 mod layout;
+mod parts;
 mod read_device;
 mod reading;
 mod refusal;
@@ -34,6 +36,7 @@ mod write_device;
 
 pub use answer::{accepted, refused};
 pub use layout::{Layout, written};
+pub use parts::Parts;
 pub use read_device::{TextFault, numbered, read_text, read_texts};
 pub use reading::{Unread, read};
 pub use refusal::{Refusal, only};

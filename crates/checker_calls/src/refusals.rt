@@ -4,7 +4,8 @@ ghost use Rattle.std.specs.Prelude.{◌≡◌, ◌≢◌};
 ghost use Rattle.checker_calls.specs.declared.refusal.Refusal.TheVariants.{Failed};
 ghost use Rattle.checker_calls.specs.Refusals.{refusal_verdict, IsAnswerOfRefusal};
 
-use crate::answer::refused;
+use crate::answer::refused_parts;
+use crate::parts::Parts;
 use crate::refusal::Refusal;
 use crate::run_fault::{Outcome, RunFault};
 use crate::verdict::{CheckError, Verdict};
@@ -23,12 +24,12 @@ pub fn verdict_of(refusal: Refusal) -> Result<Verdict, CheckError>
 }
 
 /// The outcome of a refusal of texts, which is none of a checker that has failed, and the bytes that go with it.
-pub fn refusal_answer(alloc: Global, refusal: Refusal) -> Result<(Outcome, Vec<u8>), RunFault>
+pub fn refusal_answer(alloc: Global, refusal: Refusal) -> Result<(Outcome, Parts), RunFault>
     requires { refusal ≢ Failed }
     ensures { IsAnswerOfRefusal refusal result }
 {
     match refusal {
-        Refusal::Faults(list) => Ok((Outcome::Refused, refused(alloc, &list)?)),
+        Refusal::Faults(list) => Ok((Outcome::Refused, refused_parts(alloc, &list)?)),
         Refusal::Memory => Err(RunFault::Memory),
         Refusal::Failed => unreachable!(),
     }

@@ -17,6 +17,13 @@ impl fmt::Display for DiagnosticData {
     }
 }
 
+/// Its message.
+impl fmt::Debug for DiagnosticData {
+    fn fmt<W: fmt::Write>(&self, f: &mut fmt::Formatter<W>) -> fmt::Result {
+        fmt::Display::fmt(self, f)
+    }
+}
+
 /// The template of each variant, with what fills its gaps.
 fn template_of(diagnostic: &DiagnosticData) -> Template<'_>
     ensures { filled result ≡ diagnostic_message (diagnostic_of diagnostic.now) }

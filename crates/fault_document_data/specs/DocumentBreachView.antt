@@ -1,5 +1,5 @@
 -- What contracts see of a `BuildError` of documents.
-use Rattle.std.specs.Prelude.{ℕ, List, map, Option}
+use Rattle.std.specs.Prelude.{ℕ, List, Option}
 use Rattle.std.specs.Option.{option_map}
 use Rattle.std.specs.String.{string_bytes}
 use Rattle.graphql_names.specs.NameValue.{NameValue}
@@ -51,7 +51,7 @@ document_breach_of (rust.UndefinedField t f) = breach.UndefinedField t.text f.te
 document_breach_of (rust.ConflictingFieldName c) = name_conflict c.value
 document_breach_of (rust.ConflictingFieldArgument c) = argument_conflict c.value
 document_breach_of (rust.ConflictingFieldType c) = type_conflict c.value
-document_breach_of (rust.SubscriptionUsesMultipleFields n fs) = breach.SubscriptionUsesMultipleFields (option_map text_of_name n) (map text_of_name fs.items)
+document_breach_of (rust.SubscriptionUsesMultipleFields n) = breach.SubscriptionUsesMultipleFields (option_map text_of_name n)
 document_breach_of (rust.SubscriptionUsesIntrospection n f) = breach.SubscriptionUsesIntrospection (option_map text_of_name n) f.text
 document_breach_of (rust.SubscriptionUsesConditionalSelection n) = breach.SubscriptionUsesConditionalSelection (option_map text_of_name n)
 document_breach_of rust.DeferLabelMustNotBeVariable = breach.DeferLabelMustNotBeVariable

@@ -27,7 +27,7 @@ pub data DocumentBreach (P : Type 0) : Type 0 where
   ConflictingFieldName : (alias : List ℕ) (original conflicting : Selected P (Unit {0})) → DocumentBreach P
   ConflictingFieldArgument : (alias : List ℕ) (original conflicting : Selected P (Option (ValueTree (Unit {0})))) → DocumentBreach P
   ConflictingFieldType : (alias : List ℕ) (original conflicting : Selected P (TypeTree (Unit {0}))) → DocumentBreach P
-  SubscriptionUsesMultipleFields : (name : Option (List ℕ)) (fields : List (List ℕ)) → DocumentBreach P
+  SubscriptionUsesMultipleFields : (name : Option (List ℕ)) → DocumentBreach P
   SubscriptionUsesIntrospection : (name : Option (List ℕ)) (field : List ℕ) → DocumentBreach P
   SubscriptionUsesConditionalSelection : (name : Option (List ℕ)) → DocumentBreach P
   DeferLabelMustNotBeVariable : DocumentBreach P

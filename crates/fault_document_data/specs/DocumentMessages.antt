@@ -18,7 +18,7 @@ module _ {P : Type 0} where
   document_message (ConflictingFieldName alias original conflicting) = codes "`" ++ (alias ++ codes "` is selected with different fields")
   document_message (ConflictingFieldArgument alias original conflicting) = codes "`" ++ (alias ++ codes "` is selected with different arguments")
   document_message (ConflictingFieldType alias original conflicting) = codes "`" ++ (alias ++ codes "` is selected with different types")
-  document_message (SubscriptionUsesMultipleFields name fields) = codes "a subscription must have one root field"
+  document_message (SubscriptionUsesMultipleFields name) = codes "a subscription must have one root field"
   document_message (SubscriptionUsesIntrospection name field) = codes "a subscription must not select `" ++ (field ++ codes "` at its root")
   document_message (SubscriptionUsesConditionalSelection name) = codes "a subscription must not use @skip or @include at its root"
   document_message DeferLabelMustNotBeVariable = codes "a label of @defer must not be a variable"

@@ -7,6 +7,7 @@ use tree_operations::OperationType;
 
 /// What breaks a rule of typing documents, of merging, of subscriptions or of `@defer`, with the data that belong to it
 /// (section 5). Fields that end in `location` are places, None where there is none.
+#[derive(PartialEq, Eq)]
 pub enum BuildError {
     /// A definition of the type system in a document (section 5.1.1).
     TypeSystemDefinition,
@@ -54,7 +55,6 @@ pub enum BuildError {
     /// A subscription selects more than one field at its root (section 5.2.3.1).
     SubscriptionUsesMultipleFields {
         name: Option<Name>,
-        fields: Vec<Name>,
     },
     /// A subscription selects a meta-field at its root (section 5.2.3.1).
     SubscriptionUsesIntrospection {
@@ -99,7 +99,7 @@ impl Drop for BuildError {
             | BuildError::ConflictingFieldName(_)
             | BuildError::ConflictingFieldArgument(_)
             | BuildError::ConflictingFieldType(_)
-            | BuildError::SubscriptionUsesMultipleFields { name: _, fields: _ }
+            | BuildError::SubscriptionUsesMultipleFields { name: _ }
             | BuildError::SubscriptionUsesIntrospection { name: _, field: _ }
             | BuildError::SubscriptionUsesConditionalSelection { name: _ }
             | BuildError::DeferLabelMustNotBeVariable
@@ -114,6 +114,7 @@ impl Drop for BuildError {
 }
 
 /// Two fields of one response key that are different fields.
+#[derive(PartialEq, Eq)]
 pub struct ConflictingFieldName {
     /// The response key.
     pub alias: Name,
@@ -137,6 +138,7 @@ impl Drop for ConflictingFieldName {
 }
 
 /// Two fields of one response key that give an argument different values, or of which one does not give it.
+#[derive(PartialEq, Eq)]
 pub struct ConflictingFieldArgument {
     /// The response key.
     pub alias: Name,
@@ -164,6 +166,7 @@ impl Drop for ConflictingFieldArgument {
 }
 
 /// Two fields of one response key whose types have different shapes.
+#[derive(PartialEq, Eq)]
 pub struct ConflictingFieldType {
     /// The response key.
     pub alias: Name,

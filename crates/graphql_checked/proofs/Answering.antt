@@ -1,12 +1,13 @@
 -- The bytes that go with an accepted pair and with refusals.
 use Rattle.std.proofs.Common.{◌≡◌, ℕ, List, Result, Ok, Err, inl, refl, sym, ap, subst}
-use Rattle.std.specs.Prelude.{Vec}
 use Rattle.graphql_names.specs.Placed.{Place}
 use Rattle.document_meaning.specs.MeantTree.{MeantDocument}
 use Rattle.graphql_faults.specs.DetailsView.{diagnostics_of}
 use Rattle.book_validity.specs.in_verdict_definitions.Texts.{SourceText, Terms}
 use Rattle.book_validity.specs.in_verdict_definitions.Out.{Layout, layout_text}
 use Rattle.book_validity.specs.in_verdict_definitions.Answer.{WritesDocument}
+use Rattle.checker_calls.specs.Parts.{parts_bytes}
+use Rattle.checker_calls.specs.declared.parts.Parts.{Parts}
 use Rattle.checker_calls.specs.declared.run_fault.Outcome.{Outcome}
 use Rattle.checker_calls.specs.declared.run_fault.Outcome.TheVariants.{Accepted}
 use Rattle.checker_calls.specs.declared.run_fault.RunFault.{RunFault}
@@ -36,25 +37,25 @@ module _ (terms : Terms) (texts : List SourceText) (text : SourceText) (schema :
   )
 
   -- the answer of a document's refusal
-  pub document_answer : {Z : Type 0} (layout : Layout) (refusal : Refusal) (answer : Result (Outcome × Vec ℕ Z) RunFault)
+  pub document_answer : (layout : Layout) (refusal : Refusal) (answer : Result (Outcome × Parts) RunFault)
       → RefusalOfDocument schema text refusal → IsAnswerOfRefusal refusal answer → IsAnswerTo layout terms texts text answer
-  document_answer layout (Faults list) (Ok (outcome, bytes)) h of =
-      subst (λ o. BytesOf terms layout o texts text bytes.items) (sym of.0) (record { faults = diagnostics_of list; refused = refused_pair terms texts text schema is (diagnostics_of list) h; is = of.1 })
+  document_answer layout (Faults list) (Ok (outcome, parts)) h of =
+      (of.1, subst (λ o. BytesOf terms layout o texts text (parts_bytes parts)) (sym of.0) (record { faults = diagnostics_of list; refused = refused_pair terms texts text schema is (diagnostics_of list) h; is = of.2 }))
   document_answer layout (Faults list) (Err fault) h of = of
   document_answer layout Memory answer h of = rw of refl
   document_answer layout Failed answer h of = absurd h
 
 -- the answer of a refusal of schema texts
-pub schemas_answer : {Z : Type 0} (terms : Terms) (texts : List SourceText) (text : SourceText) (layout : Layout) (refusal : Refusal) (answer : Result (Outcome × Vec ℕ Z) RunFault)
+pub schemas_answer : (terms : Terms) (texts : List SourceText) (text : SourceText) (layout : Layout) (refusal : Refusal) (answer : Result (Outcome × Parts) RunFault)
     → RefusalOfSchemas terms texts refusal → IsAnswerOfRefusal refusal answer → IsAnswerTo layout terms texts text answer
-schemas_answer terms texts text layout (Faults list) (Ok (outcome, bytes)) h of =
-    subst (λ o. BytesOf terms layout o texts text bytes.items) (sym of.0) (record { faults = diagnostics_of list; refused = inl h; is = of.1 })
+schemas_answer terms texts text layout (Faults list) (Ok (outcome, parts)) h of =
+    (of.1, subst (λ o. BytesOf terms layout o texts text (parts_bytes parts)) (sym of.0) (record { faults = diagnostics_of list; refused = inl h; is = of.2 }))
 schemas_answer terms texts text layout (Faults list) (Err fault) h of = of
 schemas_answer terms texts text layout Memory answer h of = rw of refl
 schemas_answer terms texts text layout Failed answer h of = absurd h
 
 -- want of memory is answered as it is
-pub memory_answer : {Z : Type 0} (refusal : Refusal) (answer : Result (Outcome × Vec ℕ Z) RunFault) → refusal ≡ Memory → IsAnswerOfRefusal refusal answer → AcceptsOrFails answer
+pub memory_answer : (refusal : Refusal) (answer : Result (Outcome × Parts) RunFault) → refusal ≡ Memory → IsAnswerOfRefusal refusal answer → AcceptsOrFails answer
 memory_answer (Faults list) answer is of = absurd cc
 memory_answer Memory answer is of = rw of tt
 memory_answer Failed answer is of = absurd cc

@@ -2,7 +2,7 @@
 use Rattle.std.proofs.Common.{inl, inr, ◌≡◌, ℕ, zero, suc, List, [], ◌∷◌, length, map, get_or, Option, ap, sym, subst, refl, ◌∙◌, arith}
 use Rattle.std.proofs.lemmas.List.{length-map}
 use Rattle.std.proofs.lemmas.Str.{IsUtf8-string_bytes}
-use Rattle.std.specs.Prelude.{Err, Ok, IfSome, IsUtf8, String, string_bytes, Vec}
+use Rattle.std.specs.Prelude.{Err, Ok, IfSome, IsUtf8, String, string_bytes}
 use Rattle.std.specs.List.{All, AllZip}
 use Rattle.graphql_names.specs.declared.device.Device.{Device}
 use Rattle.graphql_names.specs.Device.{device_failed}
@@ -14,6 +14,7 @@ use Rattle.checker_calls.specs.Devices.{IsTextOf, TellsText, AreTextsOf, IsNotUt
 use Rattle.checker_calls.specs.ReadFaults.{IsTextFault, numbered_fault, IsReadFault, IsPutFault}
 use Rattle.checker_calls.specs.declared.read_device.TextFault.{TextFault}
 use Rattle.checker_calls.specs.declared.read_device.TextFault.TheVariants as text
+use Rattle.checker_calls.specs.declared.parts.Parts.{Parts}
 use Rattle.checker_calls.specs.declared.run_fault.Outcome.{Outcome}
 use Rattle.checker_calls.specs.declared.run_fault.Outcome.TheVariants.{Accepted, Refused}
 use Rattle.checker_calls.specs.declared.run_fault.RunFault.{RunFault}
@@ -62,9 +63,9 @@ module _ {R : Type 0} (remaining : R → Option (List ℕ)) where
 
 -- ---- what is answered of a certain pair
 
-pub certain_outcome : {Z : Type 0} (outcome : Outcome) (bytes : Vec ℕ Z) → AcceptsOrFails (Ok (outcome, bytes)) → IsAnswerToCertain (Ok outcome)
-certain_outcome Accepted bytes h = tt
-certain_outcome Refused bytes h = h
+pub certain_outcome : (outcome : Outcome) (parts : Parts) → AcceptsOrFails (Ok (outcome, parts)) → IsAnswerToCertain (Ok outcome)
+certain_outcome Accepted parts h = tt
+certain_outcome Refused parts h = h
 
 pub certain_fault : (fault : RunFault) → fault ≡ Memory → IsAnswerToCertain (Err fault)
 certain_fault fault is = rw is tt

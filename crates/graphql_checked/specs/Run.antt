@@ -1,5 +1,5 @@
 -- What `run` reads and puts out.
-use Rattle.std.specs.Prelude.{◌≡◌, ℕ, ◌+◌, ◌<◌, ◌++◌, true, List, length, take, codes, Option, ◌⊎◌, Result, Ok, Err, Vec, IsUtf8}
+use Rattle.std.specs.Prelude.{◌≡◌, ℕ, ◌+◌, ◌<◌, ◌++◌, true, List, length, take, codes, Option, ◌⊎◌, Result, Ok, Err, IsUtf8}
 use Rattle.std.specs.List.{All, AllZip}
 use Rattle.std.specs.Io.KnownBytes.{Appends}
 use Rattle.graphql_names.specs.declared.device.Device.{Device}
@@ -10,6 +10,8 @@ use Rattle.book_validity.specs.in_verdict_definitions.Out.{Layout, layout_text, 
 use Rattle.book_validity.specs.in_verdict_definitions.Answer.{WritesDocument, AcceptedBytes, RefusedBytes, Answer}
 use Rattle.book_validity.specs.Yes.{IsYes}
 use Rattle.checker_calls.specs.Devices.{IsTextOf, TellsText, AreTextsOf, IsReadToEnd, AreReadToEnd, IsNotUtf8Of, IsNotUtf8At, HasFailedAt}
+use Rattle.checker_calls.specs.Parts.{parts_bytes, AreSound}
+use Rattle.checker_calls.specs.declared.parts.Parts.{Parts}
 use Rattle.checker_calls.specs.declared.run_fault.Outcome.{Outcome}
 use Rattle.checker_calls.specs.declared.run_fault.Outcome.TheVariants.{Accepted, Refused}
 use Rattle.checker_calls.specs.declared.run_fault.RunFault.{RunFault}
@@ -74,14 +76,14 @@ module _ {R D W : Type 0} (of_schema : R → Option (List ℕ)) (of_document : D
 -- ---- private: what the parts of a run answer
 
 -- the outcome for the texts, with the bytes that go with it; or memory ran out
-abbrev pub IsAnswerTo : {Z : Type 0} → Layout → Terms → List SourceText → SourceText → Result (Outcome × Vec ℕ Z) RunFault → Type 0
-IsAnswerTo layout terms texts text (Ok (outcome, bytes)) = BytesOf terms layout outcome texts text bytes.items
+abbrev pub IsAnswerTo : Layout → Terms → List SourceText → SourceText → Result (Outcome × Parts) RunFault → Type 0
+IsAnswerTo layout terms texts text (Ok (outcome, parts)) = AreSound parts × BytesOf terms layout outcome texts text (parts_bytes parts)
 IsAnswerTo layout terms texts text (Err fault) = fault ≡ Memory
 
 -- the pair is accepted, or no outcome is answered
-abbrev pub AcceptsOrFails : {Z : Type 0} → Result (Outcome × Vec ℕ Z) RunFault → Type 0
-AcceptsOrFails (Ok (Accepted, bytes)) = Unit {0}
-AcceptsOrFails (Ok (Refused, bytes)) = ⊥
+abbrev pub AcceptsOrFails : Result (Outcome × Parts) RunFault → Type 0
+AcceptsOrFails (Ok (Accepted, parts)) = Unit {0}
+AcceptsOrFails (Ok (Refused, parts)) = ⊥
 AcceptsOrFails (Err fault) = Unit {0}
 
 -- These bytes go with the document of this text, which is accepted over the schema.

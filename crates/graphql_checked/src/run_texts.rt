@@ -5,6 +5,7 @@ ghost use Rattle.std.specs.Option.{option_copied};
 ghost use Rattle.graphql_names.specs.Device.{device_failed};
 ghost use Rattle.checker_calls.specs.Devices.{HaveNotFailed};
 ghost use Rattle.checker_calls.specs.Layouts.{prefix_of};
+ghost use Rattle.checker_calls.specs.Parts.{parts_bytes, AreSound};
 ghost use Rattle.book_validity.specs.in_verdict_definitions.Judge.{IsCertain};
 ghost use Rattle.graphql_checked.specs.CheckedView.{schema_value, document_value};
 ghost use Rattle.checker_schemas.specs.CheckedSchemaValue.{IsCheckedSchemaOf};
@@ -17,7 +18,8 @@ use crate::checked_schema::CheckedSchema;
 use crate::checker::Limits;
 use crate::verdict::schema_of;
 use checker_calls::{
-    Layout, Outcome, RunFault, accepted, numbered, put, read_text, read_texts, refusal_answer,
+    Layout, Outcome, Parts, RunFault, accepted, numbered, put, read_text, read_texts,
+    refusal_answer,
 };
 use graphql_names::Device;
 use std::alloc::{AllocError, Global};
@@ -63,7 +65,7 @@ fn judge(
     document: &str,
     limits: Limits,
     layout: Layout<'_>,
-) -> Result<(Outcome, Vec<u8>), RunFault>
+) -> Result<(Outcome, Parts), RunFault>
     ensures answer { IsAnswerTo (prefix_of layout.entry) (first_terms limits.nesting) (map string_bytes schemas.now) document.now result }
     ensures complete { IsCertain (first_terms limits.nesting) (map string_bytes schemas.now) document.now → AcceptsOrFails result }
 {
@@ -79,7 +81,7 @@ fn judge_document(
     schema: &CheckedSchema,
     document: &str,
     layout: Layout<'_>,
-) -> Result<(Outcome, Vec<u8>), RunFault>
+) -> Result<(Outcome, Parts), RunFault>
     ensures answer { (terms : _) (schemas : _) → IsCheckedSchemaOf terms schemas (schema_value schema.now) → IsAnswerTo (prefix_of layout.entry) terms schemas document.now result }
     ensures complete { (terms : _) (schemas : _) → IsCheckedSchemaOf terms schemas (schema_value schema.now) → IsCertain terms schemas document.now → AcceptsOrFails result }
 {
@@ -94,8 +96,8 @@ fn accepted_answer(
     alloc: Global,
     document: &CheckedDocument<'_>,
     layout: Layout<'_>,
-) -> Result<Vec<u8>, AllocError>
-    ensures { IfOk result (λ bytes. IsWrittenAnswer (prefix_of layout.entry) (document_value document.now).schema (document_value document.now).text bytes.items) }
+) -> Result<Parts, AllocError>
+    ensures { IfOk result (λ parts. AreSound parts × IsWrittenAnswer (prefix_of layout.entry) (document_value document.now).schema (document_value document.now).text (parts_bytes parts)) }
 {
     let written_schema = document.schema().written(layout)?;
     let written_document = document.written(layout)?;

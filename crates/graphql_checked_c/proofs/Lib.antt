@@ -1,3 +1,4 @@
 pub mod Handles
 pub mod Answers
-pub mod Reports
+pub mod JsonLines
+pub mod Named

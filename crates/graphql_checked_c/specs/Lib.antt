@@ -1,3 +1,4 @@
 pub mod Json
 pub mod Told
 pub mod Held
+pub mod HeldTexts

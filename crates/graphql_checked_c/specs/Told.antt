@@ -1,6 +1,6 @@
 -- What a call from C is told: a status, and bytes in its room.
 --     0 accepted, or done     1 refused     3 not UTF-8     4 out of memory     5 too little stack     7 ends out of order     8 no prefix
-use Rattle.std.specs.Prelude.{◌≡◌, ◌≢◌, ℕ, ◌≤◌, Bool, List, [], ◌∷◌, ◌++◌, flat_map, codes, Option, None, Some, ◌⊎◌, IsUtf8, true, false, if◌then◌else◌, Result, Ok, Err, String, string_bytes}
+use Rattle.std.specs.Prelude.{◌≡◌, ◌≢◌, ℕ, ◌≤◌, Bool, List, [], ◌++◌, length, map, flat_map, codes, Option, None, Some, ◌⊎◌, IsUtf8, true, false, if◌then◌else◌, Result, Ok, Err, String, string_bytes}
 use Rattle.std.specs.List.{All}
 use Rattle.graphql_faults.specs.DetailsView.{diagnostics_of}
 use Rattle.tree_literals.specs.StringLayout.{is_blank}
@@ -8,7 +8,7 @@ use Rattle.verdict_definitions.specs.Texts.{SourceText, Terms}
 use Rattle.verdict_definitions.specs.Judge.{IsCertain, AreSchemasCertain}
 use Rattle.verdict_definitions.specs.Out.{Layout, layout_text}
 use Rattle.verdict_definitions.specs.Says.{AnyFault}
-use Rattle.verdict_definitions.specs.Answer.{RefusesSchemas, Refuses, RefusedBytes, WritesDocument, fault_line}
+use Rattle.verdict_definitions.specs.Answer.{RefusesSchemas, Refuses, WritesDocument, fault_line}
 use Rattle.graphql_checked.specs.in_book_validity.Yes.{IsYes}
 use Rattle.checker_calls.specs.declared.refusal.Refusal.{Refusal}
 use Rattle.checker_calls.specs.declared.refusal.Refusal.TheVariants.{Faults, Memory, Failed}
@@ -17,6 +17,8 @@ use Rattle.graphql_checked.specs.CheckedView.{CheckedSchemaParts, schema_value}
 use Rattle.graphql_checked.specs.Verdicts.{first_terms}
 use Rattle.std.specs.declared.alloc.AllocError.{AllocError}
 use Rattle.graphql_checked_c.specs.declared.handle.Kept.{Kept}
+use Rattle.graphql_checked_c.specs.declared.held.HeldText.{HeldText}
+use Rattle.graphql_checked_c.specs.HeldTexts.{text_of, AreHeld, AreNotNamed, OneHasNotUtf8}
 use Rattle.graphql_checked_c.specs.Json.{IsJson}
 use Rattle.caller_memory.specs.Cut.{IsCut}
 use Rattle.caller_memory.specs.Room.{IsPut}
@@ -51,58 +53,33 @@ IsUntold old new needed = (needed ≡ 0) × (new ≡ old)
 abbrev pub report_of : List AnyFault → List ℕ
 report_of faults = codes "refused\n" ++ flat_map fault_line faults
 
--- ---- one schema text and a document
-
-abbrev pub IsYesOfPair : ℕ → SourceText → SourceText → Type 0
-IsYesOfPair nesting schema document = IsYes (first_terms nesting) (schema ∷ []) document
-
-abbrev pub IsRefusedPair : ℕ → SourceText → SourceText → Type 0
-IsRefusedPair nesting schema document = (faults : List AnyFault) × Refuses (first_terms nesting) (schema ∷ []) document faults
-
-abbrev pub IsReportOfPair : ℕ → SourceText → SourceText → List ℕ → Type 0
-IsReportOfPair nesting schema document bytes = RefusedBytes (first_terms nesting) (schema ∷ []) document bytes
-
--- The report as lines of JSON: the schema text is refused with these faults, or else the pair is with faults of the document.
-pub record IsJsonOfPair (nesting : ℕ) (schema document : SourceText) (bytes : List ℕ) : Type 0 where
-  pub faults : List AnyFault
-  pub told : (RefusesSchemas (first_terms nesting) (schema ∷ []) faults × IsJson false schema document faults bytes)
-      ⊎ (Refuses (first_terms nesting) (schema ∷ []) document faults × IsJson true schema document faults bytes)
-
--- the report as lines of JSON, or as the program writes it
-abbrev pub IsToldOfPair : Bool → ℕ → SourceText → SourceText → List ℕ → Type 0
-IsToldOfPair true nesting schema document bytes = IsJsonOfPair nesting schema document bytes
-IsToldOfPair false nesting schema document bytes = IsReportOfPair nesting schema document bytes
-
-abbrev pub IsCertainPair : ℕ → SourceText → SourceText → Type 0
-IsCertainPair nesting schema document = IsUtf8 schema × IsUtf8 document × IsCertain (first_terms nesting) (schema ∷ []) document
-
-abbrev pub OneIsNotUtf8 : List ℕ → List ℕ → Type 0
-OneIsNotUtf8 schema document = (IsUtf8 schema → ⊥) ⊎ (IsUtf8 document → ⊥)
+-- The report of faults of the schema's texts, or else of a document at that path: as lines of JSON, or as the program writes it.
+abbrev pub IsTold : Bool → Bool → List HeldText → List ℕ → SourceText → List AnyFault → List ℕ → Type 0
+IsTold true is_document held path document faults bytes = IsJson is_document held path document faults bytes
+IsTold false is_document held path document faults bytes = bytes ≡ report_of faults
 
 -- ---- schema texts that are opened
 
--- the schema is that of the texts that end there
-abbrev pub IsSchemaOfTexts : ℕ → List ℕ → List ℕ → CheckedSchemaParts → Type 0
-IsSchemaOfTexts nesting texts ends schema =
-    (schemas : List SourceText) × (IsCut texts ends schemas × IsCheckedSchemaOf (first_terms nesting) schemas (schema_value schema))
-
-abbrev pub IsReportOfTexts : ℕ → List ℕ → List ℕ → List ℕ → Type 0
-IsReportOfTexts nesting texts ends bytes =
-    (schemas : List SourceText) × (IsCut texts ends schemas × ((faults : List AnyFault) × (RefusesSchemas (first_terms nesting) schemas faults × (bytes ≡ report_of faults))))
-
-abbrev pub AreCertainTexts : ℕ → List ℕ → List ℕ → Type 0
-AreCertainTexts nesting texts ends =
-    (schemas : List SourceText) × (IsCut texts ends schemas × All IsUtf8 schemas × AreSchemasCertain (first_terms nesting) schemas)
-
-abbrev pub HasNotUtf8 : List ℕ → List ℕ → Type 0
-HasNotUtf8 texts ends = (schemas : List SourceText) × (IsCut texts ends schemas × (All IsUtf8 schemas → ⊥))
-
-abbrev pub IsNoCut : List ℕ → List ℕ → Type 0
-IsNoCut texts ends = (schemas : List SourceText) → IsCut texts ends schemas → ⊥
+-- the texts end there, under the names that end there, and the schema is theirs
+abbrev pub IsKeptOfTexts : ℕ → List ℕ → List ℕ → List ℕ → List ℕ → Kept → Type 0
+IsKeptOfTexts nesting names name_ends texts ends kept =
+    AreHeld names name_ends texts ends kept.texts.items × IsCheckedSchemaOf (first_terms nesting) (map text_of kept.texts.items) (schema_value kept.schema)
 
 -- the schema is held
-abbrev pub HoldsSchemaOf : ℕ → List ℕ → List ℕ → Option Kept → Type 0
-HoldsSchemaOf nesting texts ends value = (kept : Kept) × ((value ≡ Some kept) × IsSchemaOfTexts nesting texts ends kept.schema)
+abbrev pub HoldsSchemaOf : ℕ → List ℕ → List ℕ → List ℕ → List ℕ → Option Kept → Type 0
+HoldsSchemaOf nesting names name_ends texts ends value = (kept : Kept) × ((value ≡ Some kept) × IsKeptOfTexts nesting names name_ends texts ends kept)
+
+-- the report on the texts, where each has its name
+abbrev pub IsToldOfTexts : Bool → ℕ → List ℕ → List ℕ → List ℕ → List ℕ → List ℕ → Type 0
+IsToldOfTexts json nesting names name_ends texts ends bytes =
+    (held : List HeldText) × (AreHeld names name_ends texts ends held
+    × ((faults : List AnyFault) × (RefusesSchemas (first_terms nesting) (map text_of held) faults × IsTold json false held (codes "schema") (codes "") faults bytes)))
+
+-- as many names as texts, all of which are UTF-8, and the schema is certain
+abbrev pub AreCertainTexts : ℕ → List ℕ → List ℕ → List ℕ → List ℕ → Type 0
+AreCertainTexts nesting names name_ends texts ends =
+    (length name_ends ≡ length ends) × (((paths : List (List ℕ)) × (IsCut names name_ends paths × All IsUtf8 paths))
+    × ((schemas : List SourceText) × (IsCut texts ends schemas × All IsUtf8 schemas × AreSchemasCertain (first_terms nesting) schemas)))
 
 -- ---- a document over a schema that is held
 
@@ -113,12 +90,17 @@ OfItsTexts schema says = (terms : Terms) (schemas : List SourceText) → IsCheck
 abbrev pub IsYesOver : CheckedSchemaParts → SourceText → Type 0
 IsYesOver schema document = OfItsTexts schema (λ terms schemas. IsYes terms schemas document)
 
-abbrev pub IsReportOver : CheckedSchemaParts → SourceText → List ℕ → Type 0
-IsReportOver schema document bytes = OfItsTexts schema (λ terms schemas. RefusedBytes terms schemas document bytes)
+-- the report on a document at that path, where the schema's texts have their names
+abbrev pub IsToldOver : Bool → Kept → List ℕ → SourceText → List ℕ → Type 0
+IsToldOver json kept path document bytes =
+    OfItsTexts kept.schema (λ terms schemas. (faults : List AnyFault) × (Refuses terms schemas document faults × IsTold json true kept.texts.items path document faults bytes))
 
-abbrev pub IsCertainOver : CheckedSchemaParts → SourceText → Type 0
-IsCertainOver schema document =
-    IsUtf8 document × ((terms : Terms) × ((schemas : List SourceText) × (IsCheckedSchemaOf terms schemas (schema_value schema) × IsCertain terms schemas document)))
+abbrev pub OneIsNotUtf8 : List ℕ → List ℕ → Type 0
+OneIsNotUtf8 path document = (IsUtf8 path → ⊥) ⊎ (IsUtf8 document → ⊥)
+
+abbrev pub IsCertainOver : CheckedSchemaParts → List ℕ → SourceText → Type 0
+IsCertainOver schema path document =
+    IsUtf8 path × IsUtf8 document × ((terms : Terms) × ((schemas : List SourceText) × (IsCheckedSchemaOf terms schemas (schema_value schema) × IsCertain terms schemas document)))
 
 -- ---- texts that are written
 
@@ -138,53 +120,38 @@ IsNoPrefix lines prefix = (lines ≡ true) × (IsUtf8 prefix → is_blank prefix
 
 -- ---- private: what the parts answer
 
--- status and bytes of a refusal
-abbrev pub TellsRefusal : Refusal → ℕ → List ℕ → Type 0
-TellsRefusal (Faults list) status bytes = ((status ≡ 1) × (bytes ≡ report_of (diagnostics_of list))) ⊎ ((status ≡ 4) × (bytes ≡ []))
-TellsRefusal Memory status bytes = (status ≡ 4) × (bytes ≡ [])
-TellsRefusal Failed status bytes = ⊥
-
--- the same, where it is told as lines of JSON: of the schema text, or else of the document
-abbrev pub TellsJson : Bool → SourceText → SourceText → Refusal → ℕ → List ℕ → Type 0
-TellsJson is_document schema document (Faults list) status bytes = ((status ≡ 1) × IsJson is_document schema document (diagnostics_of list) bytes) ⊎ ((status ≡ 4) × (bytes ≡ []))
-TellsJson is_document schema document Memory status bytes = (status ≡ 4) × (bytes ≡ [])
-TellsJson is_document schema document Failed status bytes = ⊥
+-- status and bytes of a refusal, of the schema's texts, or else of a document at that path
+abbrev pub TellsRefusal : Bool → Bool → List HeldText → List ℕ → SourceText → Refusal → ℕ → List ℕ → Type 0
+TellsRefusal json is_document held path document (Faults list) status bytes =
+    ((status ≡ 1) × IsTold json is_document held path document (diagnostics_of list) bytes) ⊎ ((status ≡ 4) × (bytes ≡ []))
+TellsRefusal json is_document held path document Memory status bytes = (status ≡ 4) × (bytes ≡ [])
+TellsRefusal json is_document held path document Failed status bytes = ⊥
 
 -- status and bytes of a text that is written
 abbrev pub TellsText : {Z : Type 0} → Result (String Z) AllocError → ℕ → List ℕ → Type 0
 TellsText (Ok text) status bytes = (status ≡ 0) × (bytes ≡ string_bytes text)
 TellsText (Err fault) status bytes = (status ≡ 4) × (bytes ≡ [])
 
--- the status of a schema that is to be held, and what is
-abbrev pub KeepsOrNot : CheckedSchemaParts → Option Kept → ℕ → Type 0
-KeepsOrNot schema value status = ((status ≡ 0) × (value ≡ Some (record { schema = schema }))) ⊎ ((status ≡ 4) × (value ≡ None))
+-- the status of what is to be held, and what is
+abbrev pub KeepsOrNot : Kept → Option Kept → ℕ → Type 0
+KeepsOrNot kept value status = ((status ≡ 0) × (value ≡ Some kept)) ⊎ ((status ≡ 4) × (value ≡ None))
 
--- where the report is lines of JSON, or not
-pub record AnswersPair (json : Bool) (nesting : ℕ) (schema document : SourceText) (status : ℕ) (bytes : List ℕ) : Type 0 where
-  pub yes : status ≡ 0 → IsYesOfPair nesting schema document
-  pub report : status ≡ 1 → IsToldOfPair json nesting schema document bytes
-  pub encoding : status ≡ 3 → OneIsNotUtf8 schema document
-  pub known : IsStatus status
-  pub measured : status ≢ 5
-  pub certain : IsCertainPair nesting schema document → IsDoneOrMemory status
-  pub untold : status ≢ 1 → bytes ≡ []
-
-pub record AnswersTexts (nesting : ℕ) (texts ends : List ℕ) (status : ℕ) (bytes : List ℕ) : Type 0 where
-  pub report : status ≡ 1 → IsReportOfTexts nesting texts ends bytes
-  pub encoding : status ≡ 3 → HasNotUtf8 texts ends
-  pub order : status ≡ 7 → IsNoCut texts ends
+pub record AnswersTexts (json : Bool) (nesting : ℕ) (names name_ends texts ends : List ℕ) (status : ℕ) (bytes : List ℕ) : Type 0 where
+  pub report : status ≡ 1 → IsToldOfTexts json nesting names name_ends texts ends bytes
+  pub encoding : status ≡ 3 → OneHasNotUtf8 names name_ends texts ends
+  pub order : status ≡ 7 → AreNotNamed names name_ends texts ends
   pub known : IsStatus status
   pub undone : status ≢ 0
   pub measured : status ≢ 5
-  pub certain : AreCertainTexts nesting texts ends → status ≡ 4
+  pub certain : AreCertainTexts nesting names name_ends texts ends → status ≡ 4
   pub untold : status ≢ 1 → bytes ≡ []
 
 -- the document is accepted, where the bytes are `told` of it; or not, and why
-pub record AnswersOver (told : List ℕ → Type 0) (schema : CheckedSchemaParts) (document : SourceText) (status : ℕ) (bytes : List ℕ) : Type 0 where
+pub record AnswersOver (json : Bool) (told : List ℕ → Type 0) (kept : Kept) (path : List ℕ) (document : SourceText) (status : ℕ) (bytes : List ℕ) : Type 0 where
   pub done : status ≡ 0 → told bytes
-  pub report : status ≡ 1 → IsReportOver schema document bytes
-  pub encoding : status ≡ 3 → IsUtf8 document → ⊥
+  pub report : status ≡ 1 → IsToldOver json kept path document bytes
+  pub encoding : status ≡ 3 → OneIsNotUtf8 path document
   pub known : IsStatus status
   pub prefixed : status ≢ 8
-  pub certain : IsCertainOver schema document → IsDoneOrMemory status
+  pub certain : IsCertainOver kept.schema path document → IsDoneOrMemory status
   pub untold : status ≢ 0 → status ≢ 1 → bytes ≡ []

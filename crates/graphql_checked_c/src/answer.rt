@@ -1,24 +1,20 @@
 //! Statuses, and the bytes that go with them.
 
-ghost use Rattle.std.specs.Prelude.{◌≡◌, ◌≢◌, []};
-ghost use Rattle.graphql_checked_c.specs.Told.{TellsRefusal};
-ghost use Rattle.checker_calls.specs.declared.refusal.Refusal.TheVariants.{Failed};
+ghost use Rattle.std.specs.Prelude.{◌≡◌, []};
 
-use checker_calls::refused;
-use graphql_checked::Refusal;
-use std::alloc::{AllocError, Global};
+use std::alloc::Global;
 
 /// The texts are accepted, or what was asked for is done.
 pub(crate) const ACCEPTED: u32 = 0;
 /// A text is refused.
 pub(crate) const REFUSED: u32 = 1;
-/// A text is not UTF-8.
+/// A text or its name is not UTF-8.
 pub(crate) const NOT_UTF8: u32 = 3;
 /// Memory ran out.
 pub(crate) const MEMORY: u32 = 4;
 /// The stack is too small for the nesting, by measure.
 pub(crate) const STACK: u32 = 5;
-/// The ends are not those of texts. What is null, 6, is told before these calls.
+/// The ends are not those of texts and their names. What is null, 6, is told before these calls.
 pub(crate) const ENDS: u32 = 7;
 /// The prefix is not of spaces and tabs.
 pub(crate) const PREFIX: u32 = 8;
@@ -40,23 +36,5 @@ pub(crate) fn bare(alloc: Global, status: u32) -> Answer
     Answer {
         status,
         bytes: Vec::new(alloc),
-    }
-}
-
-/// The answer of a refusal of texts.
-pub(crate) fn refusal_answer(alloc: Global, refusal: Refusal) -> Answer
-    requires { refusal ≢ Failed }
-    ensures { TellsRefusal refusal result.status result.bytes.items }
-{
-    match refusal {
-        Refusal::Faults(list) => match refused(alloc, &list) {
-            Ok(bytes) => Answer {
-                status: REFUSED,
-                bytes,
-            },
-            Err(AllocError) => bare(alloc, MEMORY),
-        },
-        Refusal::Memory => bare(alloc, MEMORY),
-        Refusal::Failed => unreachable!(),
     }
 }

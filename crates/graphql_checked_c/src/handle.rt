@@ -4,6 +4,7 @@ ghost use Rattle.std.specs.Prelude.{◌≡◌, ◌≢◌, Option, Some, None};
 ghost use Rattle.std.specs.Coded.{coded_option};
 ghost use Rattle.graphql_checked_c.specs.contracts.handle.Kept as kept;
 
+use crate::held::HeldText;
 use caller_memory::BoxPointer;
 use graphql_checked::CheckedSchema;
 use std::alloc::Global;
@@ -16,9 +17,11 @@ use std::ptr::null_mut;
 pub struct Kept {
     /// The schema over which documents are checked.
     pub(crate) schema: CheckedSchema,
+    /// Its texts.
+    pub(crate) texts: Vec<HeldText>,
 }
 
-/// A checked schema, or nothing, as C declares it: `graphql_schema`. Its pointer is opaque, since a pointer to a type with
+/// A checked schema, or nothing, as c/graphql_checked.c declares it. Its pointer is opaque, since a pointer to a type with
 /// shared parts does not cross to C.
 #[repr(C)]
 #[derive(Drop)]

@@ -1,16 +1,16 @@
 //! The checker for C: texts go in as bytes; a status comes out, and a report or a text in the caller's room.
 //!
-//! One schema text and a document by value (`pairs.rt`, with reports as lines of JSON in `json.rt`), and a schema that C holds, with documents over it (`schemas.rt`, over
-//! `handle.rt`, `opening.rt` and `over.rt`). What C calls is declared in `include/graphql_checked.h`; `c/graphql_checked.c`
-//! answers a null pointer and a handle that is not as it is to be, and passes the rest on to these functions.
+//! C holds a schema of several texts (`handle.rt`, `held.rt`, `opening.rt`), and asks it for one document after another (`over.rt`).
+//! Faults are told as the program does, or as lines of JSON (`reports.rt`). Users call the functions of `include/graphql_checked.h`:
+//! `c/graphql_checked.c` keeps texts and answers for them, and calls those of `schemas.rt`.
 //!
-//! Begin with `pairs.rt` and `schemas.rt`, and `specs/Told.antt`.
+//! Begin with `schemas.rt`, and `specs/Told.antt`.
 #![tactic(auto)]
 
 mod answer;
 mod handle;
-mod json;
+mod held;
 mod opening;
 mod over;
-mod pairs;
+mod reports;
 mod schemas;

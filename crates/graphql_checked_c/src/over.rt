@@ -1,61 +1,108 @@
 //! Documents over a schema that is held, and the texts of both.
 
-ghost use Rattle.std.specs.Prelude.{◌≡◌, [], None, IfSome, ◌⊎◌};
+ghost use Rattle.std.specs.Prelude.{◌≡◌, ◌≢◌, [], None, IfSome, true, ◌⊎◌};
+ghost use Rattle.checker_calls.specs.declared.refusal.Refusal.TheVariants.{Failed};
 ghost use Rattle.checker_calls.specs.Layouts.{prefix_of};
 ghost use Rattle.graphql_checked.specs.CheckedView.{document_value};
 ghost use Rattle.graphql_checked.specs.CheckerValue.{WritesCheckedDocument};
-ghost use Rattle.graphql_checked_c.specs.Told.{IsYesOver, IsDocumentText, IsSchemaText, IsNoPrefix, layout_of, TellsText, AnswersOver};
+ghost use Rattle.graphql_checked_c.specs.Told.{IsYesOver, IsDocumentText, IsSchemaText, IsNoPrefix, layout_of, TellsText, TellsRefusal, AnswersOver};
 
-use crate::answer::{ACCEPTED, Answer, MEMORY, NOT_UTF8, bare, refusal_answer};
-use graphql_checked::{CheckedDocument, CheckedSchema, Layout};
+use crate::answer::{ACCEPTED, Answer, MEMORY, NOT_UTF8, bare};
+use crate::handle::Kept;
+use crate::reports::refusal_answer;
+use graphql_checked::{CheckedDocument, CheckedSchema, Layout, Refusal};
 use std::alloc::{AllocError, Global};
 
-/// The answer of a document, as bytes.
+/// The answer of a document at that path, as bytes.
 #[tactic(auto, using(crate::proofs::Answers::over_not_utf8))]
-pub(crate) fn checked(alloc: Global, schema: &CheckedSchema, document: &[u8]) -> Answer
-    ensures { AnswersOver (λ bytes. IsYesOver schema.now document.now × (bytes ≡ [])) schema.now document.now result.status result.bytes.items }
+pub(crate) fn checked(
+    alloc: Global,
+    held: &Kept,
+    json: bool,
+    path: &[u8],
+    document: &[u8],
+) -> Answer
+    ensures { AnswersOver json (λ bytes. IsYesOver held.now.schema document.now × (bytes ≡ [])) held.now path.now document.now result.status result.bytes.items }
 {
+    let Ok(path) = str::from_utf8(path) else {
+        return bare(alloc, NOT_UTF8);
+    };
     let Ok(text) = str::from_utf8(document) else {
         return bare(alloc, NOT_UTF8);
     };
-    checked_text(alloc, schema, text)
+    checked_text(alloc, held, json, path, text)
 }
 
-/// The answer of a document.
+/// The answer of a document at that path.
 #[tactic(auto, using(crate::proofs::Answers::over_yes, crate::proofs::Answers::over_refused, crate::proofs::Answers::over_not_failed))]
-fn checked_text(alloc: Global, schema: &CheckedSchema, text: &str) -> Answer
-    ensures { AnswersOver (λ bytes. IsYesOver schema.now text.now × (bytes ≡ [])) schema.now text.now result.status result.bytes.items }
+fn checked_text(alloc: Global, held: &Kept, json: bool, path: &str, text: &str) -> Answer
+    ensures { AnswersOver json (λ bytes. IsYesOver held.now.schema text.now × (bytes ≡ [])) held.now path.now text.now result.status result.bytes.items }
 {
-    match schema.check(text) {
+    match held.schema.check(text) {
         Ok(_) => bare(alloc, ACCEPTED),
-        Err(refusal) => refusal_answer(alloc, refusal),
+        Err(refusal) => document_refused(alloc, refusal, held, json, path, text),
     }
 }
 
-/// The text of a document, as bytes, under the layout, where it is accepted.
+/// The answer of a refusal of a document.
+fn document_refused(
+    alloc: Global,
+    refusal: Refusal,
+    held: &Kept,
+    json: bool,
+    path: &str,
+    text: &str,
+) -> Answer
+    requires { refusal ≢ Failed }
+    ensures { TellsRefusal json true held.now.texts.items path.now text.now refusal result.status result.bytes.items }
+{
+    refusal_answer(
+        alloc,
+        refusal,
+        json,
+        &held.texts,
+        Some(held.schema.schema()),
+        path,
+        text,
+    )
+}
+
+/// The text of a document at that path, as bytes, under the layout, where it is accepted.
 #[tactic(auto, using(crate::proofs::Answers::over_not_utf8))]
 pub(crate) fn document_text(
     alloc: Global,
-    schema: &CheckedSchema,
+    held: &Kept,
+    json: bool,
+    path: &[u8],
     document: &[u8],
     layout: Layout<'_>,
 ) -> Answer
-    ensures { AnswersOver (IsDocumentText (prefix_of layout.entry) schema.now document.now) schema.now document.now result.status result.bytes.items }
+    ensures { AnswersOver json (IsDocumentText (prefix_of layout.entry) held.now.schema document.now) held.now path.now document.now result.status result.bytes.items }
 {
+    let Ok(path) = str::from_utf8(path) else {
+        return bare(alloc, NOT_UTF8);
+    };
     let Ok(text) = str::from_utf8(document) else {
         return bare(alloc, NOT_UTF8);
     };
-    text_of_document(alloc, schema, text, layout)
+    text_of_document(alloc, held, json, path, text, layout)
 }
 
-/// The text of a document under the layout, where it is accepted.
+/// The text of a document at that path under the layout, where it is accepted.
 #[tactic(auto, using(crate::proofs::Answers::over_written, crate::proofs::Answers::over_refused, crate::proofs::Answers::over_not_failed))]
-fn text_of_document(alloc: Global, schema: &CheckedSchema, text: &str, layout: Layout<'_>) -> Answer
-    ensures { AnswersOver (IsDocumentText (prefix_of layout.entry) schema.now text.now) schema.now text.now result.status result.bytes.items }
+fn text_of_document(
+    alloc: Global,
+    held: &Kept,
+    json: bool,
+    path: &str,
+    text: &str,
+    layout: Layout<'_>,
+) -> Answer
+    ensures { AnswersOver json (IsDocumentText (prefix_of layout.entry) held.now.schema text.now) held.now path.now text.now result.status result.bytes.items }
 {
-    match schema.check(text) {
+    match held.schema.check(text) {
         Ok(checked) => written_document(alloc, &checked, layout),
-        Err(refusal) => refusal_answer(alloc, refusal),
+        Err(refusal) => document_refused(alloc, refusal, held, json, path, text),
     }
 }
 

@@ -1,57 +1,55 @@
 //! A schema that C holds: opened of several texts, asked, and closed.
 
-ghost use Rattle.std.specs.Prelude.{◌≡◌, ◌≢◌, None, IfSome, IsUtf8};
-ghost use Rattle.graphql_checked_c.specs.Told.{HoldsSchemaOf, IsReportOfTexts, AreCertainTexts, HasNotUtf8, IsNoCut, IsYesOver, IsReportOver, IsCertainOver, IsSchemaText, IsDocumentText, IsNoPrefix, layout_of, KeepsOrNot, IsStatus, IsDoneOrMemory, IsDoneOrMemoryOrPrefix, HasStack, IsToldIn, IsUntold};
+ghost use Rattle.std.specs.Prelude.{◌≡◌, ◌≢◌, None, IfSome};
+ghost use Rattle.graphql_checked_c.specs.HeldTexts.{OneHasNotUtf8, AreNotNamed};
+ghost use Rattle.graphql_checked_c.specs.Told.{HoldsSchemaOf, IsToldOfTexts, AreCertainTexts, IsYesOver, IsToldOver, IsCertainOver, OneIsNotUtf8, IsSchemaText, IsDocumentText, IsNoPrefix, layout_of, KeepsOrNot, IsStatus, IsDoneOrMemory, IsDoneOrMemoryOrPrefix, HasStack, IsToldIn, IsUntold};
 
 use crate::answer::{ACCEPTED, MEMORY, PREFIX, STACK};
 use crate::handle::{Handle, Kept, keep, take};
-use crate::opening::schema_of_texts;
+use crate::opening::kept_of_texts;
 use crate::over::{checked, document_text, layout, schema_text};
 use caller_memory::{put, suffices};
-use graphql_checked::CheckedSchema;
 use std::alloc::Global;
 
-/// The version: 10,000 times the major number, 100 times the minor one, and the patch.
-#[unsafe(no_mangle)]
-pub extern "C" fn graphql_proved_version() -> u32
-    ensures { result ≡ 100 }
-{
-    100
-}
-
-/// Opens a handle on the schema of these texts, each of which ends where `ends` says.
+/// Opens a handle on the schema of these texts, each of which ends where `ends` says, and has the name that ends where
+/// `name_ends` says. The bytes of both are to stay until the handle is closed.
 ///
-/// The status is 0 where it is open; 1 where the texts are refused, and then the report is told as `graphql_proved_report` does;
-/// 3 where one is not UTF-8; 4 where memory ran out; 5 where the stack is too small; 7 where the ends are not those of texts.
+/// The status is 0 where it is open; 1 where the texts are refused, and then `needed` gets the length of the report, which is at
+/// the front of `room` where it fits, while else `room` is unchanged: as lines of JSON, or as the program tells it; 3 where a text
+/// or name is not UTF-8; 4 where memory ran out; 5 where the stack is too small; 7 where the ends are not those of so many texts
+/// and names.
 #[unsafe(no_mangle)]
 #[tactic(auto, using(crate::proofs::Answers::put_nothing, crate::proofs::Answers::put_told, crate::proofs::Answers::some_is))]
 pub extern "C" fn graphql_proved_schema_open(
     alloc: Global,
-    texts: &[u8],
+    names: &'static [u8],
+    name_ends: &[usize],
+    texts: &'static [u8],
     ends: &[usize],
     nesting: usize,
     stack: usize,
+    json: bool,
     handle: &mut Handle,
     room: &mut [u8],
     needed: &mut usize,
 ) -> u32
     requires { handle.old.value ≡ None }
-    ensures opened { result ≡ 0 → HoldsSchemaOf nesting texts.now ends.now handle.new.value }
+    ensures opened { result ≡ 0 → HoldsSchemaOf nesting names.now name_ends.now texts.now ends.now handle.new.value }
     ensures closed { result ≢ 0 → handle.new.value ≡ None }
-    ensures refused { result ≡ 1 → IsToldIn room.old room.new needed.new (IsReportOfTexts nesting texts.now ends.now) }
-    ensures encoding { result ≡ 3 → HasNotUtf8 texts.now ends.now }
+    ensures refused { result ≡ 1 → IsToldIn room.old room.new needed.new (IsToldOfTexts json nesting names.now name_ends.now texts.now ends.now) }
+    ensures encoding { result ≡ 3 → OneHasNotUtf8 names.now name_ends.now texts.now ends.now }
     ensures stack { result ≡ 5 → HasStack stack nesting → ⊥ }
-    ensures order { result ≡ 7 → IsNoCut texts.now ends.now }
+    ensures order { result ≡ 7 → AreNotNamed names.now name_ends.now texts.now ends.now }
     ensures status { IsStatus result }
-    ensures complete { HasStack stack nesting → AreCertainTexts nesting texts.now ends.now → IsDoneOrMemory result }
+    ensures complete { HasStack stack nesting → AreCertainTexts nesting names.now name_ends.now texts.now ends.now → IsDoneOrMemory result }
     ensures untold { result ≢ 1 → IsUntold room.old room.new needed.new }
 {
     *needed = 0;
     if !suffices(stack, nesting) {
         return STACK;
     }
-    match schema_of_texts(alloc, texts, ends, nesting) {
-        Ok(schema) => kept(alloc, handle, schema),
+    match kept_of_texts(alloc, names, name_ends, texts, ends, nesting, json) {
+        Ok(held) => kept(alloc, handle, held),
         Err(answer) => {
             *needed = put(room, &answer.bytes);
             answer.status
@@ -59,12 +57,12 @@ pub extern "C" fn graphql_proved_schema_open(
     }
 }
 
-/// Puts the schema into the handle, which is empty.
-fn kept(alloc: Global, handle: &mut Handle, schema: CheckedSchema) -> u32
+/// Puts what is to be kept into the handle, which is empty.
+fn kept(alloc: Global, handle: &mut Handle, held: Kept) -> u32
     requires { handle.old.value ≡ None }
-    ensures { KeepsOrNot schema handle.new.value result }
+    ensures { KeepsOrNot held handle.new.value result }
 {
-    match Box::new(alloc, Kept { schema }) {
+    match Box::new(alloc, held) {
         Ok(kept) => {
             keep(handle, kept);
             ACCEPTED
@@ -73,15 +71,17 @@ fn kept(alloc: Global, handle: &mut Handle, schema: CheckedSchema) -> u32
     }
 }
 
-/// Checks a document over the schema of the handle, which stays as it is.
+/// Checks a document at that path over the schema of the handle, which stays as it is.
 ///
-/// The status is 0 where the document is accepted; 1 where it is refused, and then the report is told as `graphql_proved_report`
-/// does; 3 where it is not UTF-8; 4 where memory ran out.
+/// The status is 0 where the document is accepted; 1 where it is refused, and then the report is told as `graphql_proved_schema_open`
+/// does; 3 where it or its path is not UTF-8; 4 where memory ran out.
 #[unsafe(no_mangle)]
 #[tactic(auto, using(crate::proofs::Answers::held_yes, crate::proofs::Answers::report_told, crate::proofs::Answers::held_complete, crate::proofs::Answers::check_untold))]
 pub extern "C" fn graphql_proved_schema_check(
     alloc: Global,
     handle: &mut Handle,
+    json: bool,
+    path: &[u8],
     document: &[u8],
     room: &mut [u8],
     needed: &mut usize,
@@ -89,14 +89,14 @@ pub extern "C" fn graphql_proved_schema_check(
     requires { handle.old.value ≢ None }
     ensures kept { handle.new.value ≡ handle.old.value }
     ensures accepted { result ≡ 0 → IfSome handle.old.value (λ k. IsYesOver k.schema document.now) }
-    ensures refused { result ≡ 1 → IfSome handle.old.value (λ k. IsToldIn room.old room.new needed.new (IsReportOver k.schema document.now)) }
-    ensures encoding { result ≡ 3 → IsUtf8 document.now → ⊥ }
+    ensures refused { result ≡ 1 → IfSome handle.old.value (λ k. IsToldIn room.old room.new needed.new (IsToldOver json k path.now document.now)) }
+    ensures encoding { result ≡ 3 → OneIsNotUtf8 path.now document.now }
     ensures status { IsStatus result }
-    ensures complete { IfSome handle.old.value (λ k. IsCertainOver k.schema document.now → IsDoneOrMemory result) }
+    ensures complete { IfSome handle.old.value (λ k. IsCertainOver k.schema path.now document.now → IsDoneOrMemory result) }
     ensures untold { result ≢ 1 → IsUntold room.old room.new needed.new }
 {
     let held = take(alloc, handle);
-    let answer = checked(alloc, &held.schema, document);
+    let answer = checked(alloc, &held, json, path, document);
     keep(handle, held);
     *needed = put(room, &answer.bytes);
     answer.status
@@ -104,7 +104,7 @@ pub extern "C" fn graphql_proved_schema_check(
 
 /// Writes the text of the schema of the handle: on one line, or in lines that begin with the prefix once for each level.
 ///
-/// The status is 0 where the text is told as `graphql_proved_report` tells a report; 4 where memory ran out; 8 where the prefix is
+/// The status is 0 where the text is told as `graphql_proved_schema_open` tells a report; 4 where memory ran out; 8 where the prefix is
 /// not of spaces and tabs.
 #[unsafe(no_mangle)]
 #[tactic(auto, using(crate::proofs::Answers::schema_told, crate::proofs::Answers::schema_untold, crate::proofs::Answers::schema_status))]
@@ -143,6 +143,8 @@ pub extern "C" fn graphql_proved_schema_text(
 pub extern "C" fn graphql_proved_document_text(
     alloc: Global,
     handle: &mut Handle,
+    json: bool,
+    path: &[u8],
     document: &[u8],
     lines: bool,
     prefix: &[u8],
@@ -152,11 +154,11 @@ pub extern "C" fn graphql_proved_document_text(
     requires { handle.old.value ≢ None }
     ensures kept { handle.new.value ≡ handle.old.value }
     ensures written { result ≡ 0 → IfSome handle.old.value (λ k. IsToldIn room.old room.new needed.new (IsDocumentText (layout_of lines prefix.now) k.schema document.now)) }
-    ensures refused { result ≡ 1 → IfSome handle.old.value (λ k. IsToldIn room.old room.new needed.new (IsReportOver k.schema document.now)) }
-    ensures encoding { result ≡ 3 → IsUtf8 document.now → ⊥ }
+    ensures refused { result ≡ 1 → IfSome handle.old.value (λ k. IsToldIn room.old room.new needed.new (IsToldOver json k path.now document.now)) }
+    ensures encoding { result ≡ 3 → OneIsNotUtf8 path.now document.now }
     ensures prefix { result ≡ 8 → IsNoPrefix lines prefix.now }
     ensures status { IsStatus result }
-    ensures complete { IfSome handle.old.value (λ k. IsCertainOver k.schema document.now → IsDoneOrMemoryOrPrefix result) }
+    ensures complete { IfSome handle.old.value (λ k. IsCertainOver k.schema path.now document.now → IsDoneOrMemoryOrPrefix result) }
     ensures untold { result ≢ 0 → result ≢ 1 → IsUntold room.old room.new needed.new }
 {
     *needed = 0;
@@ -164,7 +166,7 @@ pub extern "C" fn graphql_proved_document_text(
         return PREFIX;
     };
     let held = take(alloc, handle);
-    let answer = document_text(alloc, &held.schema, document, layout);
+    let answer = document_text(alloc, &held, json, path, document, layout);
     keep(handle, held);
     *needed = put(room, &answer.bytes);
     answer.status

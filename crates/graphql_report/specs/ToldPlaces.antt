@@ -85,7 +85,7 @@ more_of _ = []
 
 -- the name of the operation that a fault is in, where its data have it
 abbrev pub operation_in : DocumentBreach Place → Option (List ℕ)
-operation_in (document.SubscriptionUsesMultipleFields name fields) = name
+operation_in (document.SubscriptionUsesMultipleFields name) = name
 operation_in (document.SubscriptionUsesIntrospection name field) = name
 operation_in (document.SubscriptionUsesConditionalSelection name) = name
 operation_in _ = None

@@ -104,7 +104,7 @@ fn put_of_document(fields: &mut Fields, error: &BuildError) {
             fields.put("original_type", &conflict.original_type);
             fields.put("conflicting_type", &conflict.conflicting_type);
         }
-        BuildError::SubscriptionUsesMultipleFields { name, .. }
+        BuildError::SubscriptionUsesMultipleFields { name }
         | BuildError::SubscriptionUsesConditionalSelection { name } => fields.put_if_any(name),
         BuildError::SubscriptionUsesIntrospection { name, field } => {
             fields.put_if_any(name);

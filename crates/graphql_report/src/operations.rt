@@ -44,7 +44,7 @@ fn operation_of(details: &Details) -> Option<&Name>
 {
     match details {
         Details::DocumentBuild(
-            BuildError::SubscriptionUsesMultipleFields { name, .. }
+            BuildError::SubscriptionUsesMultipleFields { name }
             | BuildError::SubscriptionUsesIntrospection { name, .. }
             | BuildError::SubscriptionUsesConditionalSelection { name },
         ) => name.as_ref(),

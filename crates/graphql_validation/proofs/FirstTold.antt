@@ -30,14 +30,14 @@ none_told old new all is same = none_first all (nothing_told old new (take most_
 -- ---- where one part of all is as long as may be, so are the first of all
 
 module _ (faults : List PlacedFault) (breaches : List (Broken Place)) (is_passed : Bool) where
-  full_faults : IsFull faults → IsFull (all_told faults breaches is_passed)
+  pub full_faults : IsFull faults → IsFull (all_told faults breaches is_passed)
   full_faults full =
       let behind = map OfDocument breaches ++ bound_told is_passed in
       let long = length-append (map OfData faults) behind in
       let same = length-map {B = PlacedDocumentFault} faults OfData in
       omega (arith, full, long, same)
 
-  full_breaches : IsFull breaches → IsFull (all_told faults breaches is_passed)
+  pub full_breaches : IsFull breaches → IsFull (all_told faults breaches is_passed)
   full_breaches full =
       let long = length-append (map OfData faults) (map OfDocument breaches ++ bound_told is_passed) in
       let more = length-append (map OfDocument breaches) (bound_told is_passed) in

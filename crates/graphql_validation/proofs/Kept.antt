@@ -2,18 +2,17 @@
 use Rattle.std.proofs.Common.{◌≡◌, ◌⊎◌, inl, inr, true, false, refl, ap, sym, ◌∙◌, true≢false}
 use Rattle.graphql_names.specs.Placed.{Place}
 use Rattle.schema_types.specs.SchemaTree.{SchemaTree}
-use Rattle.document_meaning.specs.MeantTree.{MeantOperation, MeantDocument}
+use Rattle.document_meaning.specs.MeantTree.{MeantDocument}
 use Rattle.rule_definitions.specs.Judged.{judged}
 use Rattle.rule_definitions.specs.Told.{PlacedFault}
 use Rattle.rule_document_definitions.specs.DocumentFaults.{Broken, OfData, OfDocument}
 use Rattle.rule_document_definitions.specs.DocumentRules.{DataBreaks, DeferredBreaks}
 use Rattle.rule_document_definitions.specs.Limits.{SpreadBoundFails}
 use Rattle.rule_document_definitions.specs.Reached.{AtOperation}
-use Rattle.rule_document_definitions.specs.Subscriptions.{SubscriptionUsesMultipleFieldsAt, SubscriptionBreaks}
+use Rattle.rule_document_definitions.specs.Subscriptions.{SubscriptionBreaks}
 use Rattle.rule_document_definitions.specs.Told.{PlacedDocumentFault, places_in, places_alone}
-use Rattle.graphql_validation.specs.LastingRules.{LastingOrCycleFails, LastingSubscriptionBreaks}
+use Rattle.graphql_validation.specs.LastingRules.{LastingOrCycleFails}
 use Rattle.graphql_validation.specs.Lasts.{fault_lasts, broken_lasts, lasts}
-use Rattle.graphql_validation.proofs.Passing.{subscription_passes}
 
 -- a fault that lasts is none that does not
 lasts_not : {R : Type 0} (f g : PlacedDocumentFault) → lasts f ≡ true → f ≡ g → lasts g ≡ false → R
@@ -42,7 +41,3 @@ module _ (s : SchemaTree Place) (d : MeantDocument Place) where
   broken_right b is (inr (inl (o, (c, h)))) = inl (o, (c, inl h))
   broken_right b is (inr (inr (inl (i, (v, (at, (n, (named, told)))))))) = lasts_not (OfDocument b) _ is (ap OfDocument told) refl
   broken_right b is (inr (inr (inr (j, (later, (at, (i, (first, (here, (name, (one, (before, told)))))))))))) = lasts_not (OfDocument b) _ is (ap OfDocument told) refl
-
-  -- several fields at the root of a subscription are told by no fault that lasts
-  pub not_many : {R : Type 0} (o : MeantOperation Place) (b : Broken Place) → LastingSubscriptionBreaks d o b → SubscriptionUsesMultipleFieldsAt d o b → R
-  not_many o b h (fs, (are, (many, told))) = lasts_not (OfDocument b) _ (subscription_passes b d o h) (ap OfDocument told) refl

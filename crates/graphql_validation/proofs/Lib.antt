@@ -17,3 +17,5 @@ pub mod Reasons
 pub mod Filtered
 pub mod Kept
 pub mod StandingFaults
+pub mod Joined
+pub mod Once

@@ -1,26 +1,25 @@
 -- What is kept of the faults of a document are those that last.
-use Rattle.std.proofs.Common.{◌≡◌, ◌⊎◌, inl, inr, Bool, true, false, List, ◌++◌, map, take, refl, ap, sym, ◌∙◌, subst, Contains, true≢false}
+use Rattle.std.proofs.Common.{◌≡◌, inl, inr, Bool, true, false, List, ◌++◌, map, take, refl, ap, sym, ◌∙◌, subst, Contains, true≢false}
 use Rattle.std.specs.List.{filter}
 use Rattle.graphql_names.specs.Placed.{Place}
 use Rattle.schema_types.specs.SchemaTree.{SchemaTree}
-use Rattle.document_meaning.specs.MeantTree.{MeantOperation, MeantDocument}
+use Rattle.document_meaning.specs.MeantTree.{MeantDocument}
 use Rattle.rule_definitions.specs.Judged.{judged}
 use Rattle.rule_definitions.specs.Room.{most_told}
 use Rattle.rule_definitions.specs.Told.{PlacedFault}
 use Rattle.rule_document_definitions.specs.DocumentFaults.{Broken, OfData, OfDocument, OfLimit}
-use Rattle.rule_document_definitions.specs.DocumentRules.{DeferredBreaks}
-use Rattle.rule_document_definitions.specs.Selected.{operations}
 use Rattle.rule_document_definitions.specs.Told.{PlacedDocumentFault, places_in}
-use Rattle.graphql_validation.specs.LastingRules.{LastingDataBreaks, LastingSubscriptionBreaks, LastingFails, LastingOrCycleFails}
+use Rattle.graphql_validation.specs.LastingRules.{LastingDataBreaks, LastingFails, LastingOrCycleFails}
 use Rattle.graphql_validation.specs.Lasts.{fault_lasts, broken_lasts, lasts}
 use Rattle.graphql_validation.proofs.Filtered.{filtered, passing}
 use Rattle.graphql_validation.proofs.Passing.{data_passes, defer_passes, subscription_passes}
-use Rattle.graphql_validation.proofs.Kept.{data_right, broken_right, not_many}
+use Rattle.graphql_validation.proofs.Kept.{data_right, broken_right}
 use Rattle.graphql_validation.proofs.Reasons.{of_variables}
 use Rattle.graphql_validation.specs.Operations.{DataFails, TellsData, AllUnder, OperationFails, all_told}
 use Rattle.graphql_validation.specs.Steps.{TellsUnder}
 use Rattle.graphql_validation.specs.Told.{Telling}
-use Rattle.rule_fragments.specs.Documents.{SomeSubscriptionBreaks, TellsBreaches, BreachesTold}
+use Rattle.rule_fragments.specs.Documents.{SomeBreaks, BreachesTold}
+use Rattle.rule_fragments.specs.UnlessFull.{HasAll}
 use Rattle.rule_fragments.proofs.UnlessFull.{of_first, first_tells}
 use Rattle.rule_fragments.specs.Used.{AreUnderOwnNames}
 use Rattle.rule_merging.specs.in_faults.DetailsTree.{of_document}
@@ -38,7 +37,7 @@ module _ (s : SchemaTree Place) (d : MeantDocument Place) where
     abbrev kept_breaches : List (Broken Place)
     kept_breaches = filter broken_lasts breaches
 
-    right : ((f : PlacedFault) → Contains faults f → DataFails d (AllUnder s d) f) → ((b : Broken Place) → Contains breaches b → SomeSubscriptionBreaks d b ⊎ DeferredBreaks d b)
+    right : ((f : PlacedFault) → Contains faults f → DataFails d (AllUnder s d) f) → ((b : Broken Place) → Contains breaches b → SomeBreaks d b)
         → (f : PlacedDocumentFault) → Contains (all_told kept_faults kept_breaches false) f → LastingOrCycleFails s d f
     right fails breaks f c = elim (told_cases kept_faults kept_breaches false f c) [
       | inl g ↦ let p = filtered fault_lasts faults g.0 g.1.0 in subst (LastingOrCycleFails s d) g.1.1 (data_right s d g.0 p.1 (fails g.0 p.0))
@@ -50,15 +49,7 @@ module _ (s : SchemaTree Place) (d : MeantDocument Place) where
 
     -- ---- and all of that is told
 
-    module _ (parts : TellsData d (λ o. OperationFails d o s) faults) (told : TellsBreaches d breaches) where
-      subscription_told : (o : MeantOperation Place) (b : Broken Place) → Contains (operations d) o → LastingSubscriptionBreaks d o b → Contains breaches b
-      subscription_told o b c h =
-          let g = told.subscriptions o c b (h.0, inr h.1) in
-          elim g.1.1 [
-            | inl e ↦ subst (λ v. Contains breaches v) (sym e) g.1.0
-            | inr many ↦ not_many s d o b h many.0
-          ]
-
+    module _ (parts : TellsData d (λ o. OperationFails d o s) faults) (told : HasAll (SomeBreaks d) breaches) where
       full : (f : PlacedDocumentFault) → LastingFails s d f → Contains (all_told kept_faults kept_breaches false) f
       full (OfData g) (o, (c, h)) = data_in kept_faults kept_breaches false g
           (passing fault_lasts faults g (parts.full g (inl (o, (c, fails h)))) (data_passes g (places_in s) (judged s) d o h))
@@ -68,9 +59,9 @@ module _ (s : SchemaTree Place) (d : MeantDocument Place) where
           fails (inr (inl v)) = inr (inl (inr v))
           fails (inr (inr v)) = inr (inr (inr v))
       full (OfDocument b) (o, (c, inl h)) = broken_in kept_faults kept_breaches false b
-          (passing broken_lasts breaches b (told.deferred b (inl (o, (c, h)))) (defer_passes b d o h))
+          (passing broken_lasts breaches b (told b (inr (inl (o, (c, h))))) (defer_passes b d o h))
       full (OfDocument b) (o, (c, inr h)) = broken_in kept_faults kept_breaches false b
-          (passing broken_lasts breaches b (subscription_told o b c h) (subscription_passes b d o h))
+          (passing broken_lasts breaches b (told b (inl (o, (c, (h.0, inr h.1))))) (subscription_passes b d o h))
       full (OfLimit place) h = absurd h
 
   -- where of what is found the first are kept, and those of them that last are told
@@ -108,11 +99,6 @@ module _ (s : SchemaTree Place) (d : MeantDocument Place) where
   lasting_told added tells (OfData f) (o, (c, inl h)) = tells.full (OfData f) (inl (o, (c, inl (of_variables (places_in s) (judged s) d o f h))))
   lasting_told added tells (OfData f) (o, (c, inr (inl h))) = tells.full (OfData f) (inl (o, (c, inr (inl (inr h)))))
   lasting_told added tells (OfData f) (o, (c, inr (inr h))) = tells.full (OfData f) (inl (o, (c, inr (inr (inr h)))))
-  lasting_told added tells (OfDocument b) (o, (c, inl h)) = tells.full (OfDocument b) (inl (o, (c, h)))
-  lasting_told added tells (OfDocument b) (o, (c, inr h)) =
-      let g = tells.subscriptions o c b (h.0, inr h.1) in
-      elim g.1.1 [
-        | inl e ↦ subst (λ v. Contains added (OfDocument v)) (sym e) g.1.0
-        | inr many ↦ not_many s d o b h many.0
-      ]
+  lasting_told added tells (OfDocument b) (o, (c, inl h)) = tells.full (OfDocument b) (inr (inl (o, (c, h))))
+  lasting_told added tells (OfDocument b) (o, (c, inr h)) = tells.full (OfDocument b) (inl (o, (c, (h.0, inr h.1))))
   lasting_told added tells (OfLimit place) h = absurd h

@@ -1,5 +1,5 @@
 -- Of a document under a schema: what is told in parts tells all, and what is silent is valid.
-use Rattle.std.proofs.Common.{◌≡◌, ◌⊎◌, inl, inr, Bool, true, false, List, [], ◌∷◌, ◌++◌, map, take, None, refl, subst, Contains}
+use Rattle.std.proofs.Common.{◌≡◌, inl, inr, Bool, true, false, List, [], ◌∷◌, ◌++◌, map, take, None, refl, subst, Contains}
 use Rattle.std.specs.Prelude.{IsTrue}
 use Rattle.graphql_names.specs.Placed.{Place}
 use Rattle.schema_types.specs.SchemaTree.{SchemaTree}
@@ -11,14 +11,12 @@ use Rattle.rule_definitions.specs.Judged.{judged}
 use Rattle.rule_definitions.specs.Room.{most_told}
 use Rattle.rule_definitions.specs.Told.{PlacedFault}
 use Rattle.rule_document_definitions.specs.DocumentFaults.{Broken, OfData, OfDocument, OfLimit}
-use Rattle.rule_document_definitions.specs.DocumentRules.{DeferredBreaks}
 use Rattle.rule_document_definitions.specs.Fragments.{ReachesItself}
 use Rattle.rule_document_definitions.specs.Limits.{PassesPathBound}
 use Rattle.rule_document_definitions.specs.Merging.{FieldsMerge}
 use Rattle.rule_document_definitions.specs.Named.{FragmentsFoundByName}
 use Rattle.rule_document_definitions.specs.Reached.{AtOperation}
 use Rattle.rule_document_definitions.specs.Selected.{operations}
-use Rattle.rule_document_definitions.specs.Subscriptions.{SubscriptionBreaks}
 use Rattle.rule_document_definitions.specs.Told.{PlacedDocumentFault, DocumentFails, DocumentMergingFails, IsValidDocument}
 use Rattle.rule_document_definitions.specs.Verdict.{WithinBounds}
 use Rattle.rule_document_definitions.proofs.MergingFacts.{merging_breaks_nothing}
@@ -26,19 +24,21 @@ use Rattle.rule_document_definitions.proofs.Verdicts.{valid_where_nothing_is_tol
 use Rattle.rule_fragments.specs.Used.{AreUnderOwnNames, IsUsed}
 use Rattle.rule_selections.proofs.Typing.{document_reaches_typed}
 use Rattle.rule_fragments.specs.Nested.{NestsTooDeep}
-use Rattle.rule_fragments.specs.SubscriptionTold.{AreAlike}
+use Rattle.rule_fragments.specs.UnlessFull.{HasAll}
 use Rattle.rule_selections.specs.in_typing.Meanings.{meanings}
 use Rattle.rule_merging.specs.Merged.{MergingFailsAt}
 use Rattle.rule_merging.specs.in_faults.DetailsTree.{of_document}
 use Rattle.rule_merging.proofs.Behind.{told_nothing}
 use Rattle.graphql_validation.specs.Operations.{AreReachesTyped, DataFails, TellsData, AllUnder, OperationFails, all_told}
 use Rattle.graphql_validation.specs.Steps.{TellsUnder}
-use Rattle.rule_fragments.specs.Documents.{SomeSubscriptionBreaks, TellsBreaches, BreachesTold}
+use Rattle.rule_fragments.specs.Documents.{SomeBreaks, BreachesTold}
 use Rattle.rule_fragments.proofs.UnlessFull.{of_first, first_tells, tells_none}
 use Rattle.graphql_validation.specs.Told.{AnswersFragment, Telling}
-use Rattle.graphql_validation.specs.TellsDocument.{IsTypedUnder, FailsBesides, FailsBesideMerging, FailsInMerging, SomeFails, TellsDocument, DocumentTold}
+use Rattle.graphql_validation.specs.TellsDocument.{IsTypedUnder, FailsBesides, FailsBesideMerging, FailsInMerging, SomeFails, TellsDocument, DocumentTold, TellsOnceBesideMerging}
 use Rattle.graphql_validation.proofs.FirstTold.{parts_told}
 use Rattle.graphql_validation.proofs.Ordered.{beside_under}
+use Rattle.fault_lists.specs.Once.{KeepsOnce}
+use Rattle.graphql_validation.proofs.Once.{all_once_told}
 use Rattle.graphql_validation.proofs.Telling.{data_in, broken_in, limit_in, told_cases, bound_is}
 
 module _ (s : SchemaTree Place) (d : MeantDocument Place) where
@@ -49,6 +49,10 @@ module _ (s : SchemaTree Place) (d : MeantDocument Place) where
 
   pub reaches_typed : IsTypedUnder s d → AreReachesTyped s d
   reaches_typed typed o among = document_reaches_typed (meanings (plain s)) d typed o among
+
+  -- breaches that are kept each once
+  pub breaches_kept : (old new : List (Broken Place)) → (AreUnderOwnNames d → BreachesTold d old) → KeepsOnce old new → AreUnderOwnNames d → BreachesTold d new
+  breaches_kept old new told keeps own = all_once_told old new keeps (told own)
 
   -- ---- what is told
 
@@ -67,7 +71,7 @@ module _ (s : SchemaTree Place) (d : MeantDocument Place) where
     abbrev All : List PlacedDocumentFault
     All = all_told faults breaches is_passed
 
-    pub beside : ((f : PlacedFault) → Contains faults f → DataFails d (AllUnder s d) f) → ((b : Broken Place) → Contains breaches b → SomeSubscriptionBreaks d b ⊎ DeferredBreaks d b) → (IsTrue is_passed → PassesPathBound d)
+    pub beside : ((f : PlacedFault) → Contains faults f → DataFails d (AllUnder s d) f) → ((b : Broken Place) → Contains breaches b → SomeBreaks d b) → (IsTrue is_passed → PassesPathBound d)
         → (f : PlacedDocumentFault) → Contains (all_told faults breaches is_passed) f → FailsBesideMerging s d f
     beside fails breaks passes f c = elim (told_cases faults breaches is_passed f c) [
       | inl g ↦ subst (FailsBesideMerging s d) g.1.1 (elim (fails g.0 g.1.0) [ inl h ↦ inl h | inr h ↦ inr (inl h) ])
@@ -77,19 +81,16 @@ module _ (s : SchemaTree Place) (d : MeantDocument Place) where
       ]
     ]
 
-    tells_document : (NestsTooDeep d → IsTrue is_passed) → TellsData d (λ o. OperationFails d o s) faults → TellsBreaches d breaches → TellsDocument s d (all_told faults breaches is_passed)
-    tells_document found parts told = record { full = full; cycles = cycles; subscriptions = subscriptions; bound = bound }
+    tells_document : (NestsTooDeep d → IsTrue is_passed) → TellsData d (λ o. OperationFails d o s) faults → HasAll (SomeBreaks d) breaches → TellsDocument s d (all_told faults breaches is_passed)
+    tells_document found parts told = record { full = full; cycles = cycles; bound = bound }
       where
         full : (f : PlacedDocumentFault) → FailsBesides s d f → Contains All f
         full (OfData f) h = data_in faults breaches is_passed f (parts.full f h)
-        full (OfDocument b) h = broken_in faults breaches is_passed b (told.deferred b h)
+        full (OfDocument b) h = broken_in faults breaches is_passed b (told b h)
         full (OfLimit place) h = absurd h
 
         cycles : (g : MeantFragment Place) → IsUsed d g → ReachesItself d g → (f : PlacedDocumentFault) × (Contains All f × AnswersFragment g f)
         cycles g used itself = let f = parts.cycles g used itself in (OfData f.0, (data_in faults breaches is_passed f.0 f.1.0, (f.0, (refl, f.1.1))))
-
-        subscriptions : (o : MeantOperation Place) → Contains (operations d) o → (b : Broken Place) → SubscriptionBreaks d o b → (g : Broken Place) × (Contains All (OfDocument g) × AreAlike d o b g)
-        subscriptions o among b breaks = let g = told.subscriptions o among b breaks in (g.0, (broken_in faults breaches is_passed g.0 g.1.0, g.1.1))
 
         bound : NestsTooDeep d → Contains All (OfLimit None)
         bound nests = limit_in faults breaches is_passed (found nests)
@@ -118,12 +119,12 @@ module _ (s : SchemaTree Place) (d : MeantDocument Place) where
     pub nothing_beside : (faults ≡ []) × ((breaches ≡ []) × (is_passed ≡ false)) → TellsDocument s d []
     nothing_beside (a, (b, e)) =
         let no_fault : TellsData d (λ o. OperationFails d o s) [] = tells_none faults (parts (reaches_typed typed) (own_names typed)) a in
-        let no_breach : TellsBreaches d [] = tells_none breaches (told (own_names typed)) b in
+        let no_breach : HasAll (SomeBreaks d) [] = tells_none breaches (told (own_names typed)) b in
         subst (λ p. TellsDocument s d (all_told [] [] p)) e (tells_document [] [] is_passed found no_fault no_breach)
 
   -- where they tell nothing, what merging tells is all
   tells_merging : TellsDocument s d [] → (told : List PlacedDocumentFault) → TellsDocument s d told
-  tells_merging tells told = record { full = full; cycles = cycles; subscriptions = subscriptions; bound = bound }
+  tells_merging tells told = record { full = full; cycles = cycles; bound = bound }
     where
       full : (f : PlacedDocumentFault) → FailsBesides s d f → Contains told f
       full f h = absurd (not_in_nil f (tells.full f h))
@@ -131,29 +132,30 @@ module _ (s : SchemaTree Place) (d : MeantDocument Place) where
       cycles : (g : MeantFragment Place) → IsUsed d g → ReachesItself d g → (f : PlacedDocumentFault) × (Contains told f × AnswersFragment g f)
       cycles g used itself = let f = tells.cycles g used itself in absurd (not_in_nil f.0 f.1.0)
 
-      subscriptions : (o : MeantOperation Place) → Contains (operations d) o → (b : Broken Place) → SubscriptionBreaks d o b → (g : Broken Place) × (Contains told (OfDocument g) × AreAlike d o b g)
-      subscriptions o among b breaks = let g = tells.subscriptions o among b breaks in absurd (not_in_nil (OfDocument g.0) g.1.0)
-
       bound : NestsTooDeep d → Contains told (OfLimit None)
       bound nests = absurd (not_in_nil _ (tells.bound nests))
 
-  pub merging_told : TellsDocument s d [] → (old new : Telling) (all : List PlacedDocumentFault) → new ≡ old ++ map of_document (take most_told all)
-      → ((f : PlacedDocumentFault) → Contains all f → AtOperation d (λ o. MergingFailsAt (judged s) d o f)) → DocumentTold s d old new
-  merging_told tells old new all is conflicts = (
-    take most_told all,
-    (
-      is,
+  in_merging : (f : PlacedDocumentFault) → AtOperation d (λ o. MergingFailsAt (judged s) d o f) → FailsInMerging s d f
+  in_merging (OfData f) at = absurd at.1.1
+  in_merging (OfDocument b) at = inl at
+  in_merging (OfLimit place) (o, (among, (passes, is))) = inr (o, (among, (passes, λ i. OfLimit (is i))))
+
+  module _ (old new : Telling) (all : List PlacedDocumentFault) (is : new ≡ old ++ map of_document (take most_told all))
+      (conflicts : (f : PlacedDocumentFault) → Contains all f → AtOperation d (λ o. MergingFailsAt (judged s) d o f)) where
+    pub merging_told : TellsDocument s d [] → DocumentTold s d old new
+    merging_told tells = (
+      take most_told all,
       (
-        first_tells {Right = SomeFails s d} {TellsAll = TellsDocument s d} (take most_told all) all refl (λ f c. merging_some f (fails f (conflicts f c))) (inr (tells_merging tells all)),
-        inr (λ f c. fails f (conflicts f (of_first all f c))),
+        is,
+        (
+          first_tells {Right = SomeFails s d} {TellsAll = TellsDocument s d} (take most_told all) all refl (λ f c. merging_some f (in_merging f (conflicts f c))) (inr (tells_merging tells all)),
+          inr (λ f c. in_merging f (conflicts f (of_first all f c))),
+        ),
       ),
-    ),
-  )
-    where
-      fails : (f : PlacedDocumentFault) → AtOperation d (λ o. MergingFailsAt (judged s) d o f) → FailsInMerging s d f
-      fails (OfData f) at = absurd at.1.1
-      fails (OfDocument b) at = inl at
-      fails (OfLimit place) (o, (among, (passes, is))) = inr (o, (among, (passes, λ i. OfLimit (is i))))
+    )
+
+    pub merging_once : TellsOnceBesideMerging s d old new
+    merging_once = (take most_told all, (is, inr (λ f c. in_merging f (conflicts f (of_first all f c)))))
 
   -- ---- what is silent
 
@@ -163,8 +165,7 @@ module _ (s : SchemaTree Place) (d : MeantDocument Place) where
     | inr g ↦ let t = tells.cycles g.0 (at.0, (at.1.0, g.1.0)) g.1.1 in not_in_nil t.0 t.1.0
   ]
   no_rule tells (OfData f) (inr h) = not_in_nil (OfData f) (tells.full (OfData f) (inr h))
-  no_rule tells (OfDocument b) (inl at) = let g = tells.subscriptions at.0 at.1.0 b at.1.1 in not_in_nil (OfDocument g.0) g.1.0
-  no_rule tells (OfDocument b) (inr h) = not_in_nil (OfDocument b) (tells.full (OfDocument b) h)
+  no_rule tells (OfDocument b) h = not_in_nil (OfDocument b) (tells.full (OfDocument b) h)
   no_rule tells (OfLimit place) h = h
 
   no_conflict : ((o : MeantOperation Place) → Contains (operations d) o → FieldsMerge (judged s) d o) → (f : PlacedDocumentFault) → DocumentMergingFails s d f → ⊥

@@ -34,7 +34,8 @@ module _ {P E : Type 0} (places : Places P) (s : Judged) (d : MeantDocument P) w
   abbrev pub LastingDataBreaks : MeantOperation P → FaultAt P E → Type 0
   LastingDataBreaks o fault = LastingVariablesBreak o fault ⊎ (LastingSelectionsBreak o fault ⊎ LastingFragmentsBreak o fault)
 
--- on the root of a subscription: all but SubscriptionUsesMultipleFields, which tells all fields there
+-- on the root of a subscription: all but SubscriptionUsesMultipleFields, since by `IsPartOf` two fields of a document may be one of the
+-- other, where nothing tells them apart
 abbrev pub LastingSubscriptionBreaks : {P : Type 0} → MeantDocument P → MeantOperation P → Broken P → Type 0
 LastingSubscriptionBreaks d o fault =
     (o.operation_type ≡ operation.Subscription) × (SubscriptionUsesIntrospectionAt d o fault ⊎ SubscriptionUsesConditionalSelectionAt d o fault)

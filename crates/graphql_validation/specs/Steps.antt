@@ -1,5 +1,5 @@
 -- Private: leads to `DataTold` and `TellsDocument`. What the checks of operations find and note, and what is told at the end, as the program has it.
-use Rattle.std.specs.Prelude.{◌≡◌, ◌++◌, List, map, take, Option, Contains, ◌⊎◌}
+use Rattle.std.specs.Prelude.{◌≡◌, ◌++◌, List, [], map, take, Option, Contains, ◌⊎◌}
 use Rattle.indexmap.specs.IndexMap.{IndexMap}
 use Rattle.graphql_names.specs.NameValue.{NameValue}
 use Rattle.graphql_names.specs.Placed.{Place}
@@ -11,6 +11,7 @@ use Rattle.document_meaning.specs.MeantTree.{MeantOperation, MeantDocument}
 use Rattle.rule_selections.specs.in_typing.Meanings.{meanings}
 use Rattle.fault_data.specs.Adds.{Adds}
 use Rattle.fault_data.specs.FaultView.{faults_of}
+use Rattle.fault_lists.specs.Added.{AddsNew, TellsAll}
 use Rattle.rule_definitions.specs.Room.{most_told}
 use Rattle.rule_merging.specs.in_faults.DetailsTree.{of_document}
 use Rattle.rule_merging.specs.in_faults.DetailsView.{diagnostics_of}
@@ -24,7 +25,7 @@ use Rattle.rule_document_definitions.specs.Told.{PlacedDocumentFault}
 use Rattle.rule_fragments.specs.in_ground.NotedNames.{noted_names}
 use Rattle.rule_fragments.specs.in_ground.Reach.{meant_fragments}
 use Rattle.rule_fragments.specs.Possible.{ObjectsOfTypes, ArePossibleIfFound}
-use Rattle.rule_fragments.specs.UnlessFull.{IsFull, HasAll, AddsUnlessFull}
+use Rattle.rule_fragments.specs.UnlessFull.{IsFull, HasAll, TellsUnlessFull}
 use Rattle.rule_fragments.specs.Used.{AreUnderOwnNames, AreUsed}
 use Rattle.rule_merging.specs.Merged.{MergingFailsAt}
 use Rattle.rule_selections.specs.Settled.{StandInWith, StandInEach}
@@ -40,8 +41,12 @@ AddsDetails old new told = diagnostics_of new ≡ diagnostics_of old ++ map of_d
 abbrev pub NotesReached : MeantDocument Place → MeantOperation Place → Found → Found → Type 0
 NotesReached d o old new = NotesNames (noted_names old.used) (noted_names new.used) (ReachesNamed d o)
 
-abbrev pub NotesAllReached : MeantDocument Place → Found → Found → Type 0
-NotesAllReached d old new = IsFull (faults_of new.faults) ⊎ NotesNames (noted_names old.used) (noted_names new.used) (λ n. AtOperation d (λ o. ReachesNamed d o n))
+abbrev pub NotesAllReached : MeantDocument Place → Found → Type 0
+NotesAllReached d found = IsFull (faults_of found.faults) ⊎ NotesNames [] (noted_names found.used) (λ n. AtOperation d (λ o. ReachesNamed d o n))
+
+-- those of an operation alone, where they are as many as a call tells; else what was found before, and what of these is new
+abbrev pub Joins : {A : Type 0} → (before own new : List A) → Type 0
+Joins before own new = (IsFull own × (new ≡ own)) ⊎ ((IsFull own → ⊥) × (AddsNew before own new × TellsAll own new))
 
 -- Where the list is full nothing comes after these; where it is not, fragments are under their own names, and the names are those that
 -- operations reach, so do the faults of all fragments.
@@ -50,8 +55,8 @@ TellsFragments d found told = (IsFull (faults_of found.faults) → told ≡ faul
     × ((IsFull (faults_of found.faults) → ⊥) → AreUnderOwnNames d → AreUsed d (noted_names found.used) → FragmentsTold d (faults_of found.faults) told)
 
 -- what fails so in operations of a document is found: all of it, unless the list is full
-abbrev pub FindsAll : MeantDocument Place → (MeantOperation Place → PlacedFault → Type 0) → Found → Found → Type 0
-FindsAll d Fails old new = AddsUnlessFull (faults_of old.faults) (faults_of new.faults) (λ f. AtOperation d (λ o. Fails o f)) (HasAll (λ f. AtOperation d (λ o. Fails o f)))
+abbrev pub FindsAll : MeantDocument Place → (MeantOperation Place → PlacedFault → Type 0) → Found → Type 0
+FindsAll d Fails found = TellsUnlessFull (λ f. AtOperation d (λ o. Fails o f)) (HasAll (λ f. AtOperation d (λ o. Fails o f))) (faults_of found.faults)
 
 -- ---- without a schema
 
@@ -59,8 +64,8 @@ FindsAll d Fails old new = AddsUnlessFull (faults_of old.faults) (faults_of new.
 abbrev pub FindsAlone : MeantDocument Place → MeantOperation Place → Found → Found → Type 0
 FindsAlone d o old new = Adds old.faults new.faults (OperationFailsAlone d o)
 
-abbrev pub FindsAllAlone : MeantDocument Place → Found → Found → Type 0
-FindsAllAlone d old new = FindsAll d (OperationFailsAlone d) old new
+abbrev pub FindsAllAlone : MeantDocument Place → Found → Type 0
+FindsAllAlone d found = FindsAll d (OperationFailsAlone d) found
 
 abbrev pub TellsAlone : MeantDocument Place → List PlacedFault → Type 0
 TellsAlone d told = AreUnderOwnNames d → DataTold d (AllAlone d) (OperationFailsAlone d) told
@@ -86,12 +91,12 @@ module _ (s : SchemaTree Place) where
 
   module _ (d : MeantDocument Place) where
     -- what is found of each operation of the document, if these stand in for its fragments
-    abbrev pub FindsAllUnder : {S : Type 0} → FragmentsOf S → Option ObjectsOfTypes → Found → Found → Type 0
-    FindsAllUnder fragments possible old new = StandInEach s d (meant_fragments fragments) → AreReachesTyped s d → ArePossibleIfFound (judged s) possible
-        → FindsAll d (λ o. OperationFails d o s) old new
+    abbrev pub FindsAllUnder : {S : Type 0} → FragmentsOf S → Option ObjectsOfTypes → Found → Type 0
+    FindsAllUnder fragments possible found = StandInEach s d (meant_fragments fragments) → AreReachesTyped s d → ArePossibleIfFound (judged s) possible
+        → FindsAll d (λ o. OperationFails d o s) found
 
-    abbrev pub NotesAllUnder : {S : Type 0} → FragmentsOf S → Found → Found → Type 0
-    NotesAllUnder fragments old new = StandInEach s d (meant_fragments fragments) → NotesAllReached d old new
+    abbrev pub NotesAllUnder : {S : Type 0} → FragmentsOf S → Found → Type 0
+    NotesAllUnder fragments found = StandInEach s d (meant_fragments fragments) → NotesAllReached d found
 
     abbrev pub TellsUnder : List PlacedFault → Type 0
     TellsUnder told = AreReachesTyped s d → AreUnderOwnNames d → DataTold d (AllUnder s d) (λ o. OperationFails d o s) told

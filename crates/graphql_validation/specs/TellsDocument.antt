@@ -3,23 +3,22 @@ use Rattle.std.specs.Prelude.{◌≡◌, ◌++◌, List, map, Contains, ◌⊎�
 use Rattle.graphql_names.specs.Placed.{Place}
 use Rattle.schema_types.specs.SchemaTree.{SchemaTree}
 use Rattle.schema_types.specs.Plain.{plain}
-use Rattle.document_meaning.specs.MeantTree.{MeantOperation, MeantFragment, MeantDocument}
+use Rattle.document_meaning.specs.MeantTree.{MeantFragment, MeantDocument}
 use Rattle.document_meaning.specs.Unplaced.{unplaced_document}
 use Rattle.rule_selections.specs.in_typing.Meanings.{meanings}
 use Rattle.rule_selections.specs.in_typing.TypedByPlace.{IsTypedDocument}
-use Rattle.rule_document_definitions.specs.DocumentFaults.{Broken, OfData, OfDocument, OfLimit}
+use Rattle.rule_document_definitions.specs.DocumentFaults.{OfData, OfDocument, OfLimit}
 use Rattle.rule_document_definitions.specs.DocumentRules.{DeferredBreaks}
 use Rattle.rule_document_definitions.specs.Fragments.{ReachesItself, UnusedFragmentAt}
 use Rattle.rule_document_definitions.specs.Limits.{SpreadBoundFails, PathBoundFails, ChainBoundFails}
 use Rattle.rule_document_definitions.specs.Reached.{AtOperation}
-use Rattle.rule_document_definitions.specs.Selected.{operations}
 use Rattle.rule_document_definitions.specs.Subscriptions.{SubscriptionBreaks}
 use Rattle.rule_document_definitions.specs.Told.{PlacedDocumentFault, DocumentFails, DocumentMergingFails, DocumentBoundFails, IsValidDocument, places_alone}
 use Rattle.rule_document_definitions.specs.Verdict.{WithinBounds}
+use Rattle.fault_lists.specs.Once.{EachOnce}
 use Rattle.rule_fragments.specs.UnlessFull.{TellsUnlessFull}
 use Rattle.rule_fragments.specs.Used.{IsUsed}
 use Rattle.rule_fragments.specs.Nested.{NestsTooDeep}
-use Rattle.rule_fragments.specs.SubscriptionTold.{AreAlike}
 use Rattle.rule_merging.specs.in_faults.DetailsTree.{of_document}
 use Rattle.graphql_validation.specs.Operations.{OperationFails}
 use Rattle.graphql_validation.specs.Told.{Telling, AnswersFragment}
@@ -29,10 +28,10 @@ module _ (s : SchemaTree Place) (d : MeantDocument Place) where
   abbrev pub IsTypedUnder : Type 0
   IsTypedUnder = IsTypedDocument (meanings (plain s)) d
 
-  -- a rule fails so, those on fragments that reach themselves, on subscriptions and on merging aside
+  -- a rule fails so, those on fragments that reach themselves and on merging aside
   abbrev pub FailsBesides : PlacedDocumentFault → Type 0
   FailsBesides (OfData fault) = AtOperation d (λ o. OperationFails d o s fault) ⊎ UnusedFragmentAt d fault
-  FailsBesides (OfDocument fault) = DeferredBreaks d fault
+  FailsBesides (OfDocument fault) = AtOperation d (λ o. SubscriptionBreaks d o fault) ⊎ DeferredBreaks d fault
   FailsBesides (OfLimit place) = ⊥
 
   -- a rule on documents or on merging fails so, or a bound is passed
@@ -47,13 +46,11 @@ module _ (s : SchemaTree Place) (d : MeantDocument Place) where
   abbrev pub FailsBesideMerging : PlacedDocumentFault → Type 0
   FailsBesideMerging f = DocumentFails s d f ⊎ (SpreadBoundFails places_alone d f ⊎ PathBoundFails places_alone d f)
 
-  -- these tell all that fails of the document: of cycles, each fragment that reaches itself; of subscriptions, each fault or one that
-  -- tells the same root fields; of bounds, that on paths where it is passed in one text. What does not merge may be told in part
+  -- these tell all that fails of the document: of cycles, each fragment that reaches itself; of bounds, that on paths where it is
+  -- passed in one text. What does not merge may be told in part
   pub record TellsDocument (told : List PlacedDocumentFault) : Type 0 where
     pub full : (f : PlacedDocumentFault) → FailsBesides f → Contains told f
     pub cycles : (g : MeantFragment Place) → IsUsed d g → ReachesItself d g → (f : PlacedDocumentFault) × (Contains told f × AnswersFragment g f)
-    pub subscriptions : (o : MeantOperation Place) → Contains (operations d) o → (b : Broken Place) → SubscriptionBreaks d o b
-        → (g : Broken Place) × (Contains told (OfDocument g) × AreAlike d o b g)
     pub bound : NestsTooDeep d → Contains told (OfLimit None)
 
   -- what does not merge stands apart: either none of it is told, or nothing else
@@ -63,6 +60,11 @@ module _ (s : SchemaTree Place) (d : MeantDocument Place) where
   -- behind what was told stands what fails of the document: all of it, or 1,000 faults
   abbrev pub DocumentTold : Telling → Telling → Type 0
   DocumentTold old new = (told : List PlacedDocumentFault) × ((new ≡ old ++ map of_document told) × (TellsUnlessFull SomeFails TellsDocument told × MergingStandsApart told))
+
+  -- of what stands behind what was told no two are equal, unless they are 1,000, or do not merge
+  abbrev pub TellsOnceBesideMerging : Telling → Telling → Type 0
+  TellsOnceBesideMerging old new = (told : List PlacedDocumentFault) × ((new ≡ old ++ map of_document told)
+      × (EachOnce told ⊎ ((f : PlacedDocumentFault) → Contains told f → FailsInMerging f)))
 
   -- the same of a document that is typed
   abbrev pub TypedDocumentTold : Telling → Telling → Type 0

@@ -19,11 +19,16 @@ use Rattle.rule_document_definitions.specs.Told.{PlacedDocumentFault, SetRulesFa
 use Rattle.rule_document_definitions.specs.Verdict.{WithinBounds, FieldSetWithinBounds}
 use Rattle.rule_merging.specs.in_faults.DetailsTree.{of_document}
 pub use Rattle.rule_merging.specs.in_faults.DetailsTree.{Telling}
+use Rattle.fault_lists.specs.Once.{EachOnce}
 use Rattle.rule_fragments.specs.UnlessFull.{TellsUnlessFull}
 use Rattle.rule_fragments.specs.Used.{IsUsed, AreUnderOwnNames}
 use Rattle.rule_fragments.specs.Told.{Answers}
 use Rattle.rule_fragments.specs.Nested.{NestsTooDeep}
 use Rattle.graphql_validation.specs.Operations.{OperationFailsAlone}
+
+-- behind what was told stands something of which no two are equal, unless they are 1,000
+abbrev pub TellsOnce : Telling → Telling → Type 0
+TellsOnce old new = (told : List PlacedDocumentFault) × ((new ≡ old ++ map of_document told) × EachOnce told)
 
 -- a fault that says that the fragment reaches itself, or that ways of spreads from there are too long
 abbrev pub AnswersFragment : MeantFragment Place → PlacedDocumentFault → Type 0

@@ -3,11 +3,13 @@ ghost use Rattle.std.specs.Prelude.{IfOk, OnOk};
 ghost use Rattle.rule_fragments.specs.in_typed_operations.DocumentView.{document_meant, operation_meant};
 ghost use Rattle.fault_data.specs.Adds.{Adds};
 ghost use Rattle.fault_data.specs.FaultView.{faults_of};
+ghost use Rattle.fault_lists.specs.Once.{EachOnce};
 ghost use Rattle.graphql_validation.specs.Steps.{FindsAlone, NotesReached, FindsAllAlone, NotesAllReached, TellsAlone};
 
 use crate::found::{Found, check_fragments, note_fragments};
 use document_typed_operations::{ExecutableDocument, Operation};
 use fault_data::{Fault, is_full};
+use fault_lists::each_once;
 use graphql_names::Node;
 use rule_fragments::{check_spreads, reach};
 use rule_selections::check_selections_alone;
@@ -32,29 +34,32 @@ fn check_operation(
     note_fragments(&reach, &mut found.used)
 }
 
-/// Adds the faults of each operation without a schema, and notes the fragments that one of them reaches, up to the one where
-/// the list is full.
-fn check_operations(document: &ExecutableDocument, found: &mut Found) -> Result<(), AllocError>
-    ensures told { OnOk result (FindsAllAlone (document_meant document.now) found.old found.new) }
-    ensures noted { OnOk result (NotesAllReached (document_meant document.now) found.old found.new) }
+/// The faults of each operation without a schema, and the fragments that one of them reaches, up to the one where the list is
+/// full. A fault that operations share is found once.
+fn check_operations(alloc: Global, document: &ExecutableDocument) -> Result<Found, AllocError>
+    ensures told { IfOk result (λ found. FindsAllAlone (document_meant document.now) found) }
+    ensures noted { IfOk result (λ found. NotesAllReached (document_meant document.now) found) }
 {
+    let mut found = Found::new(alloc);
     for operation in document.operations.iter() {
         if is_full(&found.faults) {
-            return Ok(());
+            return Ok(found);
         }
-        check_operation(document, operation, found)?;
+        let before = found.take_faults();
+        check_operation(document, operation, &mut found)?;
+        found.join(before)?;
     }
-    Ok(())
+    Ok(found)
 }
 
-/// The faults of a document without a schema: all, or 1,000.
+/// The faults of a document without a schema, each once: all, or 1,000.
 pub(crate) fn faults_alone(
     alloc: Global,
     document: &ExecutableDocument,
 ) -> Result<Vec<Fault>, AllocError>
-    ensures { IfOk result (λ r. TellsAlone (document_meant document.now) (faults_of r)) }
+    ensures told { IfOk result (λ r. TellsAlone (document_meant document.now) (faults_of r)) }
+    ensures once { IfOk result (λ r. EachOnce (faults_of r)) }
 {
-    let mut found = Found::new(alloc);
-    check_operations(document, &mut found)?;
-    check_fragments(document, found)
+    let found = check_operations(alloc, document)?;
+    each_once(check_fragments(document, found)?)
 }

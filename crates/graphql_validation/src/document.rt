@@ -10,7 +10,7 @@ ghost use Rattle.rule_fragments.specs.in_ground.Broken.{brokens_of};
 ghost use Rattle.rule_definitions.specs.Judged.{judged};
 ghost use Rattle.rule_merging.specs.Merged.{DocumentMergingTold};
 ghost use Rattle.rule_fragments.specs.Possible.{ArePossibleIfFound};
-ghost use Rattle.graphql_validation.specs.TellsDocument.{TypedDocumentTold, SilenceMeansValid, ValidMeansSilence};
+ghost use Rattle.graphql_validation.specs.TellsDocument.{TypedDocumentTold, TellsOnceBesideMerging, SilenceMeansValid, ValidMeansSilence};
 ghost use Rattle.graphql_validation.specs.Steps.{TellsMerging, AllMerge};
 
 use crate::found::fragments_differ;
@@ -18,6 +18,7 @@ use crate::told::append_all;
 use crate::under_schema::faults_under;
 use document_typed_operations::ExecutableDocument;
 use fault_data::{Fault, MOST_TOLD};
+use fault_lists::each_once;
 use rule_fragments::{PossibleTypes, Schema, document_breaches, passes_path_bound};
 use rule_merging::{Breach, DiagnosticList, FieldsInSetCanMerge};
 use rule_selections::{IndexedSchema, SchemaInputs};
@@ -77,6 +78,7 @@ pub fn validate_executable_document(
     document: &ExecutableDocument,
 ) -> Result<(), AllocError>
     ensures told { OnOk result (TypedDocumentTold (schema_tree schema.now) (document_meant document.now) (diagnostics_of list.old) (diagnostics_of list.new)) }
+    ensures once { OnOk result (TellsOnceBesideMerging (schema_tree schema.now) (document_meant document.now) (diagnostics_of list.old) (diagnostics_of list.new)) }
     ensures silent { OnOk result (SilenceMeansValid (schema_tree schema.now) (document_meant document.now) (diagnostics_of list.old) (diagnostics_of list.new)) }
     ensures accepts { OnOk result (ValidMeansSilence (schema_tree schema.now) (document_meant document.now) (diagnostics_of list.old) (diagnostics_of list.new)) }
     ensures begins { OnErr result (BeginsAs (diagnostics_of list.old) (diagnostics_of list.new)) }
@@ -97,6 +99,7 @@ pub fn validate_with_possible_types(
 ) -> Result<(), AllocError>
     requires { ArePossibleIfFound (judged (schema_tree schema.now)) (option_copied possible) }
     ensures told { OnOk result (TypedDocumentTold (schema_tree schema.now) (document_meant document.now) (diagnostics_of list.old) (diagnostics_of list.new)) }
+    ensures once { OnOk result (TellsOnceBesideMerging (schema_tree schema.now) (document_meant document.now) (diagnostics_of list.old) (diagnostics_of list.new)) }
     ensures silent { OnOk result (SilenceMeansValid (schema_tree schema.now) (document_meant document.now) (diagnostics_of list.old) (diagnostics_of list.new)) }
     ensures accepts { OnOk result (ValidMeansSilence (schema_tree schema.now) (document_meant document.now) (diagnostics_of list.old) (diagnostics_of list.new)) }
     ensures begins { OnErr result (BeginsAs (diagnostics_of list.old) (diagnostics_of list.new)) }
@@ -104,7 +107,7 @@ pub fn validate_with_possible_types(
     // For its contract alone: no two fragments have one name, which the rules take for granted.
     fragments_differ(document);
     let faults = faults_under(alloc, schema, possible, document)?;
-    let breaches = document_breaches(alloc, document)?;
+    let breaches = each_once(document_breaches(alloc, document)?)?;
     let is_passed = passes_path_bound(document);
     if is_nothing(&faults, &breaches, is_passed) {
         return merge_operations(alloc, list, schema.schema(), document);

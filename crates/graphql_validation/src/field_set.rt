@@ -8,7 +8,7 @@ ghost use Rattle.document_typed_operations.specs.TypedDocument.{typed_operation_
 ghost use Rattle.document_typed_selections.specs.TypedTree.{typed_set_tree};
 ghost use Rattle.rule_fragments.specs.in_typed_operations.DocumentView.{document_meant};
 ghost use Rattle.graphql_validation.specs.Operations.{query_on};
-ghost use Rattle.graphql_validation.specs.Told.{set_meant, TypedFieldSetTold, SilenceMeansValidSet, ValidSetMeansSilence};
+ghost use Rattle.graphql_validation.specs.Told.{set_meant, TellsOnce, TypedFieldSetTold, SilenceMeansValidSet, ValidSetMeansSilence};
 
 use crate::told::append_all;
 use crate::under_schema::faults_under;
@@ -58,6 +58,7 @@ pub fn validate_field_set(
     field_set: &FieldSet,
 ) -> Result<(), AllocError>
     ensures told { OnOk result (TypedFieldSetTold (schema_tree schema.now) (set_meant field_set.now) (diagnostics_of list.old) (diagnostics_of list.new)) }
+    ensures once { OnOk result (TellsOnce (diagnostics_of list.old) (diagnostics_of list.new)) }
     ensures silent { OnOk result (SilenceMeansValidSet (schema_tree schema.now) (set_meant field_set.now) (diagnostics_of list.old) (diagnostics_of list.new)) }
     ensures accepts { OnOk result (ValidSetMeansSilence (schema_tree schema.now) (set_meant field_set.now) (diagnostics_of list.old) (diagnostics_of list.new)) }
     ensures begins { OnErr result (BeginsAs (diagnostics_of list.old) (diagnostics_of list.new)) }

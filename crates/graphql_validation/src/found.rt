@@ -8,14 +8,16 @@ ghost use Rattle.rule_fragments.specs.in_ground.Reach.{reached_fragments_of};
 ghost use Rattle.rule_fragments.specs.in_ground.NotedNames.{noted_names};
 ghost use Rattle.fault_data.specs.FaultView.{faults_of};
 ghost use Rattle.graphql_validation.specs.Operations.{with_fragments};
-ghost use Rattle.graphql_validation.specs.Steps.{TellsFragments};
+ghost use Rattle.graphql_validation.specs.Steps.{Joins, TellsFragments};
 
 use document_typed_operations::ExecutableDocument;
 use fault_data::{Fault, is_full};
+use fault_lists::add_new;
 use graphql_names::Name;
 use indexmap::IndexSet;
 use rule_fragments::{Reach, check_cycles, check_unused, note_name};
 use std::alloc::{AllocError, Global};
+use std::mem::replace;
 
 /// The faults that were found so far, and the names of the fragments that the operations so far reach.
 #[derive(Drop)]
@@ -34,6 +36,29 @@ impl Found {
             faults: Vec::new(alloc),
             used: IndexSet::new(alloc),
         }
+    }
+
+    /// What was found, without it: the faults of the next operation are found apart.
+    pub(crate) fn take_faults(&mut self) -> Vec<Fault>
+        ensures taken { result ≡ self.old.faults }
+        ensures none { self.new.faults.items ≡ [] }
+        ensures used { self.new.used ≡ self.old.used }
+    {
+        let alloc = *self.faults.allocator();
+        replace(&mut self.faults, Vec::new(alloc))
+    }
+
+    /// Puts what was found before the faults of an operation, of which those are left out that were found already: most
+    /// operations share fragments. An operation that has as many as a call tells has its faults told, and no others.
+    pub(crate) fn join(&mut self, before: Vec<Fault>) -> Result<(), AllocError>
+        ensures joined { OnOk result (Joins (faults_of before) (faults_of self.old.faults) (faults_of self.new.faults)) }
+        ensures used { self.new.used ≡ self.old.used }
+    {
+        if is_full(&self.faults) {
+            return Ok(());
+        }
+        let own = replace(&mut self.faults, before);
+        add_new(&mut self.faults, own)
     }
 }
 

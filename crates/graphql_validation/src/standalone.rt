@@ -2,12 +2,13 @@
 ghost use Rattle.std.specs.Prelude.{OnErr, OnOk};
 ghost use Rattle.rule_fragments.specs.in_typed_operations.DocumentView.{document_meant};
 ghost use Rattle.rule_merging.specs.in_faults.DetailsView.{diagnostics_of, BeginsAs};
-ghost use Rattle.graphql_validation.specs.Told.{NamedAloneTold, SilenceMeansValidAlone, ValidAloneMeansSilence};
+ghost use Rattle.graphql_validation.specs.Told.{NamedAloneTold, TellsOnce, SilenceMeansValidAlone, ValidAloneMeansSilence};
 
 use crate::alone::faults_alone;
 use crate::found::fragments_differ;
 use crate::told::append_all;
 use document_typed_operations::ExecutableDocument;
+use fault_lists::each_once;
 use rule_fragments::{deferred_breaches, passes_path_bound};
 use rule_merging::DiagnosticList;
 use std::alloc::{AllocError, Global};
@@ -23,13 +24,14 @@ pub fn validate_standalone_executable(
     document: &ExecutableDocument,
 ) -> Result<(), AllocError>
     ensures told { OnOk result (NamedAloneTold (document_meant document.now) (diagnostics_of list.old) (diagnostics_of list.new)) }
+    ensures once { OnOk result (TellsOnce (diagnostics_of list.old) (diagnostics_of list.new)) }
     ensures silent { OnOk result (SilenceMeansValidAlone (document_meant document.now) (diagnostics_of list.old) (diagnostics_of list.new)) }
     ensures accepts { OnOk result (ValidAloneMeansSilence (document_meant document.now) (diagnostics_of list.old) (diagnostics_of list.new)) }
     ensures begins { OnErr result (BeginsAs (diagnostics_of list.old) (diagnostics_of list.new)) }
 {
     fragments_differ(document);
     let faults = faults_alone(alloc, document)?;
-    let breaches = deferred_breaches(alloc, document)?;
+    let breaches = each_once(deferred_breaches(alloc, document)?)?;
     let is_passed = passes_path_bound(document);
     append_all(list, faults, breaches, is_passed)
 }

@@ -3,6 +3,7 @@ ghost use Rattle.std.specs.Prelude.{IfOk, OnOk};
 ghost use Rattle.std.specs.Option.{option_copied};
 ghost use Rattle.fault_data.specs.Adds.{Adds};
 ghost use Rattle.fault_data.specs.FaultView.{faults_of};
+ghost use Rattle.fault_lists.specs.Once.{EachOnce};
 ghost use Rattle.rule_definitions.specs.Judged.{judged};
 ghost use Rattle.rule_fragments.specs.in_schema.SchemaOf.{schema_tree};
 ghost use Rattle.rule_fragments.specs.in_typed_operations.DocumentView.{document_meant, operation_meant};
@@ -12,6 +13,7 @@ ghost use Rattle.graphql_validation.specs.Steps.{FindsUnder, NotesUnder, StayPos
 use crate::found::{Found, check_fragments, note_fragments};
 use document_typed_operations::{ExecutableDocument, FragmentMap, Operation};
 use fault_data::{Fault, is_full};
+use fault_lists::each_once;
 use graphql_names::Node;
 use rule_fragments::{
     PossibleTypes, applying_conditions, check_applications, check_spreads, for_document, reach,
@@ -50,29 +52,32 @@ fn check_operation(
     note_fragments(&reach, &mut found.used)
 }
 
-/// Adds the faults of each operation under a schema, and notes the fragments that one of them reaches, where these
-/// fragments replace those of the document, up to the one where the list is full.
+/// The faults of each operation under a schema, and the fragments that one of them reaches, where these fragments replace
+/// those of the document, up to the one where the list is full. A fault that operations share is found once.
 fn check_operations(
+    alloc: Global,
     schema: &IndexedSchema<'_>,
     possible: &mut Option<PossibleTypes>,
     document: &ExecutableDocument,
     fragments: &FragmentMap,
-    found: &mut Found,
-) -> Result<(), AllocError>
-    ensures told { OnOk result (FindsAllUnder (schema_tree schema.now) (document_meant document.now) fragments.now possible.old found.old found.new) }
-    ensures noted { OnOk result (NotesAllUnder (schema_tree schema.now) (document_meant document.now) fragments.now found.old found.new) }
-    ensures right { OnOk result (StayPossible (schema_tree schema.now) possible.old possible.new) }
+) -> Result<Found, AllocError>
+    ensures told { IfOk result (λ found. FindsAllUnder (schema_tree schema.now) (document_meant document.now) fragments.now possible.old found) }
+    ensures noted { IfOk result (λ found. NotesAllUnder (schema_tree schema.now) (document_meant document.now) fragments.now found) }
+    ensures right { IfOk result (λ found. StayPossible (schema_tree schema.now) possible.old possible.new) }
 {
+    let mut found = Found::new(alloc);
     for operation in document.operations.iter() {
         if is_full(&found.faults) {
-            return Ok(());
+            return Ok(found);
         }
-        check_operation(schema, possible, fragments, operation, found)?;
+        let before = found.take_faults();
+        check_operation(schema, possible, fragments, operation, &mut found)?;
+        found.join(before)?;
     }
-    Ok(())
+    Ok(found)
 }
 
-/// The faults of a document under a schema: all, or 1,000. What several operations share is judged once, as far as it breaks
+/// The faults of a document under a schema, each once: all, or 1,000. What several operations share is judged once, as far as it breaks
 /// no rule under the variables that all of them define alike. `possible` has the possible types of the schema, if they are
 /// there already. Where they are not, they are found once, where a fragment that several operations may share, or that an
 /// operation reaches, is on another type than that where it stands; if there is none, never.
@@ -83,13 +88,13 @@ pub(crate) fn faults_under(
     document: &ExecutableDocument,
 ) -> Result<Vec<Fault>, AllocError>
     requires { ArePossibleIfFound (judged (schema_tree schema.now)) (option_copied possible) }
-    ensures { IfOk result (λ r. TellsUnder (schema_tree schema.now) (document_meant document.now) (faults_of r)) }
+    ensures told { IfOk result (λ r. TellsUnder (schema_tree schema.now) (document_meant document.now) (faults_of r)) }
+    ensures once { IfOk result (λ r. EachOnce (faults_of r)) }
 {
     let mut possible = for_document(alloc, possible)?;
-    let mut found = Found::new(alloc);
     let applying = applying_conditions(alloc, schema.schema(), &mut possible, document)?;
     let settled = settled_fragments(alloc, schema, &applying, document)?;
     let fragments = settled.as_ref().unwrap_or(&document.fragments);
-    check_operations(schema, &mut possible, document, fragments, &mut found)?;
-    check_fragments(document, found)
+    let found = check_operations(alloc, schema, &mut possible, document, fragments)?;
+    each_once(check_fragments(document, found)?)
 }

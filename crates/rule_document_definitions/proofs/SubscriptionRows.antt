@@ -56,7 +56,7 @@ both_s = (once, (λ f. (at_the_root f, in_both f)))
       ((λ i. subst (Contains (first_s ∷ second_s ∷ [])) (same_Some _ _ i) (1, omega arith, refl)), tt),
     ) x (root_in (alone s_s) s_s 1 refl x r) e
 
-two_fields : SubscriptionUsesMultipleFieldsAt (alone s_s) s_s (broken 1 (SubscriptionUsesMultipleFields None (s_name ∷ s_name ∷ [])))
+two_fields : SubscriptionUsesMultipleFieldsAt (alone s_s) s_s (broken 1 (SubscriptionUsesMultipleFields None))
 two_fields = (first_s ∷ second_s ∷ [], (both_s, (omega arith, refl)))
 
 -- ---- SubscriptionUsesIntrospection: `subscription { __typename }`

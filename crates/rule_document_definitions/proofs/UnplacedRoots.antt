@@ -81,10 +81,6 @@ module _ {P : Type 0} where
   name_of : (o : MeantOperation P) → operation_name (unplaced_operation o) ≡ operation_name o
   name_of o = name_same o.name
 
-  names_of : (fs : List (StandingField P)) → map field_name (map unplaced_field fs) ≡ map field_name fs
-  names_of [] = refl
-  names_of (f ∷ fs) = ap (λ l. field_name f ∷ l) (names_of fs)
-
 module _ {P : Type 0} (d : MeantDocument P) (o : MeantOperation P) where
   module _ (named : FragmentsFoundByName d) where
     -- root fields that are equal without places are one
@@ -122,8 +118,8 @@ module _ {P : Type 0} (d : MeantDocument P) (o : MeantOperation P) where
     multiple_fields_bared =
         moves_among Told (map unplaced_field) (AreRootFields d o) (AreRootFields (unplaced_document d) (unplaced_operation o)) root_fields_on root_fields_back _ _ (λ fs all.
         moves_where Told (along_length fs)
-        (moves_broken o.place (SubscriptionUsesMultipleFields (operation_name o) (map field_name fs)) (SubscriptionUsesMultipleFields (operation_name (unplaced_operation o)) (map field_name (map unplaced_field fs)))
-        (λ i. SubscriptionUsesMultipleFields (sym (name_of o) i) (sym (names_of fs) i))))
+        (moves_broken o.place (SubscriptionUsesMultipleFields (operation_name o)) (SubscriptionUsesMultipleFields (operation_name (unplaced_operation o)))
+        (ap SubscriptionUsesMultipleFields (sym (name_of o)))))
       where
         along_length : (fs : List (StandingField P)) → (1 < length fs) ↔ (1 < length (map unplaced_field fs))
         along_length fs = (subst (λ n. 1 < n) (sym (length-map fs unplaced_field)), subst (λ n. 1 < n) (length-map fs unplaced_field))

@@ -22,7 +22,7 @@ module _ {P : Type 0} where
   unplaced_breach (ConflictingFieldName alias original conflicting) = ConflictingFieldName alias (unplaced_selected original) (unplaced_selected conflicting)
   unplaced_breach (ConflictingFieldArgument alias original conflicting) = ConflictingFieldArgument alias (unplaced_selected original) (unplaced_selected conflicting)
   unplaced_breach (ConflictingFieldType alias original conflicting) = ConflictingFieldType alias (unplaced_selected original) (unplaced_selected conflicting)
-  unplaced_breach (SubscriptionUsesMultipleFields name fields) = SubscriptionUsesMultipleFields name fields
+  unplaced_breach (SubscriptionUsesMultipleFields name) = SubscriptionUsesMultipleFields name
   unplaced_breach (SubscriptionUsesIntrospection name field) = SubscriptionUsesIntrospection name field
   unplaced_breach (SubscriptionUsesConditionalSelection name) = SubscriptionUsesConditionalSelection name
   unplaced_breach DeferLabelMustNotBeVariable = DeferLabelMustNotBeVariable

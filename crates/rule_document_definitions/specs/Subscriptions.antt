@@ -1,5 +1,5 @@
 -- Rules on the root of a subscription (GraphQL, October 2021, section 5.2.3.1; that none of its selections is conditional is past it).
-use Rattle.std.specs.Prelude.{◌≡◌, ◌<◌, List, [], ◌∷◌, map, length, codes, Contains, ◌⊎◌}
+use Rattle.std.specs.Prelude.{◌≡◌, ◌<◌, List, [], ◌∷◌, length, codes, Contains, ◌⊎◌}
 use Rattle.tree_directives.specs.declared.operation_type.OperationType.TheVariants as operation
 use Rattle.document_meaning.specs.MeantTree.{MeantOperation, MeantDocument}
 use Rattle.fault_document_data.specs.DocumentBreaches.{SubscriptionUsesMultipleFields, SubscriptionUsesIntrospection, SubscriptionUsesConditionalSelection}
@@ -14,7 +14,7 @@ module _ {P : Type 0} (d : MeantDocument P) (o : MeantOperation P) (fault : Brok
   -- SubscriptionUsesMultipleFields: a subscription is valid only if it has at most one field at its root (section 5.2.3.1)
   abbrev pub SubscriptionUsesMultipleFieldsAt : Type 0
   SubscriptionUsesMultipleFieldsAt = (fs : List (StandingField P)) × (AreRootFields d o fs × ((1 < length fs)
-      × (fault ≡ broken o.place (SubscriptionUsesMultipleFields (operation_name o) (map field_name fs)))))
+      × (fault ≡ broken o.place (SubscriptionUsesMultipleFields (operation_name o)))))
 
   -- SubscriptionUsesIntrospection: a subscription is valid only if no field at its root is a meta-field (section 5.2.3.1)
   abbrev pub SubscriptionUsesIntrospectionAt : Type 0

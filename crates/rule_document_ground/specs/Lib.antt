@@ -4,4 +4,7 @@ pub mod Gathered
 pub mod Fields
 pub mod Lent
 pub mod NotedNames
+pub mod UsedNames
+pub mod LoneKeys
+pub mod Passed
 pub use Rattle.document_walks.specs.in_typed_operations as in_typed_operations

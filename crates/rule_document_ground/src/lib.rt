@@ -12,6 +12,12 @@
 //! - What a check adds to a list of breaches of documents is `AddsBroken` of `specs/Broken.antt`, with its lemmas in
 //!   `proofs/AddingBroken.antt`; those on lists of any faults are `rule_definitions`' `Listing`, handed on.
 //! - The names in a set are `noted_names` of `specs/NotedNames.antt`; `has_name` asks for one, `note_name` adds one.
+//!   `note_in_selection` and `note_in_directives` add those of the variables that stand there (`specs/UsedNames.antt`, with
+//!   its lemmas in `proofs/UsedNames.antt`).
+//! - `keys_differ` asks whether the fields of an operation all have keys of their own: it looks at the set of an operation, and
+//!   level by level at the sets of the fields that it selects, through fragments, and answers yes only where each of these sets
+//!   has each key once (`AreKeysLone` of `specs/LoneKeys.antt`; then the fields merge, section 5.3.2: `proofs/Merging.antt`). It
+//!   takes few steps: where a set has many fields or a document many levels, it answers no, and nothing is said.
 //!
 //! Begin with `specs/Reach.antt` and `reaching.rt`; and with `field_selection.rt`.
 #![tactic(auto)]
@@ -20,11 +26,15 @@ mod breaches;
 mod field_selection;
 pub mod laws;
 mod lists;
+mod lone_keys;
 mod noted_names;
 mod reaching;
+mod used_names;
 
 pub use breaches::{push_breach, tell_breach};
 pub use field_selection::FieldSelection;
 pub use lists::Reach;
+pub use lone_keys::keys_differ;
 pub use noted_names::{has_name, note_name};
 pub use reaching::reach;
+pub use used_names::{note_in_directives, note_in_selection};

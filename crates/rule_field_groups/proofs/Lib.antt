@@ -2,6 +2,7 @@ pub mod Filing
 pub mod OneGroup
 pub mod Counts
 pub mod Parts
+pub mod Standing
 pub mod Sharing
 pub mod Telling
 pub mod Shaped

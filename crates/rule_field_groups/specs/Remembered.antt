@@ -7,6 +7,7 @@ use Rattle.rule_number_lists.specs.NumberLists.{HaveSame, lists_kept}
 use Rattle.rule_number_lists.specs.NumberPairs.{pairs_kept}
 use Rattle.rule_number_lists.specs.NumberSet.{numbers_in}
 use Rattle.rule_same_values.specs.in_document_definitions.ReadFields.{ReadField, ReadSet}
+use Rattle.rule_same_values.specs.in_document_definitions.Settled.{StandIn}
 use Rattle.rule_field_sets.specs.Read.{content_at, set_content_at, set_at}
 use Rattle.rule_field_sets.specs.declared.field_sets.FieldSets.{FieldSets}
 use Rattle.rule_field_groups.specs.Under.{Sets, sets_in}
@@ -53,6 +54,10 @@ module _ (w : FieldSets) where
 
   abbrev pub beside_of : Remembered → Account × List Sets
   beside_of r = (account_of r, sets_in w r.next)
+
+-- each of the ones stands with each of the others in one of these lists
+abbrev pub AllStandIn : List (List ReadField) → List ReadField → List ReadField → Type 0
+AllStandIn lists ones others = (x y : ReadField) → Contains ones x → Contains others y → StandIn lists x y
 
 -- a list of contents that is new comes to the others, in some order, and none that stood there has the same members, if nothing stands in
 -- it twice; of one that is not new one with its members stood there, or it has none

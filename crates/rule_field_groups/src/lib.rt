@@ -10,7 +10,8 @@
 //! index: `check_group` compares them, and `push_below` gives the list of the sets below them.
 //!
 //! A `Remembered` has what was compared and looked at (`specs/Remembered.antt`): lists of fields, lists of sets and pairs of sets, each
-//! once, in whatever order they stand. A list is compared where fields that are new pay for it (`budget.rt`, `specs/Paid.antt`).
+//! once, in whatever order they stand. A list is compared where fields that are new pay for it (`budget.rt`, `specs/Paid.antt`). That
+//! many fields are all in one list that was examined is seen without a comparison (`stand_together`).
 //!
 //! Begin with `groups.rt`, `conflicts.rt` and `below.rt`, then `node_walk.rt` and `remembered.rt`.
 #![tactic(auto)]

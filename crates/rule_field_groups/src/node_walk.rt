@@ -57,19 +57,30 @@ struct NodeWalk<'doc> {
     is_whole: bool,
 }
 
+/// Whether some of these fields may be such as were not met. They are met in their order, so where the last one was met all were.
+fn may_pay(toll: Toll<'_>, members: &[Member<'_>]) -> bool {
+    match members.last() {
+        None => true,
+        Some(member) => !toll.met.contains(member.number),
+    }
+}
+
 impl<'doc> NodeWalk<'doc> {
-    /// Whether the steps so far are paid. Then so many more are taken; else the walk is not whole.
-    fn steps_on(&mut self, toll: Toll<'_>, more: usize) -> bool
+    /// Whether the steps so far are paid, and where the next node has no fields that pay, so many more too. Then these are taken; else
+    /// the walk is not whole.
+    fn steps_on(&mut self, toll: Toll<'_>, more: usize, pays: bool) -> bool
         ensures { state_of self.new ≡ with_paid result (state_of self.old) }
     {
         let paid = toll
             .paid
             .saturating_add(self.fresh.saturating_mul(toll.each));
-        if self.steps > paid {
+        let steps = self.steps.saturating_add(more);
+        let due = if pays { self.steps } else { steps };
+        if due > paid {
             self.is_whole = false;
             return false;
         }
-        self.steps = self.steps.saturating_add(more);
+        self.steps = steps;
         true
     }
 
@@ -120,7 +131,7 @@ impl<'doc> NodeWalk<'doc> {
         ensures { OnOk result (PassesNode node.now (state_of self.old) (state_of self.new)) }
     {
         let more = node.members.len().saturating_add(node.spreads.len());
-        let is_paid = self.steps_on(toll, more);
+        let is_paid = self.steps_on(toll, more, may_pay(toll, &node.members));
         if !is_paid {
             return Ok(());
         }

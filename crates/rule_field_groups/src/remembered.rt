@@ -1,14 +1,14 @@
 //! What was examined.
-ghost use Rattle.std.specs.Prelude.{◌≡◌, ◌∷◌, [], map, is_some, IsTrue, IfOk, OnErr};
+ghost use Rattle.std.specs.Prelude.{◌≡◌, ◌∷◌, [], map, is_some, Contains, IsTrue, IfOk, OnErr};
 ghost use Rattle.rule_same_values.specs.in_document_definitions.ReadFields.{list_read};
 ghost use Rattle.rule_field_sets.specs.Nodes.{AreSets, HasMember};
-ghost use Rattle.rule_number_lists.specs.NumberLists.{lists_kept};
+ghost use Rattle.rule_number_lists.specs.NumberLists.{lists_kept, list_at};
 ghost use Rattle.rule_field_sets.specs.Read.{set_at, set_content_at};
 ghost use Rattle.rule_field_sets.specs.declared.field_sets.FieldSets.{FieldSets};
 ghost use Rattle.rule_field_groups.specs.Members.{contents_of, meant_sets, read_sets, AreMembersOf, contents_of_two};
 ghost use Rattle.rule_field_groups.specs.Under.{sets_in};
 ghost use Rattle.rule_field_groups.specs.Paid.{OnlyMeets, Pays, IsPaidIf, no_account};
-ghost use Rattle.rule_field_groups.specs.Remembered.{remembered, kept_of, account_of, beside_of, nothing_kept, Remembers, RemembersPaid, LooksAt, Expands, IsKnown};
+ghost use Rattle.rule_field_groups.specs.Remembered.{remembered, kept_of, account_of, beside_of, nothing_kept, AllStandIn, Remembers, RemembersPaid, LooksAt, Expands, IsKnown};
 
 use crate::budget::{FOR_EACH_FIELD, left_of, spent_with};
 use crate::node_walk::{MergedList, Toll};
@@ -16,6 +16,9 @@ use crate::nodes::number_of;
 use rule_field_sets::{FieldSets, Member};
 use rule_number_lists::{NumberLists, NumberPairs, NumberSet};
 use std::alloc::{AllocError, Global};
+
+/// So many pairs of fields take as long as one field is looked up in a list.
+const FOR_EACH_LOOK: usize = 4;
 
 /// Two sets that are looked at together, by their nodes: the fields of the one with those of the other. Many may wait, so one is small.
 #[derive(Clone, Copy)]
@@ -109,6 +112,11 @@ fn numbers_of_nodes(
     Ok(numbers)
 }
 
+/// Whether so many pairs of fields are more than so many fields are looked up in a list.
+fn are_many(ones: usize, others: usize) -> bool {
+    ones.saturating_mul(others) / FOR_EACH_LOOK > ones.saturating_add(others)
+}
+
 impl Remembered {
     /// None.
     pub fn new(alloc: Global) -> Remembered
@@ -146,6 +154,43 @@ impl Remembered {
         ensures next { (w : FieldSets) → sets_in w self.new.next ≡ sets_in w self.old.next }
     {
         self.lists.remember_two(one.number, other.number)
+    }
+
+    /// Whether the list of fields at a place has all of these.
+    fn has_all(&self, place: usize, fields: &[Member<'_>]) -> bool
+        ensures { IsTrue result → (m : Member) → Contains fields.now m → Contains (list_at self.now.lists place) m.number }
+    {
+        for field in fields {
+            if !self.lists.is_at(place, field.number) {
+                return false;
+            }
+        }
+        true
+    }
+
+    /// The place of the longest list that was examined and has the first of these fields, if there is one.
+    fn place_of(&self, fields: &[Member<'_>]) -> Option<usize> {
+        match fields.first() {
+            None => None,
+            Some(field) => self.lists.place_of(field.number),
+        }
+    }
+
+    /// Whether it is seen that all of these fields are in one list that was examined. It is not looked where they are so few that to
+    /// compare them takes less.
+    pub fn stand_together(&self, ones: &[Member<'_>], others: &[Member<'_>]) -> bool
+        ensures { IsTrue result → (w : FieldSets) → AreSets w → AreMembersOf w ones.now → AreMembersOf w others.now → AllStandIn (remembered w self.now) (contents_of ones.now) (contents_of others.now) }
+    {
+        if !are_many(ones.len(), others.len()) {
+            return false;
+        }
+        let Some(place) = self.place_of(ones) else {
+            return false;
+        };
+        if !self.has_all(place, ones) {
+            return false;
+        }
+        self.has_all(place, others)
     }
 
     /// Notes that the sets of two nodes are looked at together. Whether they were not noted before is given: two with the same contents.

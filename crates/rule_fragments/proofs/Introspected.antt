@@ -1,7 +1,9 @@
 -- What SubscriptionUsesIntrospection tells of a selection that is a field.
-use Rattle.std.proofs.Common.{◌≡◌, ℕ, List, [], ◌∷◌, Option, None, Some, bytes_eq, refl, sym, ap, ◌∙◌, true}
+use Rattle.std.proofs.Common.{◌≡◌, ℕ, List, [], ◌∷◌, Option, None, Some, bytes_eq, is_some, refl, sym, ap, ◌∙◌, true}
 use Rattle.std.specs.Prelude.{if◌then◌else◌}
+use Rattle.std.specs.Borrow.{Bor}
 use Rattle.std.specs.List.{list_any}
+use Rattle.std.specs.Option.{option_map, option_copied}
 use Rattle.graphql_names.specs.Node.{content, place}
 use Rattle.graphql_names.specs.Placed.{Place}
 use Rattle.graphql_names.specs.declared.node.Node.{Node}
@@ -13,7 +15,7 @@ use Rattle.fault_document_data.specs.DocumentBreaches.{SubscriptionUsesIntrospec
 use Rattle.rule_document_definitions.specs.DocumentFaults.{Broken, broken}
 use Rattle.rule_document_definitions.specs.Selected.{operation_name}
 use Rattle.rule_document_definitions.specs.RootFields.{meta_field_names}
-use Rattle.rule_fragments.specs.ListedBreaches.{root_names, introspection}
+use Rattle.rule_fragments.specs.ListedBreaches.{fields_in, introspection}
 use Rattle.document_walks.proofs.Finding.{none_is_some}
 
 abbrev of_field : MeantOperation Place → Option (TypedSelection Place) → List (Broken Place)
@@ -33,18 +35,21 @@ introspected o t n f e of meta =
     ∙ ap (λ (g : Field). if list_any (bytes_eq g.name.text) meta_field_names then broken (place n) (SubscriptionUsesIntrospection (operation_name o) g.name.text) ∷ [] else []) (sym of)
     ∙ ap (λ b. if b then broken (place n) (SubscriptionUsesIntrospection (operation_name o) f.name.text) ∷ [] else []) meta)
 
--- ---- the name that a field has
+-- ---- whether it is a field
 
-abbrev names_if : Option (TypedSelection Place) → List (List ℕ)
-names_if None = []
-names_if (Some t) = root_names (meant t)
+abbrev field_if : Option (TypedSelection Place) → ℕ
+field_if None = 0
+field_if (Some t) = 1
 
-pub named_field : (t y : TypedSelection Place) → Some y ≡ as_typed_field t → root_names (meant t) ≡ root_names (meant y)
-named_field (TypedField p d h s) y e = sym (ap names_if e)
-named_field (TypedSpread p n ds) y e = none_is_some y (sym e)
-named_field (TypedInline p c ds s) y e = none_is_some y (sym e)
+pub is_one : (t : TypedSelection Place) → fields_in (meant t) ≡ field_if (as_typed_field t)
+is_one (TypedField p d h s) = refl
+is_one (TypedSpread p n ds) = refl
+is_one (TypedInline p c ds s) = refl
 
-pub no_name : (t : TypedSelection Place) → None ≡ as_typed_field t → root_names (meant t) ≡ []
-no_name (TypedField p d h s) e = none_is_some (TypedField p d h s) e
-no_name (TypedSpread p n ds) e = refl
-no_name (TypedInline p c ds s) e = refl
+-- of what is lent as a field, if it is one
+pub counts : (t : TypedSelection Place) (o : Option (Bor (Node Field))) → option_map typed_field_node (option_copied o) ≡ as_typed_field t → fields_in (meant t) ≡ (if is_some o then 1 else 0)
+counts t o e = is_one t ∙ ap field_if (sym e) ∙ by o
+  where
+    by : (o : Option (Bor (Node Field))) → field_if (option_map typed_field_node (option_copied o)) ≡ (if is_some o then 1 else 0)
+    by None = refl
+    by (Some b) = refl

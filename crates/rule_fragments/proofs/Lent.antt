@@ -1,6 +1,8 @@
 -- What is lent by a walk, one by one.
-use Rattle.std.proofs.Common.{◌≡◌, ◌++◌, List, [], ◌∷◌, map, sym, ap, ◌∙◌, append_assoc, append-nil}
+use Rattle.std.proofs.Common.{◌≡◌, ◌++◌, List, [], ◌∷◌, map, Option, None, Some, refl, sym, ap, subst, ◌∙◌, append_assoc, append-nil}
 use Rattle.std.specs.Borrow.{Bor}
+use Rattle.std.specs.Prelude.{unwrap_or}
+use Rattle.std.specs.Option.{option_copied}
 use Rattle.std.proofs.lemmas.List.{map-append}
 use Rattle.graphql_names.specs.Placed.{Place}
 use Rattle.graphql_names.specs.NameValue.{NameValue}
@@ -27,3 +29,11 @@ taken xs ys e copy left rest all first same more h =
 
 pub all_taken : (xs : List Selection) (left : List (Member Place)) (all : List (MeantSelection Place)) → left ≡ [] → lent_all xs ++ members_lent left ≡ all → lent_all xs ≡ all
 all_taken xs left all none h = sym (append-nil (lent_all xs)) ∙ ap (λ l. lent_all xs ++ members_lent l) (sym none) ∙ h
+
+-- what holds of one that was made, or of another where none was, holds of what is lent of them
+lent_same : {X : Type 0} (o : Option (Bor X)) (b : Bor X) → (unwrap_or o b).now ≡ unwrap_or (option_copied o) b.now
+lent_same None b = refl
+lent_same (Some x) b = refl
+
+pub lent_or : {X : Type 0} (Q : X → Type 0) (r : Bor X) (o : Option (Bor X)) (b : Bor X) (made : Option X) → r ≡ unwrap_or o b → option_copied o ≡ made → Q (unwrap_or made b.now) → Q r.now
+lent_or Q r o b made is copied q = subst Q (sym (ap (λ y. y.now) is ∙ lent_same o b ∙ ap (λ z. unwrap_or z b.now) copied)) q

@@ -18,6 +18,10 @@ pub mod Positions
 pub mod Rooted
 pub mod Lent
 pub mod Listing
+pub mod Quiet
+pub mod Thinning
+pub mod Instead
+pub mod Counted
 pub mod Subscribed
 pub mod Deferred
 pub mod Nested

@@ -1,16 +1,14 @@
 -- What is told of the selections at the root of a subscription is what breaks its rules.
-use Rattle.std.proofs.Common.{◌≡◌, ◌↔◌, ◌⊎◌, ℕ, zero, suc, ◌<◌, Bool, true, false, ltb, List, [], ◌∷◌, ◌++◌, map, length, codes, bytes_eq, Some, option_to_list, refl, sym, ap, subst, ◌∙◌, inl, inr, arith, true≢false, is_some, Contains}
+use Rattle.std.proofs.Common.{◌≡◌, ◌↔◌, ◌⊎◌, ℕ, zero, suc, ◌<◌, false, ◌+◌, List, [], ◌∷◌, ◌++◌, map, length, codes, bytes_eq, Some, option_to_list, length-append, refl, sym, ap, subst, ◌∙◌, inl, inr, arith, true≢false, is_some, Contains}
 use Rattle.std.specs.List.{flat_map, list_any}
-use Rattle.std.proofs.lemmas.Bool.{ltb-true, ltb-false}
 use Rattle.std.proofs.lemmas.Option.{same_Some}
 use Rattle.std.proofs.lemmas.List.{map-append}
 use Rattle.std.proofs.lemmas.List.Elements.{Contains-append_left, Contains-append_right, Contains-append_cases}
-use Rattle.std.proofs.lemmas.Slice.Eq.{bytes_eq-Decides}
 use Rattle.graphql_names.specs.Placed.{Placed}
 use Rattle.tree_directives.specs.DirectiveTree.{DirectiveTree}
 use Rattle.tree_directives.specs.declared.operation_type.OperationType.TheVariants as operation
 use Rattle.rule_cycle_search.specs.Paths.{HasNoRepeat}
-use Rattle.rule_cycle_search.proofs.Lists.{not_in_nil, Contains-cons, Contains-first, only, found_in, given_in, index_given}
+use Rattle.rule_cycle_search.proofs.Lists.{not_in_nil, Contains-cons, Contains-first, only, is_only, found_in, given_in, index_given}
 use Rattle.document_meaning.specs.MeantTree.{MeantSelection, MeantField, MeantSpread, MeantInline, MeantOperation, MeantDocument}
 use Rattle.fault_document_data.specs.DocumentBreaches.{SubscriptionUsesMultipleFields, SubscriptionUsesIntrospection, SubscriptionUsesConditionalSelection}
 use Rattle.rule_definitions.specs.Names.{directive_name}
@@ -18,23 +16,17 @@ use Rattle.rule_document_definitions.specs.DocumentFaults.{Broken, broken}
 use Rattle.rule_document_definitions.specs.Selected.{Position, Standing, StandingField, as_field, field_there, field_name, operation_name, selection_directives}
 use Rattle.rule_document_definitions.specs.Reached.{AtRoot}
 use Rattle.rule_document_definitions.specs.RootFields.{meta_field_names, IsRootField, AreRootFields}
-use Rattle.rule_document_definitions.specs.Subscriptions.{SubscriptionUsesMultipleFieldsAt, SubscriptionUsesIntrospectionAt, SubscriptionUsesConditionalSelectionAt}
+use Rattle.rule_document_definitions.specs.Subscriptions.{SubscriptionUsesMultipleFieldsAt, SubscriptionUsesIntrospectionAt, SubscriptionUsesConditionalSelectionAt, SubscriptionBreaks}
 use Rattle.rule_fragments.specs.Used.{AreUnderOwnNames}
-use Rattle.rule_fragments.specs.SubscriptionTold.{TellsSubscription}
 use Rattle.rule_always.specs.Stays.{is_directive}
-use Rattle.rule_fragments.specs.ListedBreaches.{root_names, multiple_fields, introspection, conditional, at_root}
-use Rattle.rule_fragments.specs.Rooted.{Apart, AreRoots}
+use Rattle.rule_fragments.specs.ListedBreaches.{fields_in, field_count, introspection, conditional, at_root}
+use Rattle.rule_fragments.specs.Rooted.{Apart, AreRoots, HasSeveralFields}
+use Rattle.rule_fragments.specs.Thinned.{StandIn}
 use Rattle.rule_always.proofs.Mapped.{in_mapped}
 use Rattle.rule_always.proofs.Staying.{or_cases, or_left, or_right, named_so, so_named}
 use Rattle.rule_always.proofs.Found.{name_here}
+use Rattle.rule_fragments.proofs.Quiet.{name_back, roots_less, roots_more}
 use Rattle.rule_fragments.proofs.Listing.{when_true, true_when, at_index, index_at, option_in, in_option, mapped_told, told_mapped}
-
-pub name_back : (n : List ℕ) (names : List (List ℕ)) → Contains names n → list_any (bytes_eq n) names ≡ true
-name_back n [] c = not_in_nil n c
-name_back n (m ∷ names) c = elim (Contains-cons m names n c) [
-  | inl e ↦ or_left (bytes_eq n m) (list_any (bytes_eq n) names) ((bytes_eq-Decides n m).1 (sym e))
-  | inr r ↦ or_right (bytes_eq n m) (list_any (bytes_eq n) names) (name_back n names r)
-]
 
 -- ---- two of a list without repetition are two of any that has them
 
@@ -49,10 +41,6 @@ more_than_one (a ∷ b ∷ fs) (g ∷ []) once more all =
     ))
 more_than_one (a ∷ b ∷ fs) (g ∷ h ∷ gs) once more all = omega arith
 
-length-map : {A B : Type 0} (f : A → B) (xs : List A) → length (map f xs) ≡ length xs
-length-map f [] = refl
-length-map f (x ∷ xs) = ap suc (length-map f xs)
-
 -- ---- fields of selections
 
 module _ {P : Type 0} where
@@ -65,14 +53,14 @@ module _ {P : Type 0} where
   abbrev field_places : List (StandingField P) → List Position
   field_places fs = map (λ f. f.position) fs
 
-  one_name : (at : Position) (t : List ℕ) (s : MeantSelection P) → map field_name (option_to_list (field_there at t s)) ≡ root_names s
-  one_name at t (MeantField p d h s) = refl
-  one_name at t (MeantSpread p n ds) = refl
-  one_name at t (MeantInline p c ds s) = refl
+  one_field : (at : Position) (t : List ℕ) (s : MeantSelection P) → length (option_to_list (field_there at t s)) ≡ fields_in s
+  one_field at t (MeantField p d h s) = refl
+  one_field at t (MeantSpread p n ds) = refl
+  one_field at t (MeantInline p c ds s) = refl
 
-  names_of : (xs : List (Standing P)) → map field_name (fields_of xs) ≡ flat_map root_names (map (λ x. x.it) xs)
-  names_of [] = refl
-  names_of (x ∷ xs) = map-append field_name (option_to_list (as_field x)) (fields_of xs) ∙ (λ k. one_name x.position x.parent x.it k ++ names_of xs k)
+  as_many : (xs : List (Standing P)) → length (fields_of xs) ≡ field_count (map (λ x. x.it) xs)
+  as_many [] = refl
+  as_many (x ∷ xs) = length-append (option_to_list (as_field x)) (fields_of xs) ∙ (λ k. one_field x.position x.parent x.it k + as_many xs k)
 
   -- ---- each field stands at a place of its own
 
@@ -108,9 +96,6 @@ module _ {P : Type 0} where
 -- ---- the rules
 
 module _ {P : Type 0} (d : MeantDocument P) (o : MeantOperation P) (xs : List (Standing P)) (roots : (x : Standing P) → Contains xs x ↔ AtRoot d o x) where
-  abbrev names : List (List ℕ)
-  names = flat_map root_names (map (λ x. x.it) xs)
-
   root_field : (f : StandingField P) → Contains (fields_of xs) f → IsRootField d o f
   root_field f c =
       let x = found_in (λ (x : Standing P). option_to_list (as_field x)) f xs c in
@@ -122,30 +107,11 @@ module _ {P : Type 0} (d : MeantDocument P) (o : MeantOperation P) (xs : List (S
   root_fields : Apart (places xs) → AreRootFields d o (fields_of xs)
   root_fields a = (no_repeat (fields_of xs) (apart_fields xs a), (λ f. (root_field f, field_root f)))
 
-  as_many : length names ≡ length (fields_of xs)
-  as_many = sym (ap length (names_of xs)) ∙ length-map field_name (fields_of xs)
+  several : Apart (places xs) → 1 < field_count (map (λ x. x.it) xs) → HasSeveralFields d o
+  several a more = (fields_of xs, (root_fields a, subst (λ n. 1 < n) (sym (as_many xs)) more))
 
-  abbrev told_fields : Broken P
-  told_fields = broken o.place (SubscriptionUsesMultipleFields (operation_name o) names)
-
-  several : Apart (places xs) → 1 < length names → SubscriptionUsesMultipleFieldsAt d o told_fields
-  several a more = (fields_of xs, (root_fields a, (subst (λ n. 1 < n) as_many more, ap (λ ns. broken o.place (SubscriptionUsesMultipleFields (operation_name o) ns)) (sym (names_of xs)))))
-
-  several_told : (fault : Broken P) → Apart (places xs) → Contains (multiple_fields o names) fault → SubscriptionUsesMultipleFieldsAt d o fault
-  several_told fault a c =
-      let p = when_true (ltb 1 (length names)) told_fields fault c in
-      subst (SubscriptionUsesMultipleFieldsAt d o) (sym p.1) (several a (ltb-true 1 (length names) p.0))
-
-  -- where that rule breaks, it is told
-  told_several : (fault : Broken P) → SubscriptionUsesMultipleFieldsAt d o fault → (1 < length names) × Contains (multiple_fields o names) told_fields
-  told_several fault (gs, (are, (more, is))) =
-      let here = more_than_one gs (fields_of xs) are.0 more (λ f c. field_root f ((are.1 f).0 c)) in
-      let many : 1 < length names = subst (λ n. 1 < n) (sym as_many) here in
-      (many, by (ltb 1 (length names)) refl many)
-    where
-      by : (b : Bool) → ltb 1 (length names) ≡ b → 1 < length names → Contains (multiple_fields o names) told_fields
-      by true e l = true_when (ltb 1 (length names)) told_fields told_fields e refl
-      by false e l = let no = ltb-false 1 (length names) e in absurd (omega (arith, l, no))
+  as_several : HasSeveralFields d o → 1 < field_count (map (λ x. x.it) xs)
+  as_several (gs, (are, more)) = subst (λ n. 1 < n) (as_many xs) (more_than_one gs (fields_of xs) are.0 more (λ f c. field_root f ((are.1 f).0 c)))
 
   -- ---- meta-fields
 
@@ -219,31 +185,52 @@ module _ {P : Type 0} (d : MeantDocument P) (o : MeantOperation P) (xs : List (S
       told_mapped (λ (x : Standing P). x.it) (at_root o) xs fault x ((roots x).1 r)
       (Contains-append_right (introspection o x.it) (flat_map (conditional o) (selection_directives x.it)) fault (index_at (conditional o) (selection_directives x.it) fault i e at (there_condition e fault m is)))
 
-  tells : o.operation_type ≡ operation.Subscription → Apart (places xs) → TellsSubscription d o (multiple_fields o names ++ told_roots)
-  tells kind a = record {
-    right = λ fault c. (
-      kind,
-      elim (Contains-append_cases (multiple_fields o names) told_roots fault c) [
-        | inl l ↦ inl (several_told fault a l)
-        | inr r ↦ inr (root_told fault r)
-      ],
-    );
-    full = λ fault breaks. elim breaks.1 [
-      | inl m ↦ let p = told_several fault m in (told_fields, (Contains-append_left (multiple_fields o names) told_roots told_fields p.1, inr (m, several a p.0)))
-      | inr (inl m) ↦ (fault, (Contains-append_right (multiple_fields o names) told_roots fault (meta_told fault m), inl refl))
-      | inr (inr m) ↦ (fault, (Contains-append_right (multiple_fields o names) told_roots fault (condition_told fault m), inl refl))
-    ];
-  }
+-- ---- of selections that are those at the root
 
--- of selections that are those at the root
-pub tells_roots : {P : Type 0} (d : MeantDocument P) (o : MeantOperation P) (ss : List (MeantSelection P)) → AreRoots d o ss → o.operation_type ≡ operation.Subscription → AreUnderOwnNames d
-    → TellsSubscription d o (multiple_fields o (flat_map root_names ss) ++ flat_map (at_root o) ss)
-tells_roots d o ss (xs, (is, (roots, apart))) kind own =
-    subst (λ l. TellsSubscription d o (multiple_fields o (flat_map root_names l) ++ flat_map (at_root o) l)) is (tells d o xs roots kind (apart own))
+-- whether several of them are fields
+pub several_fields : {P : Type 0} (d : MeantDocument P) (o : MeantOperation P) (ss : List (MeantSelection P)) → AreRoots d o ss → AreUnderOwnNames d → (1 < field_count ss) ↔ HasSeveralFields d o
+several_fields d o ss (xs, (is, (roots, apart))) own = (
+  (λ more. several d o xs roots (apart own) (subst (λ l. 1 < field_count l) (sym is) more)),
+  (λ has. subst (λ l. 1 < field_count l) is (as_several d o xs roots has)),
+)
+
+module _ {P : Type 0} (d w : MeantDocument P) (in' : StandIn false d.fragments w.fragments) (o : MeantOperation P) where
+  -- what is told of them, where the fragments of `w` stand in for those of `d`
+  roots_told : (ss : List (MeantSelection P)) → AreRoots w o ss → (fault : Broken P)
+      → Contains (flat_map (at_root o) ss) fault ↔ (SubscriptionUsesIntrospectionAt d o fault ⊎ SubscriptionUsesConditionalSelectionAt d o fault)
+  roots_told ss (xs, (is, (roots, apart))) fault = (
+    (λ c. roots_more d w in' o fault (root_told w o xs roots fault (subst (λ l. Contains (flat_map (at_root o) l) fault) (sym is) c))),
+    (λ breaks. subst (λ l. Contains (flat_map (at_root o) l) fault) is (elim (roots_less d w in' o fault breaks) [
+      | inl m ↦ meta_told w o xs roots fault m
+      | inr m ↦ condition_told w o xs roots fault m
+    ])),
+  )
+
+  pub subscription_told : o.operation_type ≡ operation.Subscription → (ms : List (Broken P)) (ss : List (MeantSelection P)) → ((fault : Broken P) → Contains ms fault ↔ SubscriptionUsesMultipleFieldsAt d o fault) → AreRoots w o ss
+      → (fault : Broken P) → Contains (ms ++ flat_map (at_root o) ss) fault ↔ SubscriptionBreaks d o fault
+  subscription_told kind ms ss many roots fault = (
+    (λ c. (
+      kind,
+      elim (Contains-append_cases ms (flat_map (at_root o) ss) fault c) [
+        | inl l ↦ inl ((many fault).0 l)
+        | inr r ↦ inr ((roots_told ss roots fault).0 r)
+      ],
+    )),
+    (λ breaks. elim breaks.1 [
+      | inl m ↦ Contains-append_left ms (flat_map (at_root o) ss) fault ((many fault).1 m)
+      | inr m ↦ Contains-append_right ms (flat_map (at_root o) ss) fault ((roots_told ss roots fault).1 m)
+    ]),
+  )
 
 -- no rule on subscriptions is on another operation
-pub tells_nothing : {P : Type 0} (d : MeantDocument P) (o : MeantOperation P) → (o.operation_type ≡ operation.Subscription → ⊥) → TellsSubscription d o []
-tells_nothing d o other = record {
-  right = λ fault c. not_in_nil fault c;
-  full = λ fault breaks. absurd (other breaks.0);
-}
+pub tells_nothing : {P : Type 0} (d : MeantDocument P) (o : MeantOperation P) → (o.operation_type ≡ operation.Subscription → ⊥) → (fault : Broken P) → Contains [] fault ↔ SubscriptionBreaks d o fault
+tells_nothing d o other fault = ((λ c. not_in_nil fault c), (λ breaks. absurd (other breaks.0)))
+
+-- ---- several fields
+
+module _ {P : Type 0} (d : MeantDocument P) (o : MeantOperation P) where
+  pub none_multiple : (HasSeveralFields d o → ⊥) → (fault : Broken P) → Contains [] fault ↔ SubscriptionUsesMultipleFieldsAt d o fault
+  none_multiple never fault = ((λ c. not_in_nil fault c), (λ breaks. absurd (never (breaks.0, (breaks.1.0, breaks.1.1.0)))))
+
+  pub one_multiple : HasSeveralFields d o → (told : Broken P) → told ≡ broken o.place (SubscriptionUsesMultipleFields (operation_name o)) → (fault : Broken P) → Contains (told ∷ []) fault ↔ SubscriptionUsesMultipleFieldsAt d o fault
+  one_multiple (fs, (are, more)) told is fault = ((λ c. (fs, (are, (more, only told fault c ∙ is)))), (λ breaks. is_only told fault (breaks.1.1.1 ∙ sym is)))

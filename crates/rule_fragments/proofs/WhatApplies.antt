@@ -1,5 +1,5 @@
 -- One condition more that may apply.
-use Rattle.std.proofs.Common.{◌≡◌, ◌∙◌, ℕ, false, List, [], ◌∷◌, refl, sym, subst, inl, inr, Option, Some, Contains, true≢false}
+use Rattle.std.proofs.Common.{◌≡◌, ◌∙◌, ℕ, false, List, [], ◌∷◌, sym, subst, inl, inr, Contains, true≢false}
 use Rattle.indexmap.specs.IndexMap.{IndexMap}
 use Rattle.indexmap.specs.IndexSet.{IndexSet}
 use Rattle.graphql_names.specs.NameValue.{NameValue}

@@ -1,4 +1,4 @@
--- Private: leads to `SubscriptionTold`. What a rule adds to a list of breaches; the list, and what a check adds to one, are those of `rule_document_ground`.
+-- Private: leads to `Documents.antt`. What a rule adds to a list of breaches; the list, and what a check adds to one, are those of `rule_document_ground`.
 use Rattle.std.specs.Prelude.{Vec, List, ◌≡◌}
 use Rattle.std.specs.declared.alloc.Global.{Global}
 use Rattle.graphql_names.specs.Placed.{Place}

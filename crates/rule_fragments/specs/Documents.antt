@@ -1,17 +1,15 @@
 -- Private: leads to `TellsDocument`. What is told of the rules on subscriptions and on `@defer` in all operations of a document.
-use Rattle.std.specs.Prelude.{List, Vec, Contains, ◌⊎◌}
+use Rattle.std.specs.Prelude.{List, Vec, ◌⊎◌}
 use Rattle.std.specs.declared.alloc.Global.{Global}
 use Rattle.graphql_names.specs.Placed.{Place}
 use Rattle.fault_document_data.specs.declared.build_error.BuildError.{BuildError}
-use Rattle.document_meaning.specs.MeantTree.{MeantOperation, MeantDocument}
+use Rattle.document_meaning.specs.MeantTree.{MeantDocument}
 use Rattle.rule_document_definitions.specs.Defer.{DeferBreaks}
 use Rattle.rule_document_definitions.specs.DocumentFaults.{Broken}
 use Rattle.rule_document_definitions.specs.DocumentRules.{DeferredBreaks}
 use Rattle.rule_document_definitions.specs.Reached.{AtOperation}
-use Rattle.rule_document_definitions.specs.Selected.{operations}
 use Rattle.rule_document_definitions.specs.Subscriptions.{SubscriptionBreaks}
 use Rattle.rule_fragments.specs.Broken.{brokens_of}
-use Rattle.rule_fragments.specs.SubscriptionTold.{AreAlike}
 use Rattle.rule_fragments.specs.UnlessFull.{TellsUnlessFull, HasAll, AddsUnlessFull}
 
 module _ (d : MeantDocument Place) where
@@ -22,25 +20,20 @@ module _ (d : MeantDocument Place) where
   abbrev pub SomeSubscriptionBreaks : Broken Place → Type 0
   SomeSubscriptionBreaks f = AtOperation d (λ o. SubscriptionBreaks d o f)
 
-  -- whatever breaks a rule on subscriptions is told, or one that is alike
-  abbrev pub TellsSubscriptions : List (Broken Place) → Type 0
-  TellsSubscriptions told = (o : MeantOperation Place) → Contains (operations d) o → (f : Broken Place) → SubscriptionBreaks d o f → (g : Broken Place) × (Contains told g × AreAlike d o f g)
-
-  -- and all that breaks rules on `@defer`
-  pub record TellsBreaches (told : List (Broken Place)) : Type 0 where
-    pub subscriptions : TellsSubscriptions told
-    pub deferred : HasAll (DeferredBreaks d) told
+  -- a rule on subscriptions or on `@defer` breaks so
+  abbrev pub SomeBreaks : Broken Place → Type 0
+  SomeBreaks f = SomeSubscriptionBreaks f ⊎ DeferredBreaks d f
 
   -- each of these breaks a rule on `@defer`, and all that do are told; each breaks one on subscriptions or on `@defer`, and all are told
   abbrev pub DeferredTold : List (Broken Place) → Type 0
   DeferredTold = TellsUnlessFull (DeferredBreaks d) (HasAll (DeferredBreaks d))
 
   abbrev pub BreachesTold : List (Broken Place) → Type 0
-  BreachesTold = TellsUnlessFull (λ f. SomeSubscriptionBreaks f ⊎ DeferredBreaks d f) TellsBreaches
+  BreachesTold = TellsUnlessFull SomeBreaks (HasAll SomeBreaks)
 
 -- to the breaches come those on `@defer` in operations, those on subscriptions
 abbrev pub AddsDefers : Vec (Place × BuildError) Global → Vec (Place × BuildError) Global → MeantDocument Place → Type 0
 AddsDefers old new d = AddsUnlessFull (brokens_of old) (brokens_of new) (SomeDeferBreaks d) (HasAll (SomeDeferBreaks d))
 
 abbrev pub AddsSubscriptions : Vec (Place × BuildError) Global → Vec (Place × BuildError) Global → MeantDocument Place → Type 0
-AddsSubscriptions old new d = AddsUnlessFull (brokens_of old) (brokens_of new) (SomeSubscriptionBreaks d) (TellsSubscriptions d)
+AddsSubscriptions old new d = AddsUnlessFull (brokens_of old) (brokens_of new) (SomeSubscriptionBreaks d) (HasAll (SomeSubscriptionBreaks d))

@@ -13,10 +13,10 @@ pub mod SpreadGraph
 pub mod CycleFaults
 pub mod Told
 pub mod Broken
-pub mod SubscriptionTold
 pub mod ListedBreaches
 pub mod Nested
 pub mod Rooted
+pub mod Thinned
 pub mod Labels
 pub mod UnlessFull
 pub mod Documents

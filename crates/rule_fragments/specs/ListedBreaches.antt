@@ -1,6 +1,6 @@
 -- Private: leads to `Subscriptions.antt` and `Defer.antt` of the rules' definitions.
 -- What each rule tells of one selection or directive, as a list.
-use Rattle.std.specs.Prelude.{ℕ, ◌++◌, Bool, true, false, ◌&&◌, ◌||◌, not, nat_lt, List, [], ◌∷◌, length, flat_map, codes, bytes_eq, is_some, unwrap_or, if◌then◌else◌}
+use Rattle.std.specs.Prelude.{ℕ, ◌+◌, ◌++◌, Bool, true, false, ◌&&◌, ◌||◌, not, List, [], ◌∷◌, flat_map, codes, bytes_eq, is_some, unwrap_or, if◌then◌else◌}
 use Rattle.std.specs.List.{list_any}
 use Rattle.std.specs.Option.{option_map_or}
 use Rattle.graphql_names.specs.Placed.{Placed}
@@ -8,7 +8,7 @@ use Rattle.tree_literals.specs.ValueTree.{ValueTree}
 use Rattle.tree_literals.specs.ValueQueries.{variable_name, boolean_value}
 use Rattle.tree_directives.specs.DirectiveTree.{DirectiveTree}
 use Rattle.document_meaning.specs.MeantTree.{MeantSelection, MeantField, MeantSpread, MeantInline, MeantOperation}
-use Rattle.fault_document_data.specs.DocumentBreaches.{SubscriptionUsesMultipleFields, SubscriptionUsesIntrospection, SubscriptionUsesConditionalSelection, DeferOnRootMutationOrSubscriptionField, DeferInSubscriptionMustBeConditional}
+use Rattle.fault_document_data.specs.DocumentBreaches.{SubscriptionUsesIntrospection, SubscriptionUsesConditionalSelection, DeferOnRootMutationOrSubscriptionField, DeferInSubscriptionMustBeConditional}
 use Rattle.rule_document_definitions.specs.DocumentFaults.{Broken, broken}
 use Rattle.rule_document_definitions.specs.Selected.{operation_name, selection_directives}
 use Rattle.rule_document_definitions.specs.RootFields.{meta_field_names}
@@ -18,15 +18,16 @@ use Rattle.rule_always.specs.Stays.{is_directive}
 module _ {P : Type 0} where
   -- ---- subscriptions
 
-  -- the name that a field has
-  abbrev pub root_names : MeantSelection P → List (List ℕ)
-  root_names (MeantField p d h s) = h.name.it ∷ []
-  root_names _ = []
+  -- how many of these are fields
+  abbrev pub fields_in : MeantSelection P → ℕ
+  fields_in (MeantField p d h s) = 1
+  fields_in _ = 0
+
+  abbrev pub field_count : List (MeantSelection P) → ℕ
+  field_count [] = 0
+  field_count (s ∷ ss) = fields_in s + field_count ss
 
   module _ (o : MeantOperation P) where
-    abbrev pub multiple_fields : List (List ℕ) → List (Broken P)
-    multiple_fields names = if nat_lt 1 (length names) then broken o.place (SubscriptionUsesMultipleFields (operation_name o) names) ∷ [] else []
-
     abbrev pub introspection : MeantSelection P → List (Broken P)
     introspection (MeantField p d h s) = if list_any (bytes_eq h.name.it) meta_field_names then broken p (SubscriptionUsesIntrospection (operation_name o) h.name.it) ∷ [] else []
     introspection _ = []

@@ -1,6 +1,6 @@
 -- Private: leads to `Subscriptions.antt` and `Defer.antt` of the rules' definitions.
 -- What contracts see of selections that are lent, and of those at the root of an operation.
-use Rattle.std.specs.Prelude.{◌≡◌, ◌↔◌, Bool, false, Option, List, [], ◌∷◌, map, Contains}
+use Rattle.std.specs.Prelude.{◌≡◌, ◌↔◌, ◌<◌, Bool, false, Option, List, [], ◌∷◌, length, map, Contains}
 use Rattle.std.specs.Option.{option_map_or}
 use Rattle.graphql_names.specs.Node.{content}
 use Rattle.graphql_names.specs.declared.node.Node.{Node}
@@ -9,8 +9,9 @@ use Rattle.document_typed_selections.specs.TypedTree.{typed_set_tree}
 use Rattle.document_typed_operations.specs.declared.operation.Operation.{Operation}
 use Rattle.document_typed_operations.specs.declared.operation.Fragment.{Fragment}
 use Rattle.document_meaning.specs.MeantTree.{MeantSelection, MeantSet, MeantOperation, MeantDocument, meant_of_set}
-use Rattle.rule_document_definitions.specs.Selected.{Standing}
+use Rattle.rule_document_definitions.specs.Selected.{Standing, StandingField}
 use Rattle.rule_document_definitions.specs.Reached.{AtRoot}
+use Rattle.rule_document_definitions.specs.RootFields.{AreRootFields}
 use Rattle.rule_fragments.specs.Used.{AreUnderOwnNames}
 
 -- the selections of an operation, of a fragment
@@ -37,3 +38,7 @@ Apart (x ∷ xs) = (Contains xs x → ⊥) × Apart xs
 abbrev pub AreRoots : {P : Type 0} → MeantDocument P → MeantOperation P → List (MeantSelection P) → Type 0
 AreRoots {P} d o ss = (xs : List (Standing P)) × ((map (λ x. x.it) xs ≡ ss)
     × (((x : Standing P) → Contains xs x ↔ AtRoot d o x) × (AreUnderOwnNames d → Apart (map (λ x. x.position) xs))))
+
+-- the operation has more than one field at its root
+abbrev pub HasSeveralFields : {P : Type 0} → MeantDocument P → MeantOperation P → Type 0
+HasSeveralFields {P} d o = (fs : List (StandingField P)) × (AreRootFields d o fs × (1 < length fs))

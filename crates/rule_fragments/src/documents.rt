@@ -10,6 +10,7 @@ use crate::breach::Breach;
 use crate::defer::check_defer;
 use crate::labels::check_labels;
 use crate::subscriptions::check_subscription;
+use crate::thinned::thinned_if_shared;
 use document_typed_operations::ExecutableDocument;
 use fault_data::MOST_TOLD;
 use std::alloc::{AllocError, Global};
@@ -26,11 +27,13 @@ fn is_full(breaches: &Vec<Breach>) -> bool
 fn check_defers(document: &ExecutableDocument, breaches: &mut Vec<Breach>) -> Result<(), AllocError>
     ensures { OnOk result (AddsDefers breaches.old breaches.new (document_meant document.now)) }
 {
+    let thin = thinned_if_shared(*breaches.allocator(), true, document)?;
+    let thin = thin.as_ref().unwrap_or(document);
     for operation in document.operations.iter() {
         if is_full(breaches) {
             return Ok(());
         }
-        check_defer(document, operation, breaches)?;
+        check_defer(thin, operation, breaches)?;
     }
     Ok(())
 }
@@ -55,11 +58,13 @@ fn check_subscriptions(
 ) -> Result<(), AllocError>
     ensures { OnOk result (AreUnderOwnNames (document_meant document.now) → AddsSubscriptions breaches.old breaches.new (document_meant document.now)) }
 {
+    let thin = thinned_if_shared(*breaches.allocator(), false, document)?;
+    let thin = thin.as_ref().unwrap_or(document);
     for operation in document.operations.iter() {
         if is_full(breaches) {
             return Ok(());
         }
-        check_subscription(document, operation, breaches)?;
+        check_subscription(document, thin, operation, breaches)?;
     }
     Ok(())
 }

@@ -18,9 +18,10 @@
 //! `rule_cycle_search` finds the ways of spreads from each back to it.
 //!
 //! `document_breaches` gives what breaks the rules on subscriptions and on `@defer` in a typed document, each with its place,
-//! and `deferred_breaches` what breaks those on `@defer` alone, each all of it or 1,000 (`specs/Documents.antt`; `AreAlike` of
-//! `specs/SubscriptionTold.antt`, since root fields have no order). Once 1,000 are told, no further operation is walked. These
-//! rules are `Subscriptions.antt`, `Defer.antt` and `Limits.antt` of `rule_document_definitions`.
+//! and `deferred_breaches` what breaks those on `@defer` alone, each all of it or 1,000 (`specs/Documents.antt`). Once 1,000 are
+//! told, no further operation is walked. Where several operations are judged, the selections of fragments at which the rules find
+//! nothing are left out before (`thinned.rt`), and not passed for each operation. These rules are `Subscriptions.antt`,
+//! `Defer.antt` and `Limits.antt` of `rule_document_definitions`.
 //!
 //! For fragments, begin with `spreads.rt`, then `targets.rt`, `possible_types.rt` and `applications.rt`; and with `unused.rt` and
 //! `cycles.rt`. For subscriptions and `@defer`, begin with `documents.rt`, then `subscriptions.rt`, `defer.rt` and `labels.rt`.
@@ -42,6 +43,7 @@ mod spread_graph;
 mod spreads;
 mod subscriptions;
 mod targets;
+mod thinned;
 mod unused;
 
 pub use applications::check_applications;

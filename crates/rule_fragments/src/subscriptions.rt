@@ -1,70 +1,41 @@
 //! Rules on the root of a subscription.
-ghost use Rattle.std.specs.Prelude.{◌≡◌, ◌++◌, List, map, flat_map, IfOk, OnOk};
-ghost use Rattle.std.specs.List.{list_any};
-ghost use Rattle.std.specs.Str.{bytes_eq};
+ghost use Rattle.std.specs.Prelude.{false, flat_map, OnOk};
 ghost use Rattle.graphql_names.specs.Placed.{node_tree};
 ghost use Rattle.tree_directives.specs.DirectiveTree.{directive_tree};
 ghost use Rattle.rule_always.specs.in_ground.in_typed_operations.DocumentView.{document_meant, operation_meant};
-ghost use Rattle.rule_document_definitions.specs.RootFields.{meta_field_names};
-ghost use Rattle.rule_fragments.specs.Broken.{AddsThese};
-ghost use Rattle.rule_fragments.specs.ListedBreaches.{root_names, multiple_fields, introspection, conditional, at_root};
+ghost use Rattle.rule_document_definitions.specs.Subscriptions.{SubscriptionUsesMultipleFieldsAt, SubscriptionBreaks};
+ghost use Rattle.rule_fragments.specs.Broken.{AddsBroken, AddsThese};
+ghost use Rattle.rule_fragments.specs.ListedBreaches.{introspection, conditional, at_root};
 ghost use Rattle.rule_always.specs.Lent.{lent, lent_all};
+ghost use Rattle.rule_fragments.specs.Thinned.{StandIn};
 ghost use Rattle.rule_fragments.specs.Used.{AreUnderOwnNames};
-ghost use Rattle.rule_fragments.specs.SubscriptionTold.{AddsSubscription};
 
 use crate::breach::Breach;
-use crate::roots::root_selections;
+use crate::names::is_meta_field_name;
+use crate::roots::{has_several_fields, root_selections};
 use document_typed_operations::{ExecutableDocument, Operation};
 use document_typed_selections::Selection;
 use fault_document_data::BuildError;
-use graphql_names::{Name, Node};
+use graphql_names::Node;
 use rule_always::tell_breach;
-use std::alloc::{AllocError, Global};
+use std::alloc::AllocError;
 use tree_directives::Directive;
-
-/// Adds the name of the field that the selection is, if it is one.
-fn push_field_name(selection: &Selection, names: &mut Vec<Name>) -> Result<(), AllocError>
-    ensures { OnOk result (map (λ n. n.text) names.new.items ≡ map (λ n. n.text) names.old.items ++ root_names (lent selection.now)) }
-{
-    if let Some(field) = selection.as_field() {
-        names.push(field.content().name.clone()?)?;
-    }
-    Ok(())
-}
-
-/// The names of the fields among selections.
-fn field_names(alloc: Global, selections: &[Selection]) -> Result<Vec<Name>, AllocError>
-    ensures { IfOk result (λ names. map (λ n. n.text) names.items ≡ flat_map root_names (lent_all selections.now)) }
-{
-    let mut names = Vec::new(alloc);
-    for selection in selections {
-        push_field_name(selection, &mut names)?;
-    }
-    Ok(names)
-}
 
 /// SubscriptionUsesMultipleFields: a subscription is valid only if it has at most one field at its root (section 5.2.3.1).
 fn subscription_uses_multiple_fields(
+    document: &ExecutableDocument,
     operation: &Node<Operation>,
-    fields: Vec<Name>,
     breaches: &mut Vec<Breach>,
 ) -> Result<(), AllocError>
-    ensures { OnOk result (AddsThese breaches.old breaches.new (multiple_fields (operation_meant operation.now) (map (λ n. n.text) fields.items))) }
+    ensures { OnOk result (AreUnderOwnNames (document_meant document.now) → AddsBroken breaches.old breaches.new (SubscriptionUsesMultipleFieldsAt (document_meant document.now) (operation_meant operation.now))) }
 {
-    if fields.len() <= 1 {
+    let alloc = *breaches.allocator();
+    if !has_several_fields(alloc, document, operation)? {
         return Ok(());
     }
     let name = operation.content().name.clone()?;
-    let breach = BuildError::SubscriptionUsesMultipleFields { name, fields };
+    let breach = BuildError::SubscriptionUsesMultipleFields { name };
     tell_breach(breaches, Some((operation.location(), breach)))
-}
-
-/// Whether a meta-field has that name (sections 4.1 and 4.2).
-fn is_meta_field_name(name: &Name) -> bool
-    ensures { result ≡ list_any (bytes_eq name.now.text) meta_field_names }
-{
-    let name = name.as_str();
-    name == "__typename" || name == "__schema" || name == "__type"
 }
 
 /// SubscriptionUsesIntrospection: a subscription is valid only if no field at its root is a meta-field (section 5.2.3.1).
@@ -139,20 +110,21 @@ fn check_root_selections(
 }
 
 /// Adds what breaks the rules on the root of a subscription, if the operation is one: it has one field, through fragments;
-/// this is no meta-field; and no selection has `@skip` or `@include` (section 5.2.3.1). Fails where memory is refused.
+/// this is no meta-field; and no selection has `@skip` or `@include` (section 5.2.3.1). `thin` is the document, or one with what
+/// is left of its fragments without quiet selections. Fails where memory is refused.
 pub fn check_subscription(
     document: &ExecutableDocument,
+    thin: &ExecutableDocument,
     operation: &Node<Operation>,
     breaches: &mut Vec<Breach>,
 ) -> Result<(), AllocError>
-    ensures { OnOk result (AreUnderOwnNames (document_meant document.now) → AddsSubscription breaches.old breaches.new (document_meant document.now) (operation_meant operation.now)) }
+    ensures { OnOk result (AreUnderOwnNames (document_meant document.now) → StandIn false (document_meant document.now).fragments (document_meant thin.now).fragments → AddsBroken breaches.old breaches.new (SubscriptionBreaks (document_meant document.now) (operation_meant operation.now))) }
 {
     if !operation.content().is_subscription() {
         return Ok(());
     }
+    subscription_uses_multiple_fields(document, operation, breaches)?;
     let alloc = *breaches.allocator();
-    let roots = root_selections(alloc, document, operation)?;
-    let fields = field_names(alloc, &roots)?;
-    subscription_uses_multiple_fields(operation, fields, breaches)?;
+    let roots = root_selections(alloc, thin, operation)?;
     check_root_selections(operation, &roots, breaches)
 }

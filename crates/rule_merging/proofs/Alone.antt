@@ -10,8 +10,8 @@ use Rattle.rule_field_groups.specs.in_document_definitions.ReadFields.{ReadField
 use Rattle.rule_field_groups.specs.in_document_definitions.Settled.{StandIn, StandWhere, StartsStand, IsSettledIn}
 use Rattle.rule_field_groups.proofs.in_document_definitions.Unplaced.{contains_map, contains_unmap}
 use Rattle.rule_field_groups.specs.in_sets.in_ground.Broken.{brokens_of}
-use Rattle.rule_lone_keys.specs.LoneKeys.{AreKeysLone}
-use Rattle.rule_lone_keys.proofs.Merging.{AreOne, StandAlone, lone_shapes, lone_start, lone_merge}
+use Rattle.rule_document_ground.specs.LoneKeys.{AreKeysLone}
+use Rattle.rule_document_ground.proofs.Merging.{AreOne, StandAlone, lone_shapes, lone_start, lone_merge}
 use Rattle.rule_merging.specs.Examined.{Breaches}
 use Rattle.rule_merging.specs.Verdict.{lists_examined, StartsOrIsLone, ExaminesOperation}
 use Rattle.rule_merging.specs.Merger.{AreClosed, with_alone}

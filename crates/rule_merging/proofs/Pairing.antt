@@ -43,13 +43,17 @@ module _ (pass : Pass) (s : Judged) (d : MeantDocument Place) where
 
   -- ---- several, one after the other
 
-  pub paired_none : (Wanted : TwoFields) → ((p q : Member) → GoTogether pass s d Wanted p q → ⊥) → (old : Kept) → FieldsPaired pass s d Wanted old old [] []
-  paired_none Wanted none old = record {
+  -- where all stand in lists that were examined before
+  abbrev pub AllStand : TwoFields → Kept → Type 0
+  AllStand Wanted old = (p q : Member) → GoTogether pass s d Wanted p q → StandIn old.lists (content_of p) (content_of q)
+
+  paired_standing : (Wanted : TwoFields) (old : Kept) → AllStand Wanted old → FieldsPaired pass s d Wanted old old [] []
+  paired_standing Wanted old all = record {
     right = λ fault c. not_in_nil fault c;
     under = λ sets c. not_in_nil sets c;
     same = refl;
     more = λ l c. c;
-    stand = λ e p q w. absurd (none p q w);
+    stand = λ e. all;
     fresh = λ e l c. inl c;
   }
 
@@ -107,8 +111,11 @@ module _ (pass : Pass) (s : Judged) (d : MeantDocument Place) where
   abbrev pub PairedTold : TwoFields → Kept → Kept → List (Broken Place) → List (Broken Place) → List Sets → List Sets → Type 0
   PairedTold Wanted old new told later next last = (added : List (Broken Place)) × ((below : List Sets) × ((later ≡ told ++ added) × ((last ≡ next ++ below) × FieldsPaired pass s d Wanted old new added below)))
 
+  pub told_standing : (Wanted : TwoFields) (old : Kept) → AllStand Wanted old → (told : List (Broken Place)) (next : List Sets) → PairedTold Wanted old old told told next next
+  told_standing Wanted old all told next = ([], ([], (sym (append-nil told), (sym (append-nil next), paired_standing Wanted old all))))
+
   pub told_none : (Wanted : TwoFields) → ((p q : Member) → GoTogether pass s d Wanted p q → ⊥) → (old : Kept) (told : List (Broken Place)) (next : List Sets) → PairedTold Wanted old old told told next next
-  told_none Wanted none old told next = ([], ([], (sym (append-nil told), (sym (append-nil next), paired_none Wanted none old))))
+  told_none Wanted none old told next = told_standing Wanted old (λ p q w. absurd (none p q w)) told next
 
   pub told_both : (W W' W'' : TwoFields) → ((p q : Member) → W p q ⊎ W' p q → W'' p q) → ((p q : Member) → W'' p q → W p q ⊎ W' p q)
       → (old mid new : Kept) (told half later : List (Broken Place)) (next between last : List Sets)

@@ -9,7 +9,7 @@ use Rattle.rule_field_groups.specs.in_document_definitions.Limits.{PassesChainBo
 use Rattle.rule_field_groups.specs.in_sets.in_ground.Broken.{brokens_of}
 use Rattle.rule_field_groups.specs.in_document_definitions.ReadFields.{ReadField, ReadSet, ReadStarts, fragments_read, set_read}
 use Rattle.rule_field_groups.specs.in_document_definitions.Settled.{StartsStand}
-use Rattle.rule_lone_keys.specs.LoneKeys.{AreKeysLone}
+use Rattle.rule_document_ground.specs.LoneKeys.{AreKeysLone}
 use Rattle.rule_field_groups.specs.Paid.{Account}
 use Rattle.rule_merging.specs.Counted.{IsCountedBy, IsPaidBy}
 use Rattle.rule_field_groups.specs.in_sets.in_ground.Fields.{meant_fragments}

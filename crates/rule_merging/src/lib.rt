@@ -9,11 +9,11 @@
 //! Where a list is not paid by fields that are new, and has few fields for its many sets, its fields are compared two by two. Else its sets
 //! are looked at in pairs (`twos.rt`), each pair once: fields of the two are compared, and a spread is a step in one of the two alone. A
 //! set is looked at with those before it, and the pairs that come of it are examined before the next set is looked at, so few wait. Whether
-//! two fields go together is seen by their numbers, so two are compared without an index. Where fields go together, lists of their sets
-//! are left for the next level.
+//! two fields go together is seen by their numbers, so two are compared without an index. Many fields that are all in one list
+//! that was examined are not compared again. Where fields go together, lists of their sets are left for the next level.
 //!
 //! Of most operations nothing is examined: no two of their fields have one response key, in any selection set, so nothing is to be merged
-//! (`rule_lone_keys`). This is asked of each operation up to the first where it is not so; from there on all are examined
+//! (`rule_document_ground::keys_differ`). This is asked of each operation up to the first where it is not so; from there on all are examined
 //! (`examine_operation` of `operation.rt`).
 //!
 //! For the layers above: a `FieldsInSetCanMerge` tells a list of faults what does not merge in an operation (`MergerTold` of

@@ -8,7 +8,7 @@ ghost use Rattle.rule_field_groups.specs.in_sets.in_ground.in_typed_operations.D
 ghost use Rattle.rule_field_groups.specs.in_definitions.Judged.{Judged};
 ghost use Rattle.rule_field_groups.specs.in_typed_selections.TypedTree.{typed_set_tree};
 ghost use Rattle.rule_field_groups.specs.in_document_definitions.ReadFields.{fragments_read, set_read};
-ghost use Rattle.rule_lone_keys.specs.LoneKeys.{AreKeysLone};
+ghost use Rattle.rule_document_ground.specs.LoneKeys.{AreKeysLone};
 ghost use Rattle.rule_field_groups.specs.in_sets.Nodes.{AreSets, HasAllStarts};
 ghost use Rattle.rule_field_groups.specs.in_sets.Read.{set_at};
 ghost use Rattle.rule_merging.specs.Verdict.{comparisons_of, lists_examined, AreBothSettled, IsCounted, StaysCountedIn, OnlyGrow, ExaminesOperation, AreSetsFor, AreKnown, LooksAtFew, Begins};
@@ -17,7 +17,7 @@ use crate::examination::Examination;
 use document_typed_operations::{ExecutableDocument, Operation};
 use graphql_names::Node;
 use rule_field_groups::{Breach, FieldSets, Pass, Remembered, Schema, SelectionSet};
-use rule_lone_keys::keys_differ;
+use rule_document_ground::keys_differ;
 use std::alloc::{AllocError, Global};
 
 /// What was examined in each pass, over all operations so far, and how often shapes were compared.

@@ -128,8 +128,8 @@ impl<'doc> Examination<'_, 'doc> {
         Ok(())
     }
 
-    /// Compares each field of the one list with each of the other, up to the first that is told of: all that do not merge could be
-    /// as many as fields times fields.
+    /// Compares each field of the one list with each of the other, unless all of them are in one list that was examined, up to the
+    /// first that is told of: all that do not merge could be as many as fields times fields.
     pub(crate) fn examine_each(
         &self,
         ones: &[Member<'doc>],
@@ -143,6 +143,9 @@ impl<'doc> Examination<'_, 'doc> {
         ensures examined { OnOk result (PairsOf self.now (are_of ones.now others.now) examined.old examined.new breaches.old breaches.new) }
         ensures counted { GrowsByTwo self.now (are_of ones.now others.now) examined.old examined.new }
     {
+        if examined.stand_together(ones, others) {
+            return Ok(());
+        }
         let told = breaches.len();
         for one in ones {
             if is_told(breaches, told) {

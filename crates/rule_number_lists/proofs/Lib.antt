@@ -1,3 +1,4 @@
+pub mod Found
 pub mod Standing
 pub mod Rising
 pub mod Few

@@ -1,5 +1,6 @@
 -- Lists of numbers that are remembered, in whatever order the numbers stand.
-use Rattle.std.specs.Prelude.{◌≡◌, ◌↔◌, ◌⊎◌, ◌++◌, ◌∷◌, [], ℕ, Bool, true, false, ◌==◌, cond, List, map, length, Contains}
+use Rattle.std.specs.Prelude.{◌≡◌, ◌↔◌, ◌⊎◌, ◌++◌, ◌∷◌, [], ℕ, Bool, true, false, ◌==◌, cond, List, map, length, slice_get, Contains}
+use Rattle.std.specs.Option.{option_map_or}
 use Rattle.std.specs.List.Sorted.{IsPermutation}
 use Rattle.rule_cycle_search.specs.Paths.{HasNoRepeat}
 use Rattle.rule_number_lists.specs.declared.lists.NumberLists.{NumberLists}
@@ -23,6 +24,10 @@ list_of (a, b) = cond (a == b) (a ∷ []) (a ∷ b ∷ [])
 -- the lists that are remembered: those of one or two, and then the longer ones, each of these in ascending order
 abbrev pub lists_kept : NumberLists → List (List ℕ)
 lists_kept m = map list_of (pairs_kept m.pairs) ++ map (λ v. v.items) m.longer.keys
+
+-- the longer list at a place, if there is one
+abbrev pub list_at : NumberLists → ℕ → List ℕ
+list_at m place = option_map_or (λ v. v.items) (slice_get m.longer.keys place) []
 
 -- the list that is kept for these numbers: the same in another order, if nothing stands in them twice
 abbrev pub IsKeptFor : List ℕ → List ℕ → Type 0

@@ -2,7 +2,8 @@
 //!
 //! For the layer above: a `NumberPairs` remembers pairs of numbers (`KeepsPair` of `specs/NumberPairs.antt`), a `NumberLists` lists
 //! of numbers (`Keeps` of `specs/NumberLists.antt`), in whatever order these stand; a `NumberSet` is a set of numbers
-//! (`specs/NumberSet.antt`). Each tells a number above all that it has (`bound`). `proofs/Rows.antt` and `proofs/Kept.antt` say what
+//! (`specs/NumberSet.antt`). Each tells a number above all that it has (`bound`). Of a list of a `NumberLists` it is told whether a
+//! number is in it (`list_at`): numbers that are stand together (`proofs/Found.antt`). `proofs/Rows.antt` and `proofs/Kept.antt` say what
 //! is kept after a call and how many pairs there can be, `proofs/Few.antt` how long lists can be in all, and
 //! `proofs/Standing.antt` what lists of numbered things come to.
 #![tactic(auto)]

@@ -1,5 +1,5 @@
 //! Lists of numbers that are remembered.
-ghost use Rattle.std.specs.Prelude.{◌≡◌, ℕ, List, [], ◌≤◌, ◌<◌, ◌+◌, length, IfOk, OnErr, IsPermutation, Contains, Vec};
+ghost use Rattle.std.specs.Prelude.{◌≡◌, ℕ, List, [], ◌≤◌, ◌<◌, ◌+◌, length, IsTrue, IfOk, OnErr, IsPermutation, Contains, Vec};
 ghost use Rattle.std.specs.Global.{Global};
 ghost use Rattle.std.specs.List.Sorted.{IsNonDecreasing};
 ghost use Rattle.std.proofs.Props.{props};
@@ -15,6 +15,8 @@ pub struct NumberLists {
     longer: IndexSet<Vec<usize>>,
     /// A number above all in the longer lists.
     above: usize,
+    /// For each number the place of the longest of these that has it, if there is one.
+    places: Vec<Option<usize>>,
     ghost ordered: { (v : Vec ℕ Global) → Contains longer.keys v → IsNonDecreasing v.items } by { Prim.hlevel props },
     ghost within: { (v : Vec ℕ Global) → Contains longer.keys v → (n : ℕ) → Contains v.items n → n < above } by { Prim.hlevel props },
     ghost long: { (v : Vec ℕ Global) → Contains longer.keys v → 3 ≤ length v.items } by { Prim.hlevel props },
@@ -26,12 +28,13 @@ impl Drop for NumberLists {
             pairs: _,
             longer: _,
             above: _,
+            places: _,
         } = self;
     }
 }
 
 impl NumberLists {
-    ghost use Rattle.rule_number_lists.specs.NumberLists.{list_of, lists_kept, Keeps};
+    ghost use Rattle.rule_number_lists.specs.NumberLists.{list_of, lists_kept, list_at, Keeps};
 
     /// None.
     pub fn new(alloc: Global) -> NumberLists
@@ -41,6 +44,7 @@ impl NumberLists {
             pairs: NumberPairs::new(alloc),
             longer: IndexSet::new(alloc),
             above: 0,
+            places: Vec::new(alloc),
         }
     }
 
@@ -49,6 +53,24 @@ impl NumberLists {
         ensures { (list : List ℕ) → Contains (lists_kept self.now) list → (n : ℕ) → Contains list n → n < result }
     {
         self.above.max(self.pairs.bound())
+    }
+
+    /// The place of the longest list of three or more that has the number, if there is one.
+    pub fn place_of(&self, number: usize) -> Option<usize> {
+        match self.places.get(number) {
+            None => None,
+            Some(place) => *place,
+        }
+    }
+
+    /// Whether the list at the place has the number.
+    pub fn is_at(&self, place: usize, number: usize) -> bool
+        ensures { IsTrue result → Contains (list_at self.now place) number }
+    {
+        match self.longer.get_index(place) {
+            None => false,
+            Some(list) => list.binary_search(&number).is_ok(),
+        }
     }
 
     /// Remembers a list of two numbers, or of one where both are it. Whether it was not remembered before is given.
@@ -81,9 +103,49 @@ impl NumberLists {
     {
         let above = above(&numbers)?;
         let numbers = in_order(numbers);
+        note_places(&mut self.places, &self.longer, &numbers, above)?;
         self.above = self.above.max(above);
         Ok(self.longer.insert(numbers)?)
     }
+}
+
+/// Whether the list at a place, if there is one, has so many numbers or more.
+fn is_as_long(longer: &IndexSet<Vec<usize>>, place: Option<usize>, length: usize) -> bool {
+    let Some(place) = place else {
+        return false;
+    };
+    match longer.get_index(place) {
+        None => false,
+        Some(list) => length <= list.len(),
+    }
+}
+
+/// Notes the place of the list that comes next, of this length, for a number that it has, unless one as long has it.
+fn note_place(
+    places: &mut Vec<Option<usize>>,
+    longer: &IndexSet<Vec<usize>>,
+    number: usize,
+    length: usize,
+) {
+    if number < places.len() && !is_as_long(longer, places[number], length) {
+        places[number] = Some(longer.len());
+    }
+}
+
+/// Notes for each number of the list that comes next its place, unless a list as long has the number.
+fn note_places(
+    places: &mut Vec<Option<usize>>,
+    longer: &IndexSet<Vec<usize>>,
+    numbers: &[usize],
+    above: usize,
+) -> Result<(), AllocError> {
+    if places.len() < above {
+        places.resize(above, None)?;
+    }
+    for number in numbers {
+        note_place(places, longer, *number, numbers.len());
+    }
+    Ok(())
 }
 
 /// A number above all of these. Where there is none that can be told it fails, as where memory does not suffice.

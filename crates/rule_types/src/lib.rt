@@ -13,6 +13,7 @@ mod arguments;
 mod check;
 mod copies;
 mod empty;
+mod find_subtype;
 mod implementation;
 mod interface_arguments;
 mod interface_check;

@@ -7,6 +7,7 @@ ghost use Rattle.fault_data.specs.in_rule_definitions.Judged.{judged};
 ghost use Rattle.fault_data.specs.in_rule_definitions.Subtypes.{is_subtype, is_valid_type};
 ghost use Rattle.rule_types.specs.InterfaceTrees.{serves};
 
+use crate::find_subtype::find_subtype;
 use graphql_names::Name;
 use graphql_schema::Schema;
 use tree_literals::Type;
@@ -66,5 +67,9 @@ fn serves(schema: &Schema, wanted: &Name, name: &Name) -> bool
     if wanted.as_str() == name.as_str() {
         return true;
     }
-    schema.is_subtype(wanted, name)
+    match find_subtype(schema, wanted, name) {
+        Ok(found) => found,
+        // The schema's own search says the same, and needs no copy of a name.
+        Err(_) => schema.is_subtype(wanted, name),
+    }
 }

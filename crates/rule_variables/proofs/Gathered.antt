@@ -13,9 +13,11 @@ use Rattle.rule_document_definitions.specs.Variables.{UnusedVariableAt}
 use Rattle.rule_document_ground.specs.Reach.{Member, IsReach}
 use Rattle.rule_document_ground.proofs.AtReaches.{at_reached, at_reached_fragment}
 use Rattle.rule_variables.specs.Parts.{places_with, VariablesBreakAlone}
-use Rattle.rule_variables.specs.UsedNames.{with_selection, with_directives, with_members, with_fragments, with_used}
+use Rattle.rule_document_ground.specs.UsedNames.{with_directives, with_selection}
+use Rattle.rule_variables.specs.UsedNames.{with_members, with_fragments, with_used}
 use Rattle.rule_variables.specs.VariableFaults.{UnusedAmong, AloneBreaks}
-use Rattle.rule_variables.proofs.Names.{in_fold, in_directives, in_selection, StandsHere, stands_here}
+use Rattle.rule_document_ground.proofs.UsedNames.{StandsHere, in_directives, in_fold, in_selection}
+use Rattle.rule_variables.proofs.Names.{stands_here}
 use Rattle.rule_variables.proofs.Told.{index_same}
 
 module _ (d : MeantDocument Place) (o : MeantOperation Place) (members : List (Member Place)) (fragments : List (MeantFragment Place)) (reach : IsReach d (own o) members fragments) where

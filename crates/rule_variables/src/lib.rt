@@ -12,6 +12,5 @@ mod reached;
 mod types;
 mod unique;
 mod unused;
-mod used;
 
 pub use check::{check_variables, check_variables_alone};

@@ -5,11 +5,10 @@ ghost use Rattle.rule_document_ground.specs.Reach.{reached_members, reached_frag
 ghost use Rattle.rule_document_ground.specs.NotedNames.{noted_names};
 ghost use Rattle.rule_variables.specs.UsedNames.{with_members, with_fragments, with_used};
 
-use crate::used::{note_in_directives, note_in_selection};
 use document_typed_operations::Operation;
 use graphql_names::Name;
 use indexmap::IndexSet;
-use rule_document_ground::Reach;
+use rule_document_ground::{Reach, note_in_directives, note_in_selection};
 use std::alloc::{AllocError, Global};
 
 /// Adds the names of the variables in each selection itself.

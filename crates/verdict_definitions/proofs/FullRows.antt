@@ -22,6 +22,7 @@ use Rattle.rule_definitions.specs.Told.{PlacedFault}
 use Rattle.rule_definitions.proofs.Lists.{not_in_nil, only}
 use Rattle.graphql_faults.specs.in_document_rule_definitions.DocumentFaults.{Broken, OfData, OfDocument, OfLimit}
 use Rattle.graphql_faults.specs.in_document_rule_definitions.Defer.{DeferBreaks}
+use Rattle.graphql_faults.specs.in_document_rule_definitions.Subscriptions.{SubscriptionBreaks}
 use Rattle.graphql_faults.specs.in_document_rule_definitions.Fragments.{UndefinedFragmentAt, InvalidFragmentTargetAt, InvalidFragmentSpreadAt}
 use Rattle.graphql_faults.specs.in_document_rule_definitions.Selections.{SelectionsBreak}
 use Rattle.graphql_faults.specs.in_document_rule_definitions.Variables.{VariablesBreak}
@@ -101,6 +102,9 @@ unused_defers : (fault : Broken Place) → DeferBreaks unused_document unused_op
 unused_defers fault (inl h) = h.0 refl
 unused_defers fault (inr (k, h)) = true≢false (ap (λ e. bytes_eq (default_root_name e) (codes "Query")) k)
 
+unused_subscriptions : (fault : Broken Place) → SubscriptionBreaks unused_document unused_operation fault → ⊥
+unused_subscriptions fault (k, h) = true≢false (ap (λ e. bytes_eq (default_root_name e) (codes "Query")) k)
+
 unused_found : (fault : PlacedDocumentFault) → RuleFailsBeside (places_in field_schema) J unused_document fault → fault ≡ unused_fault
 unfolding built_in_definitions place_in
 unused_found (OfData fault) (inl (o, (c, h))) = ap OfData (elim (at_it (λ w. VariablesBreak (places_in field_schema) J unused_document w fault
@@ -114,9 +118,10 @@ unused_found (OfData fault) (inl (o, (c, h))) = ap OfData (elim (at_it (λ w. Va
     at_it : (Q : MeantOperation Place → Type 0) (w : MeantOperation Place) → Contains (unused_operation ∷ []) w → Q w → Q unused_operation
     at_it Q w c q = subst Q (only unused_operation w c) q
 unused_found (OfData fault) (inr (f, (c, h))) = absurd (not_in_nil f c)
-unused_found (OfDocument fault) (inl (o, (c, h))) = absurd (unused_defers fault (subst (λ w. DeferBreaks unused_document w fault) (only unused_operation o c) h))
-unused_found (OfDocument fault) (inr (inl h)) = absurd (not_at_index h)
-unused_found (OfDocument fault) (inr (inr h)) = absurd (none_repeats (λ t. t.it) h)
+unused_found (OfDocument fault) (inl (o, (c, h))) = absurd (unused_subscriptions fault (subst (λ w. SubscriptionBreaks unused_document w fault) (only unused_operation o c) h))
+unused_found (OfDocument fault) (inr (inl (o, (c, h)))) = absurd (unused_defers fault (subst (λ w. DeferBreaks unused_document w fault) (only unused_operation o c) h))
+unused_found (OfDocument fault) (inr (inr (inl h))) = absurd (not_at_index h)
+unused_found (OfDocument fault) (inr (inr (inr h))) = absurd (none_repeats (λ t. t.it) h)
 unused_found (OfLimit place) h = absurd h
 
 pub unused_alone : (fault : PlacedDocumentFault) → DocumentRuleFailsBeside field_schema unused_tree fault → fault ≡ unused_fault
@@ -191,6 +196,9 @@ conflict_defers : (fault : Broken Place) → DeferBreaks conflict_document confl
 conflict_defers fault (inl h) = h.0 refl
 conflict_defers fault (inr (k, h)) = true≢false (ap (λ e. bytes_eq (default_root_name e) (codes "Query")) k)
 
+conflict_subscriptions : (fault : Broken Place) → SubscriptionBreaks conflict_document conflict_operation fault → ⊥
+conflict_subscriptions fault (k, h) = true≢false (ap (λ e. bytes_eq (default_root_name e) (codes "Query")) k)
+
 conflict_found : (fault : PlacedDocumentFault) → RuleFailsBeside (places_in a_and_b_schema) K conflict_document fault → ⊥
 unfolding built_in_definitions place_in
 conflict_found (OfData fault) (inl (o, (c, h))) = elim (at_it (λ w. VariablesBreak (places_in a_and_b_schema) K conflict_document w fault
@@ -204,9 +212,10 @@ conflict_found (OfData fault) (inl (o, (c, h))) = elim (at_it (λ w. VariablesBr
     at_it : (Q : MeantOperation Place → Type 0) (w : MeantOperation Place) → Contains (conflict_operation ∷ []) w → Q w → Q conflict_operation
     at_it Q w c q = subst Q (only conflict_operation w c) q
 conflict_found (OfData fault) (inr (f, (c, h))) = not_in_nil f c
-conflict_found (OfDocument fault) (inl (o, (c, h))) = conflict_defers fault (subst (λ w. DeferBreaks conflict_document w fault) (only conflict_operation o c) h)
-conflict_found (OfDocument fault) (inr (inl h)) = not_at_index h
-conflict_found (OfDocument fault) (inr (inr h)) = none_repeats (λ t. t.it) h
+conflict_found (OfDocument fault) (inl (o, (c, h))) = conflict_subscriptions fault (subst (λ w. SubscriptionBreaks conflict_document w fault) (only conflict_operation o c) h)
+conflict_found (OfDocument fault) (inr (inl (o, (c, h)))) = conflict_defers fault (subst (λ w. DeferBreaks conflict_document w fault) (only conflict_operation o c) h)
+conflict_found (OfDocument fault) (inr (inr (inl h))) = not_at_index h
+conflict_found (OfDocument fault) (inr (inr (inr h))) = none_repeats (λ t. t.it) h
 conflict_found (OfLimit place) h = h
 
 pub conflict_alone : (fault : PlacedDocumentFault) → DocumentRuleFailsBeside a_and_b_schema conflict_tree fault → ⊥

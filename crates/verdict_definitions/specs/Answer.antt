@@ -58,8 +58,7 @@ UnreadAlone nesting number document faults = (fault : AnyFault) × ((faults ≡ 
 
 -- The document, which has this number, is refused over the schema with these faults: there are some, and each is so. That it
 -- is unread stands alone; of a read one each breach of a rule of typing is among them; and where none is, each of a rule on
--- documents, of those on fragments that reach themselves, on subscriptions and on merging some (`rules`), unless as many are told
--- as one call tells.
+-- documents, of those on fragments that reach themselves and on merging some (`rules`), unless as many are told as one call tells.
 pub record RefusesDocument (schema : SchemaTree Place) (nesting number : ℕ) (document : SourceText) (faults : List AnyFault) : Type 0 where
   pub some : faults ≢ []
   pub says : AllSay (SaysDocument schema nesting number document) faults

@@ -21,6 +21,7 @@ use Rattle.graphql_faults.specs.in_document_rule_definitions.DocumentFaults.{OfD
 use Rattle.graphql_faults.specs.in_document_rule_definitions.DocumentRules.{DeferredBreaks}
 use Rattle.graphql_faults.specs.in_document_rule_definitions.Fragments.{UndefinedFragmentAt, UnusedFragmentAt, InvalidFragmentTargetAt, InvalidFragmentSpreadAt}
 use Rattle.graphql_faults.specs.in_document_rule_definitions.Reached.{AtOperation}
+use Rattle.graphql_faults.specs.in_document_rule_definitions.Subscriptions.{SubscriptionBreaks}
 use Rattle.graphql_faults.specs.in_document_rule_definitions.Selections.{SelectionsBreak}
 use Rattle.graphql_faults.specs.in_document_rule_definitions.Variables.{VariablesBreak}
 use Rattle.graphql_faults.specs.in_document_rule_definitions.Told.{PlacedDocumentFault, places_in, DocumentFails, DocumentMergingFails, DocumentBoundFails}
@@ -94,13 +95,13 @@ module _ (terms : Terms) (trees : List Tree) where
 
 -- ---- a document of which a rule is broken
 
--- a rule on documents is broken so, but those on fragments that reach themselves, on subscriptions and on merging
+-- a rule on documents is broken so, but those on fragments that reach themselves and on merging
 abbrev pub RuleFailsBeside : Places Place → Judged → MeantDocument Place → PlacedDocumentFault → Type 0
 RuleFailsBeside places s d (OfData fault) =
     AtOperation d (λ o. VariablesBreak places s d o fault ⊎ (SelectionsBreak places s d o fault
     ⊎ (UndefinedFragmentAt d fault o ⊎ (InvalidFragmentTargetAt s d o fault ⊎ InvalidFragmentSpreadAt s d o fault places))))
     ⊎ UnusedFragmentAt d fault
-RuleFailsBeside places s d (OfDocument fault) = DeferredBreaks d fault
+RuleFailsBeside places s d (OfDocument fault) = AtOperation d (λ o. SubscriptionBreaks d o fault) ⊎ DeferredBreaks d fault
 RuleFailsBeside places s d (OfLimit place) = ⊥
 
 module _ (schema : SchemaTree Place) (tree : Tree) where

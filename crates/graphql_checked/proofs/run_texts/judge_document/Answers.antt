@@ -1,5 +1,6 @@
 use Rattle.std.proofs.Common.{subst}
 use Rattle.checker_calls.specs.Layouts.{prefix_of}
+use Rattle.checker_calls.specs.Parts.{parts_bytes}
 use Rattle.graphql_checked.specs.CheckedView.{CheckedSchemaParts, schema_value, document_value}
 use Rattle.graphql_checked.specs.Run.{IsWrittenAnswer}
 use Rattle.graphql_checked.proofs.Verdicts.{certain_document, document_not_failed}
@@ -8,10 +9,13 @@ use Rattle.graphql_checked.proofs.run_texts.judge_document.Goals as goal
 
 pub returns-in_ok-accepted_answer-in-Ok-clause-answer : goal.returns-in_ok-accepted_answer-in-Ok-clause-answer
 returns-in_ok-accepted_answer-in-Ok-clause-answer c terms schemas is =
-    let bytes = c.in_ok-accepted_answer-in-Ok.field-0.items in
-    accepted_bytes terms schemas c.args.document.now (schema_value c.args.schema.now) is (document_value c.in-Ok.checked).document c.in-Ok.ensures.accepted (prefix_of c.args.layout) bytes
-    (subst (λ text. IsWrittenAnswer (prefix_of c.args.layout) (schema_value c.args.schema.now) text bytes) c.in-Ok.ensures.text
-    (subst (λ (s : CheckedSchemaParts). IsWrittenAnswer (prefix_of c.args.layout) (schema_value s) c.in-Ok.checked.text bytes) c.in-Ok.ensures.schema c.in_ok-accepted_answer-in-Ok.ensures))
+    let parts = c.in_ok-accepted_answer-in-Ok.ensures in
+    let bytes = parts_bytes c.in_ok-accepted_answer-in-Ok.field-0 in (
+      parts.0,
+      accepted_bytes terms schemas c.args.document.now (schema_value c.args.schema.now) is (document_value c.in-Ok.checked).document c.in-Ok.ensures.accepted (prefix_of c.args.layout) bytes
+          (subst (λ text. IsWrittenAnswer (prefix_of c.args.layout) (schema_value c.args.schema.now) text bytes) c.in-Ok.ensures.text
+          (subst (λ (s : CheckedSchemaParts). IsWrittenAnswer (prefix_of c.args.layout) (schema_value s) c.in-Ok.checked.text bytes) c.in-Ok.ensures.schema parts.1)),
+    )
 
 pub returns-in-Err-clause-answer : goal.returns-in-Err-clause-answer
 returns-in-Err-clause-answer c terms schemas is =

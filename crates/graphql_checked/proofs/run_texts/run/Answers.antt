@@ -4,8 +4,8 @@ use Rattle.std.specs.List.{All}
 use Rattle.std.proofs.lemmas.Result.{err_from_is_err_and}
 use Rattle.std.proofs.lemmas.Str.{IsUtf8-string_bytes}
 use Rattle.checker_calls.specs.Layouts.{prefix_of}
+use Rattle.checker_calls.specs.Parts.{parts_bytes}
 use Rattle.checker_calls.specs.Devices.{AreTextsOf, IsTextOf}
-use Rattle.graphql_checked.specs.Run.{BytesOf}
 use Rattle.graphql_checked.specs.Verdicts.{first_terms}
 use Rattle.graphql_checked.proofs.Completing.{reader_fault, certain_fault, certain_outcome, certain_here, all_utf8, put_due, none_failed}
 use Rattle.graphql_checked.proofs.run_texts.run.Goals as goal
@@ -28,7 +28,10 @@ returns-in_err-put-clause-fault g c =
     let utf8 = subst (λ ts. All IsUtf8 (map string_bytes ts)) (sym c.deref.ensures.value) (all_utf8 c.in_ok-texts.texts.items) in
     let text_utf8 = subst IsUtf8 (sym c.deref-2.ensures) (IsUtf8-string_bytes c.in-Ok.text) in
     rw (p.1, p.2) (put_due g.R.Read.remaining g.D.Read.remaining g.W.Write.contents (prefix_of c.args.layout) (first_terms c.args.limits.nesting) c.args.schemas.now _ c.args.document.now _ _ _ _ _ c.in_ok-outcome.outcome _ _
-    are is utf8 text_utf8 (c.in_ok-texts.ensures.end, c.in-Ok.ensures.end) (subst (BytesOf (first_terms c.args.limits.nesting) (prefix_of c.args.layout) c.in_ok-outcome.outcome _ _) (sym c.deref-3.ensures.value) c.in_ok-outcome.ensures.answer) c.in_err-put.ensures.fault)
+    are is utf8 text_utf8 (c.in_ok-texts.ensures.end, c.in-Ok.ensures.end) c.in_ok-outcome.ensures.answer.1 c.in_err-put.ensures.fault)
+
+pub put-requires : goal.put-requires
+put-requires g c = c.in_ok-outcome.ensures.answer.0
 
 pub returns-clause-complete : goal.returns-clause-complete
 returns-clause-complete g c =
@@ -45,11 +48,11 @@ pub returns-clause-answers : goal.returns-clause-answers
 returns-clause-answers g c = record {
   texts = map string_bytes c.deref.result.now;
   text = c.deref-2.result.now;
-  bytes = c.deref-3.result.now;
+  bytes = parts_bytes c.in_ok-outcome.bytes;
   schemas_are = subst (AreTextsOf g.R.Read.remaining c.args.schemas.now) (ap (map string_bytes) (sym c.deref.ensures.value)) c.in_ok-texts.ensures.texts;
   document_is = subst (IsTextOf g.D.Read.remaining c.args.document.now) (sym c.deref-2.ensures) c.in-Ok.ensures.text;
   schemas_are_utf8 = subst (λ ts. All IsUtf8 (map string_bytes ts)) (sym c.deref.ensures.value) (all_utf8 c.in_ok-texts.texts.items);
   document_is_utf8 = subst IsUtf8 (sym c.deref-2.ensures) (IsUtf8-string_bytes c.in-Ok.text);
-  answers = subst (BytesOf (first_terms c.args.limits.nesting) (prefix_of c.args.layout) c.in_ok-outcome.outcome _ _) (sym c.deref-3.ensures.value) c.in_ok-outcome.ensures.answer;
+  answers = c.in_ok-outcome.ensures.answer.1;
   put = c.in_ok-put.ensures.whole;
 }

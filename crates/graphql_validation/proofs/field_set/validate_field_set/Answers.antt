@@ -1,4 +1,4 @@
-use Rattle.std.proofs.Common.{map, ap, subst}
+use Rattle.std.proofs.Common.{map, take, ap, subst}
 use Rattle.std.proofs.lemmas.Result.{on_ok_weaker}
 use Rattle.rule_fragments.specs.in_typed_operations.DocumentView.{document_meant}
 use Rattle.fault_data.specs.FaultView.{faults_of}
@@ -8,6 +8,9 @@ use Rattle.rule_fragments.specs.in_schema.SchemaOf.{schema_tree}
 use Rattle.rule_fragments.specs.in_schema.declared.schema.Schema.{Schema}
 use Rattle.graphql_validation.specs.Steps.{TellsUnder}
 use Rattle.graphql_validation.specs.Told.{set_meant}
+use Rattle.rule_definitions.specs.Room.{most_told}
+use Rattle.graphql_validation.specs.Operations.{all_told}
+use Rattle.graphql_validation.proofs.Once.{told_once, none_once}
 use Rattle.graphql_validation.proofs.FieldSets.{told_of_set, silent_set, valid_set}
 use Rattle.rule_merging.proofs.Behind.{begins_same, refused_so}
 use Rattle.graphql_validation.proofs.field_set.validate_field_set.Goals as goal
@@ -29,9 +32,18 @@ returns-clause-told c =
     let bs = brokens_of c.new-2.result in
     let p = c.passes_path_bound-is_passed.result in
     let bound = c.passes_path_bound-is_passed.ensures in
-    let parts = subst (λ (y : Schema). TellsUnder (schema_tree y) d fs) c.new-schema.ensures c.in_ok-faults.ensures in
+    let parts = subst (λ (y : Schema). TellsUnder (schema_tree y) d fs) c.new-schema.ensures c.in_ok-faults.ensures.told in
     on_ok_weaker c.append_all.result
     (λ h. told_of_set s (set_meant c.args.field_set.now) (diagnostics_of c.args.list.now) (diagnostics_of c.append_all.new.list) d fs bs p c.in_ok-document.ensures (ap (map broken_of) c.new-2.ensures.items) parts bound.right bound.found h)
+    c.append_all.ensures.added
+
+pub returns-clause-once : goal.returns-clause-once
+returns-clause-once c =
+    let fs = faults_of c.in_ok-faults.faults in
+    let bs = brokens_of c.new-2.result in
+    let p = c.passes_path_bound-is_passed.result in
+    on_ok_weaker c.append_all.result
+    (λ h. (take most_told (all_told fs bs p), (h, told_once fs bs p c.in_ok-faults.ensures.once (none_once bs (ap (map broken_of) c.new-2.ensures.items)))))
     c.append_all.ensures.added
 
 pub returns-clause-silent : goal.returns-clause-silent

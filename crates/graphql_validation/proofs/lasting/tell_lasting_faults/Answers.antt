@@ -30,6 +30,6 @@ returns-clause-told c =
     let kept = c.keep_lasting_faults.ensures in
     let left = ap (map broken_of) c.keep_lasting_breaches.ensures ∙ filter_view broken_of broken_lasts c.keep_first.new.breaches.items in
     on_ok_weaker c.append_told.result
-    (λ h. lasting_told_of s d (faults_of c.in_ok-faults.faults) first (brokens_of c.in_ok-breaches.breaches) front c.keep_first.result c.in_ok-faults.ensures c.in_ok-breaches.ensures c.keep_first.ensures old new
+    (λ h. lasting_told_of s d (faults_of c.in_ok-faults.faults) first (brokens_of c.in_ok-breaches.breaches) front c.keep_first.result c.in_ok-faults.ensures.told c.in_ok-breaches.ensures c.keep_first.ensures old new
     (h ∙ (λ i. old ++ map of_document (all_told (kept i) (left i) false))))
     c.append_told.ensures.added

@@ -1,5 +1,5 @@
-use Rattle.std.proofs.Common.{◌≡◌, ◌∙◌, ◌∷◌, [], ◌++◌, map, subst, inl, inr}
-use Rattle.fault_data.specs.FaultView.{faults_of}
+use Rattle.std.proofs.Common.{◌≡◌, ◌∙◌, ◌∷◌, [], ◌++◌, map, refl, ap, sym, subst, inl, inr}
+use Rattle.fault_data.specs.FaultView.{fault_of, faults_of}
 use Rattle.graphql_names.specs.Placed.{Place}
 use Rattle.rule_fragments.specs.in_schema.SchemaOf.{schema_tree}
 use Rattle.document_typed_operations.specs.OperationsByName.{left_operations}
@@ -10,10 +10,10 @@ use Rattle.rule_definitions.specs.Words.{AtSomeIndex}
 use Rattle.rule_document_definitions.specs.Reached.{AtOperation}
 use Rattle.rule_document_definitions.specs.Selected.{operations}
 use Rattle.rule_fragments.specs.in_ground.NotedNames.{noted_names}
-use Rattle.rule_fragments.specs.UnlessFull.{HasAll}
+use Rattle.rule_fragments.specs.UnlessFull.{TellsUnlessFull}
 use Rattle.rule_fragments.proofs.in_ground.AtReaches.{some_index}
-use Rattle.rule_fragments.proofs.UnlessFull.{each_none, each_more, exactly_one, each_exactly, adds_by, adds_full}
 use Rattle.graphql_validation.specs.Operations.{OperationFails, ReachesNamed, NotesNames}
+use Rattle.graphql_validation.proofs.Joined.{TellsOf, none_found, more_found, all_found, full_found}
 use Rattle.graphql_validation.proofs.Noting.{notes_none, notes_more, notes_same}
 use Rattle.rule_fragments.proofs.Operations.{lent_operation, lent_operations, all_operations, one_behind, lent_more, lent_all, lent_among}
 use Rattle.graphql_validation.proofs.under_schema.check_operations.Goals as goal
@@ -21,9 +21,10 @@ use Rattle.graphql_validation.proofs.under_schema.check_operations.Goals as goal
 pub loop-operation-init : goal.loop-operation-init
 loop-operation-init c =
     let s = schema_tree c.args.schema.now in
-    let d = document_meant c.args.document.now in (
-      λ in' typed possible. each_none (λ o. OperationFails d o s) (λ (o : MeantOperation Place) (f g : PlacedFault). f ≡ g) {Right = λ f. AtOperation d (λ o. OperationFails d o s f)} (faults_of c.args.found.now.faults),
-      λ in'. notes_none (λ o n. ReachesNamed d o n) (noted_names c.args.found.now.used),
+    let d = document_meant c.args.document.now in
+    let none : noted_names c.new-found.result.used ≡ [] = ap (map (λ k. k.text)) c.new-found.ensures.used in (
+      λ in' typed possible. none_found (λ o. OperationFails d o s) {Right = λ f. AtOperation d (λ o. OperationFails d o s f)} (faults_of c.new-found.result.faults) (ap (map fault_of) c.new-found.ensures.faults),
+      λ in'. subst (λ l. NotesNames [] l (λ n. AtSomeIndex [] (λ k o. ReachesNamed d o n))) (sym none) (notes_none (λ o n. ReachesNamed d o n) []),
       λ possible. possible,
       (λ i. map operation_meant (left_operations (c.into_iter-operation-iterator.ensures.into_iter_gives i)))
           ∙ all_operations c.args.document.now (left_operations c.iter-operation-items.result) c.iter-operation-items.ensures,
@@ -37,16 +38,21 @@ loop-operation-preserved c =
     let x = c.in-Some.operation in
     let left = left_operations at.operation-iterator in
     let rest = left_operations c.next.new.self in
-    let before = lent_operations at.yielded in
-    let behind = lent_operations (at.yielded ++ x ∷ []) in
-    let mid = faults_of at.found.faults in
-    let new = faults_of c.check_operation.new.found.faults in
+    let xs = lent_operations at.yielded in
+    let all = lent_operations (at.yielded ++ x ∷ []) in
+    let before = faults_of c.take_faults-before.result in
+    let own = faults_of c.check_operation.new.found.faults in
+    let new = faults_of c.join.new.self.faults in
+    let same : before ≡ faults_of at.found.faults = ap (λ v. faults_of v) c.take_faults-before.ensures.taken in
+    let mid : noted_names c.take_faults-before.new.self.used ≡ noted_names at.found.used = ap noted_names c.take_faults-before.ensures.used in
+    let last : noted_names c.join.new.self.used ≡ noted_names c.check_operation.new.found.used = ap noted_names c.in_ok-join.ensures.used in
     let among = lent_among at.yielded x (operations d) left rest c.in-Some.ensures.steps at.invariant.3 in (
-      λ in' typed possible. each_more (λ o. OperationFails d o s) (λ (o : MeantOperation Place) (f g : PlacedFault). f ≡ g) {Right = λ f. AtOperation d (λ o. OperationFails d o s f)} (faults_of c.args.found.now.faults) mid new before behind (lent_operation x)
-          (one_behind at.yielded x) (at.invariant.0 in' typed possible)
-          (exactly_one (λ o. OperationFails d o s) mid new (operations d) (lent_operation x) among (c.in_ok-check_operation.ensures.told d (in' (lent_operation x) among) (typed (lent_operation x) among) (at.invariant.2 possible))),
-      λ in'. notes_more (λ o n. ReachesNamed d o n) (noted_names c.args.found.now.used) (noted_names at.found.used) (noted_names c.check_operation.new.found.used) before behind (lent_operation x)
-          (one_behind at.yielded x) (at.invariant.1 in') (c.in_ok-check_operation.ensures.noted d (in' (lent_operation x) among)),
+      λ in' typed possible. more_found (λ o. OperationFails d o s) {Right = λ f. AtOperation d (λ o. OperationFails d o s f)} before own new xs all (lent_operation x) (one_behind at.yielded x) (λ f fails. (lent_operation x, (among, fails)))
+          (subst (TellsUnlessFull (λ f. AtOperation d (λ o. OperationFails d o s f)) (TellsOf (λ o. OperationFails d o s) xs)) (sym same) (at.invariant.0 in' typed possible))
+          (faults_of c.take_faults-before.new.self.faults) (ap (map fault_of) c.take_faults-before.ensures.none)
+          (c.in_ok-check_operation.ensures.told d (in' (lent_operation x) among) (typed (lent_operation x) among) (at.invariant.2 possible)) c.in_ok-join.ensures.joined,
+      λ in'. notes_more (λ o n. ReachesNamed d o n) [] (noted_names at.found.used) (noted_names c.join.new.self.used) xs all (lent_operation x) (one_behind at.yielded x) (at.invariant.1 in')
+          (subst (λ l. NotesNames (noted_names at.found.used) l (ReachesNamed d (lent_operation x))) (sym last) (subst (λ l. NotesNames l (noted_names c.check_operation.new.found.used) (ReachesNamed d (lent_operation x))) mid (c.in_ok-check_operation.ensures.noted d (in' (lent_operation x) among)))),
       λ possible. c.in_ok-check_operation.ensures.right (at.invariant.2 possible),
       lent_more at.yielded x (operations d) left rest c.in-Some.ensures.steps at.invariant.3,
     )
@@ -57,8 +63,7 @@ returns-then-is_full-clause-told c =
     let s = schema_tree c.args.schema.now in
     let d = document_meant c.args.document.now in
     let at = c.loop-operation in
-    λ in' typed possible. adds_full {Right = λ f. AtOperation d (λ o. OperationFails d o s f)} {U = HasAll (λ f. AtOperation d (λ o. OperationFails d o s f))} (faults_of c.args.found.now.faults) (faults_of at.found.faults)
-    (c.is_full.ensures.0 c.if-is_full.true) (at.invariant.0 in' typed possible)
+    λ in' typed possible. full_found (λ o. OperationFails d o s) {Right = λ f. AtOperation d (λ o. OperationFails d o s f)} (lent_operations at.yielded) (faults_of at.found.faults) (c.is_full.ensures.0 c.if-is_full.true) (at.invariant.0 in' typed possible)
 
 pub returns-then-is_full-clause-noted : goal.returns-then-is_full-clause-noted
 returns-then-is_full-clause-noted c = λ in'. inl (c.is_full.ensures.0 c.if-is_full.true)
@@ -69,14 +74,13 @@ returns-clause-told c =
     let d = document_meant c.args.document.now in
     let at = c.loop-operation in
     let all = lent_all at.yielded (operations d) (left_operations at.operation-iterator) c.in-None.ensures.steps.0 at.invariant.3 in
-    λ in' typed possible. adds_by {Right = λ f. AtOperation d (λ o. OperationFails d o s f)} {U = HasAll (λ f. AtOperation d (λ o. OperationFails d o s f))} (faults_of c.args.found.now.faults) (faults_of at.found.faults) (λ f h. h)
-    (λ told h. each_exactly (λ o. OperationFails d o s) (lent_operations at.yielded) (operations d) told all h) (at.invariant.0 in' typed possible)
+    λ in' typed possible. all_found (λ o. OperationFails d o s) {Right = λ f. AtOperation d (λ o. OperationFails d o s f)} (lent_operations at.yielded) (operations d) (faults_of at.found.faults) all (at.invariant.0 in' typed possible)
 
 pub returns-clause-noted : goal.returns-clause-noted
 returns-clause-noted c =
     let d = document_meant c.args.document.now in
     let at = c.loop-operation in
     let all = lent_all at.yielded (operations d) (left_operations at.operation-iterator) c.in-None.ensures.steps.0 at.invariant.3 in
-    λ in'. inr (notes_same (λ (o : MeantOperation Place) n. ReachesNamed d o n) (noted_names c.args.found.now.used) (noted_names at.found.used)
+    λ in'. inr (notes_same (λ (o : MeantOperation Place) n. ReachesNamed d o n) [] (noted_names at.found.used)
     (λ n. AtSomeIndex (operations d) (λ k o. ReachesNamed d o n)) _ (λ n. some_index (operations d) (λ o. ReachesNamed d o n))
-    (subst (λ l. NotesNames (noted_names c.args.found.now.used) (noted_names at.found.used) (λ n. AtSomeIndex l (λ k o. ReachesNamed d o n))) all (at.invariant.1 in')))
+    (subst (λ l. NotesNames [] (noted_names at.found.used) (λ n. AtSomeIndex l (λ k o. ReachesNamed d o n))) all (at.invariant.1 in')))

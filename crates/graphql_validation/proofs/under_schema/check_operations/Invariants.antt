@@ -1,4 +1,4 @@
-use Rattle.std.proofs.Common.{◌≡◌, ◌++◌, map}
+use Rattle.std.proofs.Common.{◌≡◌, ◌++◌, [], map}
 use Rattle.fault_data.specs.FaultView.{faults_of}
 use Rattle.rule_fragments.specs.in_schema.SchemaOf.{schema_tree}
 use Rattle.document_typed_operations.specs.OperationsByName.{left_operations}
@@ -10,17 +10,17 @@ use Rattle.rule_document_definitions.specs.Selected.{operations}
 use Rattle.rule_fragments.specs.Possible.{ArePossibleIfFound}
 use Rattle.rule_fragments.specs.in_ground.NotedNames.{noted_names}
 use Rattle.rule_fragments.specs.in_ground.Reach.{meant_fragments}
-use Rattle.rule_fragments.specs.UnlessFull.{AddsUnlessFull}
+use Rattle.rule_fragments.specs.UnlessFull.{TellsUnlessFull}
 use Rattle.rule_selections.specs.Settled.{StandInEach}
 use Rattle.graphql_validation.specs.Operations.{OperationFails, AreReachesTyped, ReachesNamed, NotesNames}
 use Rattle.rule_fragments.proofs.Operations.{lent_operations}
-use Rattle.rule_fragments.proofs.UnlessFull.{TellsEach}
+use Rattle.graphql_validation.proofs.Joined.{TellsOf}
 use Rattle.graphql_validation.proofs.under_schema.check_operations.Given as goal
 
 abbrev pub invariant-loop-operation : goal.invariant-loop-operation
 invariant-loop-operation l = (StandInEach (schema_tree l.schema) (document_meant l.document) (meant_fragments l.fragments) → AreReachesTyped (schema_tree l.schema) (document_meant l.document) → ArePossibleIfFound (judged (schema_tree l.schema)) l.fn.possible
-    → AddsUnlessFull (faults_of l.fn.found.faults) (faults_of l.found.faults) (λ f. AtOperation (document_meant l.document) (λ o. OperationFails (document_meant l.document) o (schema_tree l.schema) f))
-    (TellsEach (λ o. OperationFails (document_meant l.document) o (schema_tree l.schema)) (λ o f g. f ≡ g) (lent_operations l.yielded)))
-    × (StandInEach (schema_tree l.schema) (document_meant l.document) (meant_fragments l.fragments) → NotesNames (noted_names l.fn.found.used) (noted_names l.found.used) (λ n. AtSomeIndex (lent_operations l.yielded) (λ k o. ReachesNamed (document_meant l.document) o n)))
+    → TellsUnlessFull (λ f. AtOperation (document_meant l.document) (λ o. OperationFails (document_meant l.document) o (schema_tree l.schema) f))
+    (TellsOf (λ o. OperationFails (document_meant l.document) o (schema_tree l.schema)) (lent_operations l.yielded)) (faults_of l.found.faults))
+    × (StandInEach (schema_tree l.schema) (document_meant l.document) (meant_fragments l.fragments) → NotesNames [] (noted_names l.found.used) (λ n. AtSomeIndex (lent_operations l.yielded) (λ k o. ReachesNamed (document_meant l.document) o n)))
     × (ArePossibleIfFound (judged (schema_tree l.schema)) l.fn.possible → ArePossibleIfFound (judged (schema_tree l.schema)) l.possible)
     × (lent_operations l.yielded ++ map operation_meant (left_operations l.operation-iterator) ≡ operations (document_meant l.document))

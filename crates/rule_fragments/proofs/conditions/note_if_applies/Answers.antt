@@ -1,4 +1,4 @@
-use Rattle.std.proofs.Common.{◌≡◌, ◌∙◌, true, sym, subst, inl, bytes_eq}
+use Rattle.std.proofs.Common.{◌∙◌, sym, subst, inl}
 use Rattle.std.proofs.lemmas.Result.{on_ok_weaker}
 use Rattle.std.proofs.lemmas.Slice.Eq.{bytes_eq-Decides}
 use Rattle.rule_cycles.specs.in_schema.SchemaOf.{schema_tree}

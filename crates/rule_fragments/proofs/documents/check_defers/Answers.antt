@@ -1,6 +1,7 @@
-use Rattle.std.proofs.Common.{◌≡◌, ◌∙◌, ◌∷◌, [], ◌++◌, map}
+use Rattle.std.proofs.Common.{◌≡◌, ◌↔◌, true, ◌∙◌, ◌∷◌, [], ◌++◌, map}
 use Rattle.graphql_names.specs.Placed.{Place}
 use Rattle.document_typed_operations.specs.OperationsByName.{left_operations}
+use Rattle.document_typed_operations.specs.declared.document.ExecutableDocument.{ExecutableDocument}
 use Rattle.document_meaning.specs.MeantTree.{MeantOperation}
 use Rattle.rule_always.specs.in_ground.in_typed_operations.DocumentView.{document_meant, operation_meant}
 use Rattle.rule_document_definitions.specs.DocumentFaults.{Broken}
@@ -8,7 +9,11 @@ use Rattle.rule_document_definitions.specs.Selected.{operations}
 use Rattle.rule_document_definitions.specs.Defer.{DeferBreaks}
 use Rattle.rule_always.specs.in_ground.Broken.{brokens_of}
 use Rattle.rule_fragments.specs.Documents.{SomeDeferBreaks}
+use Rattle.rule_fragments.specs.Thinned.{StandIn}
 use Rattle.rule_fragments.specs.UnlessFull.{HasAll}
+use Rattle.rule_fragments.proofs.InDocuments.{adds_same}
+use Rattle.rule_fragments.proofs.Lent.{lent_or}
+use Rattle.rule_fragments.proofs.Quiet.{defers_less, defers_more}
 use Rattle.rule_fragments.proofs.Operations.{lent_operation, lent_operations, all_operations, one_behind, lent_more, lent_all, lent_among}
 use Rattle.rule_fragments.proofs.UnlessFull.{each_none, each_more, exactly_one, each_exactly, adds_by, adds_full}
 use Rattle.rule_fragments.proofs.documents.check_defers.Goals as goal
@@ -30,10 +35,13 @@ loop-operation-preserved c =
     let rest = left_operations c.next.new.self in
     let mid = brokens_of at.breaches in
     let new = brokens_of c.check_defer.new.breaches in
-    let among = lent_among at.yielded x (operations d) left rest c.in-Some.ensures.steps at.invariant.1 in (
+    let among = lent_among at.yielded x (operations d) left rest c.in-Some.ensures.steps at.invariant.1 in
+    let in' = lent_or (λ (x : ExecutableDocument). StandIn true d.fragments (document_meant x).fragments) c.unwrap_or-thin.result c.as_ref.result _ c.in_ok-thin.thin c.unwrap_or-thin.ensures c.as_ref.ensures.value c.in_ok-thin.ensures in
+    let w = document_meant c.unwrap_or-thin.result.now in
+    let same : (f : Broken Place) → DeferBreaks w (lent_operation x) f ↔ DeferBreaks d (lent_operation x) f = λ f. (defers_more d w in' (lent_operation x) f, defers_less d w in' (lent_operation x) f) in (
       each_more (DeferBreaks d) (λ (o : MeantOperation Place) (f g : Broken Place). f ≡ g) {Right = SomeDeferBreaks d} (brokens_of c.args.breaches.now) mid new
           (lent_operations at.yielded) (lent_operations (at.yielded ++ x ∷ [])) (lent_operation x) (one_behind at.yielded x) at.invariant.0
-          (exactly_one (DeferBreaks d) mid new (operations d) (lent_operation x) among c.in_ok-check_defer.ensures),
+          (exactly_one (DeferBreaks d) mid new (operations d) (lent_operation x) among (adds_same mid new same c.in_ok-check_defer.ensures)),
       lent_more at.yielded x (operations d) left rest c.in-Some.ensures.steps at.invariant.1,
     )
 

@@ -11,5 +11,5 @@ use Rattle.rule_fragments.proofs.UnlessFull.{TellsEach}
 use Rattle.rule_fragments.proofs.documents.check_defers.Given as goal
 
 abbrev pub invariant-loop-operation : goal.invariant-loop-operation
-invariant-loop-operation l = AddsUnlessFull (brokens_of l.fn.breaches) (brokens_of l.breaches) (SomeDeferBreaks (document_meant l.document)) (TellsEach (DeferBreaks (document_meant l.document)) (λ o f g. f ≡ g) (lent_operations l.yielded))
-    × (lent_operations l.yielded ++ map operation_meant (left_operations l.operation-iterator) ≡ operations (document_meant l.document))
+invariant-loop-operation l = AddsUnlessFull (brokens_of l.fn.breaches) (brokens_of l.breaches) (SomeDeferBreaks (document_meant l.fn.document)) (TellsEach (DeferBreaks (document_meant l.fn.document)) (λ o f g. f ≡ g) (lent_operations l.yielded))
+    × (lent_operations l.yielded ++ map operation_meant (left_operations l.operation-iterator) ≡ operations (document_meant l.fn.document))

@@ -6,7 +6,6 @@ use Rattle.rule_document_definitions.specs.Subscriptions.{SubscriptionBreaks}
 use Rattle.rule_always.specs.in_ground.Broken.{brokens_of}
 use Rattle.rule_fragments.specs.Used.{AreUnderOwnNames}
 use Rattle.rule_fragments.specs.Documents.{SomeSubscriptionBreaks}
-use Rattle.rule_fragments.specs.SubscriptionTold.{AreAlike}
 use Rattle.rule_fragments.specs.UnlessFull.{AddsUnlessFull}
 use Rattle.rule_fragments.proofs.Operations.{lent_operations}
 use Rattle.rule_fragments.proofs.UnlessFull.{TellsEach}
@@ -14,5 +13,5 @@ use Rattle.rule_fragments.proofs.documents.check_subscriptions.Given as goal
 
 abbrev pub invariant-loop-operation : goal.invariant-loop-operation
 invariant-loop-operation l = (AreUnderOwnNames (document_meant l.document)
-    → AddsUnlessFull (brokens_of l.fn.breaches) (brokens_of l.breaches) (SomeSubscriptionBreaks (document_meant l.document)) (TellsEach (SubscriptionBreaks (document_meant l.document)) (AreAlike (document_meant l.document)) (lent_operations l.yielded)))
+    → AddsUnlessFull (brokens_of l.fn.breaches) (brokens_of l.breaches) (SomeSubscriptionBreaks (document_meant l.document)) (TellsEach (SubscriptionBreaks (document_meant l.document)) (λ o f g. f ≡ g) (lent_operations l.yielded)))
     × (lent_operations l.yielded ++ map operation_meant (left_operations l.operation-iterator) ≡ operations (document_meant l.document))

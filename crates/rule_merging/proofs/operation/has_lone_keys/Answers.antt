@@ -5,7 +5,7 @@ use Rattle.rule_field_groups.specs.in_typed_selections.TypedTree.{typed_set_tree
 use Rattle.rule_field_groups.specs.in_meaning.MeantTree.{meant_of_set}
 use Rattle.rule_field_groups.specs.in_sets.in_ground.in_typed_operations.DocumentView.{document_meant}
 use Rattle.rule_field_groups.specs.in_document_definitions.ReadFields.{fragments_read, set_read}
-use Rattle.rule_lone_keys.specs.LoneKeys.{AreKeysLone}
+use Rattle.rule_document_ground.specs.LoneKeys.{AreKeysLone}
 use Rattle.rule_merging.proofs.Operating.{starts}
 use Rattle.rule_merging.proofs.operation.has_lone_keys.Goals as goal
 

@@ -17,6 +17,6 @@ returns c =
     ok_so c.note_spreads.result
     (λ noted. node_passed v.members.items v.spreads.items s (state_of c.steps_on-is_paid.new.self) mid (state_of c.note_spreads.new.self)
     (c.steps_on-is_paid.ensures ∙ ap (λ b. with_paid b s) c.if-not-is_paid.false)
-    (subst (λ l. Passes l [] (state_of c.steps_on-is_paid.new.self) mid) c.deref.ensures.value c.in_ok-pass_members.ensures)
-    (subst (λ l. Passes [] l mid (state_of c.note_spreads.new.self)) c.deref-2.ensures.value noted))
+    (subst (λ l. Passes l [] (state_of c.steps_on-is_paid.new.self) mid) c.deref-2.ensures.value c.in_ok-pass_members.ensures)
+    (subst (λ l. Passes [] l mid (state_of c.note_spreads.new.self)) c.deref-3.ensures.value noted))
     c.note_spreads.ensures

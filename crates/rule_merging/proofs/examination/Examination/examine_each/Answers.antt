@@ -9,13 +9,34 @@ use Rattle.rule_field_groups.specs.Under.{sets_in}
 use Rattle.rule_field_groups.specs.Remembered.{account_of, kept_of}
 use Rattle.rule_merging.specs.Examined.{schema_of, document_of, sets_of}
 use Rattle.rule_merging.specs.Twos.{are_of, PairsFields}
-use Rattle.rule_merging.proofs.Pairing.{told_none, told_both, told_early, brokens_long, front_of, of_front}
+use Rattle.rule_field_groups.proofs.in_document_definitions.Unplaced.{contains_map}
+use Rattle.rule_field_groups.specs.in_document_definitions.ReadFields.{field_read}
+use Rattle.rule_field_groups.specs.Members.{field_of, fields_of, content_of, contents_of}
+use Rattle.rule_field_groups.specs.in_sets.declared.member.Member.{Member}
+use Rattle.rule_merging.proofs.Pairing.{told_none, told_standing, told_both, told_early, brokens_long, front_of, of_front}
 use Rattle.rule_merging.proofs.Counting.{grows_not, grows_with}
 use Rattle.rule_merging.proofs.examination.Examination.examine_each.Goals as goal
 
 -- what is in front is in the whole
 whole : {X : Type 0} (xs : List X) (i : _) (x : X) → Contains (take i xs) x → Contains xs x
 whole xs i x c = subst (λ l. Contains l x) (take-append-drop i xs) (Contains-append_left (take i xs) (drop i xs) x c)
+
+-- what is read of a member is read of the list
+is_read : (ms : List Member) (m : Member) → Contains ms m → Contains (contents_of ms) (content_of m)
+is_read ms m c = contains_map field_read (fields_of ms) (field_of m) (contains_map field_of ms m c)
+
+pub returns-then-stand_together-clause-examined : goal.returns-then-stand_together-clause-examined
+returns-then-stand_together-clause-examined c =
+    let e = c.args.self.now in
+    let w = sets_of e in
+    let all = c.stand_together.ensures c.if-stand_together.true w c.requires.sets.are c.requires.ones c.requires.others in
+    told_standing e.pass (schema_of e) (document_of e) (are_of c.args.ones.now c.args.others.now) (kept_of w c.args.examined.now)
+    (λ p q h. all (content_of p) (content_of q) (is_read c.args.ones.now p h.0.0) (is_read c.args.others.now q h.0.1))
+    (brokens_of c.args.breaches.now) (sets_in w c.args.examined.now.next)
+
+pub returns-then-stand_together-clause-counted : goal.returns-then-stand_together-clause-counted
+returns-then-stand_together-clause-counted c =
+    let e = c.args.self.now in grows_not (document_of e) _ e.pass (account_of (sets_of e) c.args.examined.now)
 
 pub loop-one-init : goal.loop-one-init
 loop-one-init c =

@@ -7,8 +7,8 @@ use Rattle.rule_number_lists.proofs.Rising.{items_of, still_so, put_last}
 use Rattle.rule_number_lists.proofs.Kept.{within_more, longer_keep}
 use Rattle.rule_number_lists.proofs.lists.NumberLists.remember_longer.Goals as goal
 
-pub invariant_of-self : goal.invariant_of-self
-invariant_of-self c =
+pub invariant_of-self-2 : goal.invariant_of-self-2
+invariant_of-self-2 c =
     let old = c.args.self.now.longer.keys in
     let new = c.insert.new.self.keys in
     let v = c.in_order-numbers.result in

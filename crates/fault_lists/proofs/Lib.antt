@@ -1,0 +1,6 @@
+pub mod Parts
+pub mod BreachEquality
+pub mod Traces
+pub mod DataEquality
+pub mod Adding
+pub mod Kept

@@ -1,0 +1,4 @@
+pub mod Added
+pub mod Once
+pub mod PlacedBreach
+pub mod TracePlaces

@@ -1,0 +1,6 @@
+use Rattle.rule_document_ground.specs.Reach.{meant_fragments}
+use Rattle.rule_fragments.specs.Thinned.{StandIn}
+use Rattle.rule_fragments.proofs.thinned.thinned_if_shared.Given as goal
+
+abbrev pub invariant-loop-name : goal.invariant-loop-name
+invariant-loop-name l = StandIn l.deferred (meant_fragments l.document.fragments) (meant_fragments l.instead)

@@ -1,4 +1,0 @@
-pub mod Selecting
-pub mod Walking
-pub mod Leveling
-pub mod Merging

@@ -1,2 +1,0 @@
-pub mod LoneKeys
-pub mod Passed

@@ -1,0 +1,3 @@
+module graphqlchecked
+
+go 1.19

@@ -1,0 +1,78 @@
+package graphqlchecked
+
+import (
+	"runtime"
+	"sync"
+)
+
+// Pool has a schema's handles for goroutines that check at once. Each handle has the whole schema, some ten times its text in memory.
+type Pool struct {
+	texts   []Text
+	options Options
+	slots   chan struct{} // as many as handles, one for each that is in use
+	mutex   sync.Mutex
+	free    []*Schema
+	closed  bool
+}
+
+// NewPool makes a pool of at most so many handles, or as many as processors for 0. The first is opened at once, each other one when
+// so many goroutines check at once. The error is that of [Open].
+func NewPool(size int, options Options, texts ...Text) (*Pool, error) {
+	if size <= 0 {
+		size = runtime.GOMAXPROCS(0)
+	}
+	first, err := OpenWith(options, texts...)
+	if err != nil {
+		return nil, err
+	}
+	return &Pool{texts: texts, options: options, slots: make(chan struct{}, size), free: []*Schema{first}}, nil
+}
+
+// take is a handle that is free, or a new one.
+func (p *Pool) take() (*Schema, error) {
+	p.mutex.Lock()
+	defer p.mutex.Unlock()
+	if p.closed {
+		return nil, Closed
+	}
+	if last := len(p.free) - 1; last >= 0 {
+		schema := p.free[last]
+		p.free = p.free[:last]
+		return schema, nil
+	}
+	return OpenWith(p.options, p.texts...)
+}
+
+func (p *Pool) give(schema *Schema) {
+	p.mutex.Lock()
+	defer p.mutex.Unlock()
+	p.free = append(p.free, schema)
+}
+
+// Check checks as [Schema.Check] does, by a handle that is free, and waits for one where none is.
+func (p *Pool) Check(document Text) ([]Fault, error) {
+	p.slots <- struct{}{}
+	defer func() { <-p.slots }()
+	schema, err := p.take()
+	if err != nil {
+		return nil, err
+	}
+	defer p.give(schema)
+	return schema.Check(document)
+}
+
+// Close frees all handles, and waits for those that are in use. Checks after that answer [Closed].
+func (p *Pool) Close() {
+	for i := 0; i < cap(p.slots); i++ {
+		p.slots <- struct{}{}
+	}
+	p.mutex.Lock()
+	defer p.mutex.Unlock()
+	for _, schema := range p.free {
+		schema.Close()
+	}
+	p.free, p.closed = nil, true
+	for i := 0; i < cap(p.slots); i++ {
+		<-p.slots
+	}
+}
