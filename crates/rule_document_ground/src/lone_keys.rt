@@ -12,10 +12,10 @@ ghost use Rattle.rule_document_definitions.specs.ReadFields.{fragments_read, set
 ghost use Rattle.rule_document_ground.specs.LoneKeys.{AreKeysLone};
 ghost use Rattle.rule_document_ground.specs.Passed.{read_of_set, sets_read, passed_fields, map_read, members_left, LacksKey, AddsSet, LeavesFragment, state_of, with_left, GoesOn, IsPassed, PassesSet, LeadsToLoneKeys};
 
+use crate::field_selection::FieldSelection;
 use document_typed_operations::{ExecutableDocument, FragmentMap};
 use document_typed_selections::{Field, Selection, SelectionSet};
 use graphql_names::{Name, Node};
-use crate::field_selection::FieldSelection;
 use std::alloc::{AllocError, Global};
 use std::mem;
 use tree_literals::NamedType;

@@ -16,8 +16,8 @@ ghost use Rattle.rule_merging.specs.Verdict.{comparisons_of, lists_examined, Are
 use crate::examination::Examination;
 use document_typed_operations::{ExecutableDocument, Operation};
 use graphql_names::Node;
-use rule_field_groups::{Breach, FieldSets, Pass, Remembered, Schema, SelectionSet};
 use rule_document_ground::keys_differ;
+use rule_field_groups::{Breach, FieldSets, Pass, Remembered, Schema, SelectionSet};
 use std::alloc::{AllocError, Global};
 
 /// What was examined in each pass, over all operations so far, and how often shapes were compared.
