@@ -70,9 +70,9 @@ fn merge_operations(
 }
 
 /// Tells what breaks the rules on a document under a schema (section 5, from 5.2.3 on, and the rules on `@defer`): all of it,
-/// or [`MOST_TOLD`] faults. Where all other rules hold, the fields of each operation are merged (section 5.3.2). If the document
-/// is typed, as each that is built, nothing is told exactly when all rules hold, apart from the bounds on how deep spreads,
-/// selections and fields nest. Where memory is refused the list begins as before.
+/// each once, or [`MOST_TOLD`] faults. Where all other rules hold, the fields of each operation are merged (section 5.3.2). If
+/// the document is typed, as each that is built, nothing is told exactly when all rules hold, apart from the bounds on how deep
+/// spreads, selections and fields nest. Where memory is refused the list begins as before.
 pub fn validate_executable_document(
     alloc: Global,
     list: &mut DiagnosticList,
