@@ -1,5 +1,5 @@
 -- The names that are gathered are those of the variables that the operation uses.
-use Rattle.std.proofs.Common.{◌↔◌, ◌⊎◌, inl, inr, ℕ, List, [], Contains, is_some, true≢false, sym, ap}
+use Rattle.std.proofs.Common.{◌≡◌, ◌↔◌, ◌⊎◌, inl, inr, ℕ, List, [], ◌∷◌, length, Contains, is_some, true≢false, refl, sym, ap}
 use Rattle.graphql_names.specs.Placed.{Place}
 use Rattle.document_meaning.specs.MeantTree.{MeantOperation, MeantFragment, MeantDocument}
 use Rattle.rule_definitions.specs.Words.{AtSomeIndex}
@@ -66,6 +66,10 @@ module _ (d : MeantDocument Place) (o : MeantOperation Place) (members : List (M
     λ h. elim h [ inl u ↦ inl u | inr r ↦ elim r [ inl k ↦ inr (inl k) | inr n ↦ inr (inr ((unused_is at f).0 n)) ] ],
     λ h. elim h [ inl u ↦ inl u | inr r ↦ elim r [ inl k ↦ inr (inl k) | inr n ↦ inr (inr ((unused_is at f).1 n)) ] ],
   )
+
+pub no_items : {X : Type 0} (xs : List X) → length xs ≡ 0 → xs ≡ []
+no_items [] e = refl
+no_items (x ∷ xs) e = absurd cc
 
 -- of no variables nothing is told alone
 none_at : {X : Type 0} (P : ℕ → X → Type 0) → AtSomeIndex [] P → ⊥
