@@ -4,3 +4,4 @@ pub mod Traces
 pub mod DataEquality
 pub mod Adding
 pub mod Kept
+pub mod SameDetails

@@ -1,5 +1,5 @@
 -- `==` of what faults are made of: names, texts, places, coordinates.
-use Rattle.std.proofs.Common.{◌≡◌, ◌+◌, ◌<◌, ◌^◌, Bool, refl, ap, nat_eq, Option, None, Some}
+use Rattle.std.proofs.Common.{◌≡◌, ◌+◌, ◌<◌, ◌^◌, ◌∙◌, Bool, true, false, true≢false, not, refl, sym, ap, nat_eq, Option, None, Some}
 use Rattle.std.proofs.Props.{props}
 use Rattle.std.specs.Bool.{Decides}
 use Rattle.std.specs.Option.{option_map, option_eq}
@@ -74,3 +74,8 @@ coordinate_decides (rust.FieldArgument m) (rust.FieldArgument n) = argument_deci
 coordinate_decides (rust.Directive m) (rust.Directive n) = through (text_decides m.directive n.directive) (ap OfDirective) (λ r. cc)
 coordinate_decides (rust.DirectiveArgument m) (rust.DirectiveArgument n) = through (pair_decides _ _ (text_decides m.directive n.directive) (text_decides m.argument n.argument)) (λ s i. OfDirectiveArgument (s.0 i) (s.1 i)) (λ r. (cc, cc))
 coordinate_decides _ _ = ((λ r. cc), (λ r. cc))
+
+-- what does not differ is the same
+pub not_different : {P : Type 0} (differs same : Bool) → differs ≡ not same → differs ≡ false → Decides same P → P
+not_different differs true e none d = d.0 refl
+not_different differs false e none d = absurd (true≢false (sym e ∙ none))

@@ -1,15 +1,9 @@
-use Rattle.std.proofs.Common.{◌≡◌, ◌<◌, ◌∙◌, Bool, true, false, true≢false, not, slice_index_or, None, refl, sym, subst, inl, inr, arith}
-use Rattle.std.specs.Bool.{Decides}
+use Rattle.std.proofs.Common.{◌≡◌, ◌<◌, ◌∙◌, slice_index_or, None, refl, sym, subst, inl, inr, arith}
 use Rattle.std.proofs.lemmas.Bool.{cases_lt}
 use Rattle.std.proofs.lemmas.List.{get_or_default, same_lists}
 use Rattle.fault_lists.specs.TracePlaces.{trace_places}
-use Rattle.fault_lists.proofs.Parts.{place_decides}
+use Rattle.fault_lists.proofs.Parts.{place_decides, not_different}
 use Rattle.fault_lists.proofs.data.are_at_same_places.Goals as goal
-
--- what does not differ is the same
-not_different : {P : Type 0} (differs same : Bool) → differs ≡ not same → differs ≡ false → Decides same P → P
-not_different differs true e none d = d.0 refl
-not_different differs false e none d = absurd (true≢false (sym e ∙ none))
 
 pub loop-index-preserved : goal.loop-index-preserved
 loop-index-preserved c = λ k low.

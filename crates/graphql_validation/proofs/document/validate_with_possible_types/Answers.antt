@@ -30,7 +30,6 @@ returns-in_err-document_breaches-clause-begins c = refused_so _ (begins_same (di
 
 pub returns-then-is_nothing-clause-once : goal.returns-then-is_nothing-clause-once
 returns-then-is_nothing-clause-once c =
-    let s = schema_tree c.args.schema.now in
     let d = document_meant c.args.document.now in
     on_ok_weaker c.merge_operations.result (λ h. (take most_told h.0, (h.1.0, once_first h.0 h.1.1.0)))
     (subst (λ (y : Schema). OnOk c.merge_operations.result (TellsMerging (schema_tree y) d c.args.list.now c.merge_operations.new.list)) c.schema.ensures c.merge_operations.ensures.told)
