@@ -8,6 +8,7 @@ pub mod Granted
 pub mod Typed
 pub mod Schemas
 pub mod Folded
+pub mod SamePosition
 pub mod Different
 pub mod Naming
 pub mod KeyFacts
@@ -16,6 +17,7 @@ pub mod DirectiveFacts
 pub mod VariableFacts
 pub mod SelectionFacts
 pub mod FragmentFacts
+pub mod RootFacts
 pub mod OperationFacts
 pub mod DocumentFacts
 pub mod FieldSetFacts
