@@ -30,6 +30,7 @@ pub mod ByName
 pub mod AcceptedFacts
 pub mod TypingFacts
 pub mod DocumentTyped
+pub mod ApartFacts
 pub mod FoldingFacts
 pub mod RefusedFacts
 pub mod ExceptionFacts

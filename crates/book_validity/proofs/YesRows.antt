@@ -20,7 +20,7 @@ pair_yes = (accepted_by_the_book terms (query_field ∷ []) just_field).0 pair_a
 
 -- ---- each part of it
 
-folds : AreFoldable built_in_definitions terms.first_extension (all_definitions pair_yes.schema.trees)
+folds : AreFoldable built_in_definitions (all_definitions pair_yes.schema.trees)
 folds = pair_yes.schema.folds
 
 schema_valid : IsValidSchema (judged (schema_of terms pair_yes.schema.trees))

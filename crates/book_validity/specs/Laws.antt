@@ -47,7 +47,7 @@ SetsTypedByTheBook = (m : Meanings) (t : List ℕ) (ts : SelectionTrees Place) �
 
 -- definitions are foldable exactly where no folding rule is broken
 abbrev pub FoldedByTheBook : Type 0
-FoldedByTheBook = (built_in : Definitions) (first : ℕ) (texts : Definitions) → AreFoldable built_in first texts ↔ FoldingRules built_in first texts
+FoldedByTheBook = (built_in : Definitions) (first : ℕ) (texts : Definitions) → AreFoldable built_in texts ↔ FoldingRules built_in first texts
 
 -- schema texts, a document over the schema of such texts, are accepted exactly where they are valid by the book
 abbrev pub SchemasAcceptedByTheBook : Type 0

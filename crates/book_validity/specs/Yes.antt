@@ -23,7 +23,7 @@ pub record AreValidSchemas (terms : Terms) (schemas : List SourceText) : Type 0 
   pub trees : List Tree
   pub read : ReadsAll terms.first_text schemas trees
   pub within : AreWithin terms.nesting terms.first_text schemas
-  pub folds : AreFoldable built_in_definitions terms.first_extension (all_definitions trees)
+  pub folds : AreFoldable built_in_definitions (all_definitions trees)
   pub numbered : HaveNumbers terms.first_extension (all_definitions trees)
   pub valid : IsValidSchema (judged (schema_of terms trees))
 
