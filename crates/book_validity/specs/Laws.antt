@@ -22,7 +22,7 @@ use Rattle.book_validity.specs.Standalone.{IsValidAlone}
 use Rattle.book_validity.specs.Schema.{IsValidSchema}
 use Rattle.book_validity.specs.Typing.{AreTyped, IsTypedDocument}
 use Rattle.book_validity.specs.Folding.{AreFoldable}
-use Rattle.book_validity.specs.Yes.{AreValidSchemas, IsValidOver, IsYes}
+use Rattle.book_validity.specs.Yes.{schema_for_documents, AreValidSchemas, IsValidOver, IsYes}
 
 -- of a document whose fragments stand under their own names, as each that is typed does
 abbrev pub RulesHoldByTheBook : Type 0
@@ -55,7 +55,7 @@ SchemasAcceptedByTheBook = (terms : Terms) (schemas : List SourceText) → AreSc
 
 abbrev pub DocumentsAcceptedByTheBook : Type 0
 DocumentsAcceptedByTheBook = (terms : Terms) (trees : List Tree) → SchemaRules (judged (schema_of terms trees)) → (nesting number : ℕ) (document : SourceText)
-    → IsDocumentAccepted (schema_at_hand terms trees) nesting number document ↔ IsValidOver (schema_at_hand terms trees) nesting number document
+    → IsDocumentAccepted (schema_at_hand terms trees) nesting number document ↔ IsValidOver (schema_for_documents terms trees) nesting number document
 
 -- texts are accepted exactly where the book says yes
 abbrev pub AcceptedByTheBook : Type 0
