@@ -12,6 +12,7 @@ pub mod SamePosition
 pub mod Different
 pub mod Naming
 pub mod KeyFacts
+pub mod CoercionFacts
 pub mod ArgumentFacts
 pub mod DirectiveFacts
 pub mod VariableFacts
