@@ -8,7 +8,7 @@ use Rattle.verdict_definitions.specs.Meaning.{all_definitions, schema_of, schema
 use Rattle.verdict_definitions.specs.Judge.{AreSchemasAccepted, IsDocumentAccepted}
 use Rattle.rule_selections.proofs.in_typing.WholeDocuments.{document-whole}
 use Rattle.book_validity.specs.Yes.{meaning_over, schema_for_documents, AreValidSchemas, IsValidOver, TypedIsKeptWhole}
-use Rattle.book_validity.proofs.Folded.{filtered, accepted}
+use Rattle.book_validity.proofs.Folded.{has_scalars, filtered, accepted}
 use Rattle.book_validity.specs.Laws.{SchemasAcceptedByTheBook, DocumentsAcceptedByTheBook, AcceptedByTheBook}
 use Rattle.book_validity.proofs.SchemaFacts.{schema_rules_hold}
 use Rattle.book_validity.proofs.DocumentFacts.{rules_hold}
@@ -28,7 +28,7 @@ module _ (terms : Terms) (schemas : List SourceText) where
         within = a.within;
         folds = (folded_by_the_book built_in_definitions terms.first_extension (all_definitions s.trees)).1 s.folds;
         numbered = a.numbered;
-        valid = (schema_rules_hold (judged (schema_of terms s.trees))).1 s.holds;
+        valid = (schema_rules_hold (judged (schema_of terms s.trees)) (has_scalars terms.first_extension (all_definitions s.trees))).1 s.holds;
       }
 
   abbrev accepted_schemas : AreValidSchemas terms schemas → AreSchemasAccepted terms schemas
@@ -37,7 +37,7 @@ module _ (terms : Terms) (schemas : List SourceText) where
       trees = s.trees;
       read = s.read;
       folds = (folded_by_the_book built_in_definitions terms.first_extension (all_definitions s.trees)).0 s.folds;
-      holds = (schema_rules_hold (judged (schema_of terms s.trees))).0 s.valid;
+      holds = (schema_rules_hold (judged (schema_of terms s.trees)) (has_scalars terms.first_extension (all_definitions s.trees))).0 s.valid;
     };
     within = s.within;
     numbered = s.numbered;

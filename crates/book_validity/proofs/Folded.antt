@@ -37,6 +37,7 @@ use Rattle.rule_schema_laws.proofs.Fine.{here_is}
 use Rattle.rule_cycle_search.proofs.Lists.{not_in_nil, only, found_in, Contains-cons, Contains-first, mapped_some}
 use Rattle.rule_document_definitions.specs.PossibleTypes.{IsCompositeType}
 use Rattle.book_validity.specs.MergingLaws.{AcceptedMergesAsSpecified}
+use Rattle.book_validity.specs.Laws.{HasScalars}
 use Rattle.book_validity.proofs.Granted.{HasOutputFields, FieldsAreOfTheirKinds, HasBuiltIn}
 use Rattle.book_validity.proofs.Schemas.{output_fields}
 use Rattle.book_validity.proofs.Typed.{merging}
@@ -124,6 +125,9 @@ module _ (first : ℕ) (texts : Definitions) where
       ]
     ]
   ]
+
+  pub has_scalars : HasScalars (judged schema)
+  has_scalars n c = ap is_some (scalars n c).1.0
 
   composite : (n : List ℕ) → option_map (λ (t : TypeDefinition Place). t.parts.kind) (defined n) ≡ Some kind.Object → Present ((judged schema).type_named n) IsCompositeType
   composite n e = let (t, (at, is)) = of_kind n kind.Object e in (t, (at, ap (λ k. is_output_kind k && not (is_leaf_kind k)) is))

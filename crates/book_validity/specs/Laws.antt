@@ -9,13 +9,14 @@ use Rattle.document_meaning.specs.MeantTree.{MeantSet}
 use Rattle.verdict_definitions.specs.in_typing.Meanings.{Meanings}
 use Rattle.verdict_definitions.specs.in_typing.TypingFaults.{TypingFault, SetFails, TypingRules}
 use Rattle.rule_definitions.specs.Judged.{Judged, judged}
+use Rattle.rule_definitions.specs.Names.{scalar_names}
 use Rattle.rule_definitions.specs.Rules.{SchemaRules}
 use Rattle.rule_document_definitions.specs.Named.{FragmentsFoundByName}
 use Rattle.rule_document_definitions.specs.Verdict.{DocumentRules, FieldSetRules, StandaloneRules}
 use Rattle.verdict_definitions.specs.Texts.{SourceText, Tree, Terms}
 use Rattle.verdict_definitions.specs.Meaning.{schema_of, schema_at_hand}
 use Rattle.verdict_definitions.specs.Judge.{AreSchemasAccepted, IsDocumentAccepted, IsAccepted}
-use Rattle.book_validity.specs.Words.{Document, Never}
+use Rattle.book_validity.specs.Words.{Document, Never, Each, IsThere}
 use Rattle.book_validity.specs.Document.{IsValidDocument}
 use Rattle.book_validity.specs.FieldSets.{IsValidFieldSet}
 use Rattle.book_validity.specs.Standalone.{IsValidAlone}
@@ -35,8 +36,12 @@ SetRulesHoldByTheBook = (s : Judged) (set : MeantSet (Unit {0})) → IsValidFiel
 abbrev pub RulesAloneHoldByTheBook : Type 0
 RulesAloneHoldByTheBook = (d : Document) → FragmentsFoundByName d → IsValidAlone d ↔ StandaloneRules d
 
+-- the built-in scalars are there, as in each schema that texts fold to
+abbrev pub HasScalars : Judged → Type 0
+HasScalars s = Each scalar_names (λ n. IsThere (s.type_named n))
+
 abbrev pub SchemaRulesHoldByTheBook : Type 0
-SchemaRulesHoldByTheBook = (s : Judged) → IsValidSchema s ↔ SchemaRules s
+SchemaRulesHoldByTheBook = (s : Judged) → HasScalars s → IsValidSchema s ↔ SchemaRules s
 
 -- a document, the selections of a set are typed exactly where no rule of typing is broken
 abbrev pub TypedByTheBook : Type 0
