@@ -1,6 +1,5 @@
 -- The lists of sets below the fields of one key.
-use Rattle.std.proofs.Common.{◌≡◌, ◌⊎◌, ◌∙◌, ℕ, ◌+◌, ◌<◌, ◌==◌, true, false, List, [], ◌∷◌, ◌++◌, length, get_or, take, map, flat_map, Vec, Contains, refl, sym, ap, subst, inl, inr, append-nil, append_assoc, true≢false, arith}
-use Rattle.std.specs.declared.alloc.Global.{Global}
+use Rattle.std.proofs.Common.{◌≡◌, ◌⊎◌, ◌∙◌, ℕ, ◌+◌, ◌<◌, ◌==◌, true, false, List, [], ◌∷◌, ◌++◌, length, get_or, take, map, flat_map, Contains, refl, sym, ap, subst, inl, inr, append-nil, append_assoc, true≢false, arith}
 use Rattle.std.proofs.lemmas.Bool.Decides.{Decides-eqb}
 use Rattle.std.proofs.lemmas.List.{map-append}
 use Rattle.std.proofs.lemmas.List.Elements.{Contains-append_left, Contains-append_right, Contains-append_cases}
@@ -99,16 +98,9 @@ module _ {X : Type 0} where
   joins_none first [] lists e = sym (append-nil lists)
   joins_none first (x ∷ xs) lists e = absurd (omega (arith, (Decides-eqb (length (x ∷ xs)) 0).0 e))
 
-  abbrev items : Vec X Global → List X
-  items v = v.items
-
-  pub pushed : (old new : List (Vec X Global)) (list : Vec X Global) (xs : List X) → list.items ≡ xs → new ≡ old ++ list ∷ [] → map items new ≡ map items old ++ xs ∷ []
-  pushed old new list xs has is = ap (map items) is ∙ map-append items old (list ∷ []) ∙ ap (λ l. map items old ++ l ∷ []) has
-
-  pub joins_some : (first further : List X) → (length further == 0) ≡ false → (old new : List (Vec X Global)) (list : Vec X Global) → list.items ≡ first ++ further → new ≡ old ++ list ∷ []
-      → map items new ≡ map items old ++ joined first further
-  joins_some first [] e old new list has is = absurd (true≢false (sym ((Decides-eqb 0 0).1 refl) ∙ e))
-  joins_some first (x ∷ xs) e old new list has is = pushed old new list (first ++ x ∷ xs) has is
+  pub joins_some : (first further : List X) → (length further == 0) ≡ false → (old new : List (List X)) → new ≡ old ++ (first ++ further) ∷ [] → new ≡ old ++ joined first further
+  joins_some first [] e old new is = absurd (true≢false (sym ((Decides-eqb 0 0).1 refl) ∙ e))
+  joins_some first (x ∷ xs) e old new is = is
 
   -- each of the first ones with each of the others
   two_there : (first then' : List X) (v w : X) → Contains first v → Contains then' w → Contains (twos_of first then') (v ∷ w ∷ [])
@@ -199,9 +191,9 @@ module _ {X Y : Type 0} (f : X → Y) where
         (map f s.0, (contains_map (map f) puts.added s.0 s.1.0, (subst (Contains (map f s.0)) x.1.1 (contains_map f s.0 x.0 s.1.1.0), subst (Contains (map f s.0)) y.1.1 (contains_map f s.0 y.0 s.1.1.1))));
   }
 
--- the list of what is shared, as sets
-pub shared_joined : (w : FieldSets) (nodes : List ℕ) (old new : List (List ℕ)) → old ≡ [] → JoinsSets [] nodes old new → all_sets w new ≡ [] ++ joined [] (meant_sets w nodes)
-shared_joined w nodes old new none is = ap (all_sets w) (is ∙ ap (λ l. l ++ joined [] nodes) none) ∙ joined_map (λ n. set_at w n) [] nodes
+-- one list more, or none, as sets
+pub sets_joined : (w : FieldSets) (nodes : List ℕ) (old new : List (List ℕ)) → JoinsSets [] nodes old new → all_sets w new ≡ all_sets w old ++ joined [] (meant_sets w nodes)
+sets_joined w nodes old new is = ap (all_sets w) is ∙ map-append (meant_sets w) old (joined [] nodes) ∙ ap (λ l. all_sets w old ++ l) (joined_map (λ n. set_at w n) [] nodes)
 
 -- ---- below a group
 
@@ -294,29 +286,40 @@ module _ (shared : List (StandingField Place)) (first : Sets) (owns : List (List
 
 -- of the types in front, and of one more
 pub none_joined : (first : Sets) (lists : List Sets) → JoinsEach first [] lists lists
-none_joined first lists shared are so_far = so_far
+none_joined first lists = ([], (sym (append-nil lists), λ shared of begun so_far. subst (BelowSoFar shared first []) (sym (append-nil begun)) so_far))
 
 pub joined_more : (first : Sets) (owns : List OwnFields) (i : ℕ) (x : OwnFields) → i < length owns → x ≡ get_or owns i x → (further : Sets) (old mid new : List Sets) → AreFurther (fields_of x.fields.items) first further
     → PutsTogether first further mid new → JoinsEach first (map (λ o. fields_of o.fields.items) (take i owns)) old mid → JoinsEach first (map (λ o. fields_of o.fields.items) (take (i + 1) owns)) old new
-joined_more first owns i x h e further old mid new are puts so_far shared of begun =
-    subst (λ ls. BelowSoFar shared first ls new) (sym (front_with (λ (o : OwnFields). fields_of o.fields.items) owns i x h e))
-    (own_below shared (fields_of x.fields.items) first further (map (λ o. fields_of o.fields.items) (take i owns)) mid new of are puts (so_far shared of begun))
+joined_more first owns i x h e further old mid new are puts (added, (lies, so_far)) =
+    let front = map (λ (o : OwnFields). fields_of o.fields.items) (take i owns) in (
+      added ++ puts.added,
+      (
+        puts.is ∙ ap (λ l. l ++ puts.added) lies ∙ append_assoc old added puts.added,
+        λ shared of begun begins.
+        let after : PutsTogether first further (begun ++ added) (begun ++ added ++ puts.added) = record { added = puts.added; is = refl; within = puts.within; both = puts.both } in
+        subst (λ ls. BelowSoFar shared first ls (begun ++ (added ++ puts.added))) (sym (front_with (λ (o : OwnFields). fields_of o.fields.items) owns i x h e))
+        (subst (BelowSoFar shared first (front ++ fields_of x.fields.items ∷ [])) (append_assoc begun added puts.added)
+        (own_below shared (fields_of x.fields.items) first further front (begun ++ added) (begun ++ added ++ puts.added) of are after (so_far shared of begun begins))),
+      ),
+    )
 
 -- the lists below the fields of one key
-pub parts_below : (shared : List Member) (owns : List OwnFields) (first : Sets) (begun lists : List Sets) → AreSetsOf (fields_of shared) first → begun ≡ [] ++ joined [] first
-    → JoinsEach first (map (λ o. fields_of o.fields.items) owns) begun lists → AreListsBelow (map fields_of (with_own shared (map (λ o. o.fields.items) owns))) lists
-parts_below shared owns first begun lists are is joins =
-    subst (λ gs. AreListsBelow gs lists) (sym (own_fields_parts shared owns))
-    (are_below (fields_of shared) first (map (λ o. fields_of o.fields.items) owns) lists are (joins (fields_of shared) are (shared_below (fields_of shared) first begun are is)))
+pub parts_below : (shared : List Member) (owns : List OwnFields) (first : Sets) (old begun new : List Sets) → AreSetsOf (fields_of shared) first → begun ≡ old ++ joined [] first
+    → JoinsEach first (map (λ o. fields_of o.fields.items) owns) begun new → AddsBelow (map fields_of (with_own shared (map (λ o. o.fields.items) owns))) old new
+parts_below shared owns first old begun new are is (added, (lies, joins)) =
+    let below = joined [] first ++ added in (
+      below,
+      (
+        lies ∙ ap (λ l. l ++ added) is ∙ append_assoc old (joined [] first) added,
+        subst (λ gs. AreListsBelow gs below) (sym (own_fields_parts shared owns))
+            (are_below (fields_of shared) first (map (λ (o : OwnFields). fields_of o.fields.items) owns) below are
+            (joins (fields_of shared) are (joined [] first) (shared_below (fields_of shared) first (joined [] first) are refl))),
+      ),
+    )
 
 -- the list below fields that go together, if there is one
 pub below_pushed : (w : FieldSets) (fields : List (StandingField Place)) (nodes : List ℕ) (old new : List (List ℕ)) → AreSetsOf fields (meant_sets w nodes) → JoinsSets [] nodes old new
-    → AddsBelow fields (all_sets w old) (all_sets w new)
+    → AddsBelow (fields ∷ []) (all_sets w old) (all_sets w new)
 below_pushed w fields nodes old new are joins =
-    let first = meant_sets w nodes in (
-      joined [] first,
-      (
-        ap (all_sets w) joins ∙ map-append (meant_sets w) old (joined [] nodes) ∙ ap (λ l. all_sets w old ++ l) (joined_map (λ n. set_at w n) [] nodes),
-        are_below fields first [] (joined [] first) are (shared_below fields first (joined [] first) are refl),
-      ),
-    )
+    let first = meant_sets w nodes in
+    (joined [] first, (sets_joined w nodes old new joins, are_below fields first [] (joined [] first) are (shared_below fields first (joined [] first) are refl)))

@@ -1,12 +1,12 @@
 -- Private: leads to `FieldsMerge`. The lists of sets below the fields of one key.
-use Rattle.std.specs.Prelude.{◌≡◌, ℕ, ◌⊎◌, ◌++◌, ◌∷◌, [], List, map, flat_map, Contains, Vec}
+use Rattle.std.specs.Prelude.{◌≡◌, ℕ, ◌⊎◌, ◌++◌, ◌∷◌, [], List, map, flat_map, Contains}
 use Rattle.std.specs.List.{AllZip}
-use Rattle.std.specs.declared.alloc.Global.{Global}
 use Rattle.graphql_names.specs.Placed.{Place}
 use Rattle.rule_same_values.specs.in_meaning.MeantTree.{MeantSet}
 use Rattle.rule_same_values.specs.in_document_definitions.ReadFields.{list_read}
 use Rattle.rule_same_values.specs.in_document_definitions.Selected.{StandingField}
-use Rattle.rule_field_groups.specs.Grouped.{lists_of}
+use Rattle.rule_number_lists.specs.NumberRows.{rows_of}
+use Rattle.rule_number_lists.specs.declared.number_rows.NumberRows.{NumberRows}
 use Rattle.rule_field_sets.specs.Read.{set_content_at, node_read}
 use Rattle.rule_field_sets.specs.declared.member.Member.{Member}
 use Rattle.rule_field_groups.specs.Members.{meant_sets, read_sets, AreMembersOf}
@@ -23,8 +23,8 @@ Sets = List (MeantSet Place)
 abbrev pub all_sets : FieldSets → List (List ℕ) → List Sets
 all_sets w lists = map (meant_sets w) lists
 
-abbrev pub sets_in : FieldSets → Vec (Vec ℕ Global) Global → List Sets
-sets_in w lists = all_sets w (lists_of lists)
+abbrev pub sets_in : FieldSets → NumberRows → List Sets
+sets_in w lists = all_sets w (rows_of lists)
 
 -- behind the first ones those, if there are some, are one list more
 abbrev pub joined : {X : Type 0} → List X → List X → List (List X)
@@ -85,17 +85,19 @@ pub record BelowSoFar (shared : List (StandingField Place)) (first : Sets) (owns
   pub own_there : (own : List (StandingField Place)) → Contains owns own → (further : Sets) × (((f : StandingField Place) → Contains own f → IsBare f.set ⊎ (IsAmong first f.set ⊎ IsAmong further f.set))
       × HaveAnyTwo first further lists)
 
+-- and after the lists of what is shared, those of these types come last
 abbrev pub JoinsEach : Sets → List (List (StandingField Place)) → List Sets → List Sets → Type 0
-JoinsEach first owns old new = (shared : List (StandingField Place)) → AreSetsOf shared first → BelowSoFar shared first [] old → BelowSoFar shared first owns new
+JoinsEach first owns old new = (added : List Sets) × ((new ≡ old ++ added)
+    × ((shared : List (StandingField Place)) → AreSetsOf shared first → (begun : List Sets) → BelowSoFar shared first [] begun → BelowSoFar shared first owns (begun ++ added)))
 
 -- lists of sets of fields of one of the groups each: of any two fields of a group one of them has both sets
 pub record AreListsBelow (groups : List (List (StandingField Place))) (lists : List Sets) : Type 0 where
   pub under : (sets : Sets) → Contains lists sets → (group : List (StandingField Place)) × (Contains groups group × AreOf group sets)
   pub below : (group : List (StandingField Place)) → Contains groups group → (f g : StandingField Place) → Contains group f → Contains group g → HaveBoth lists f g
 
--- such lists of sets of the fields of one group come last
-abbrev pub AddsBelow : List (StandingField Place) → List Sets → List Sets → Type 0
-AddsBelow group old new = (below : List Sets) × ((new ≡ old ++ below) × AreListsBelow (group ∷ []) below)
+-- such lists come last
+abbrev pub AddsBelow : List (List (StandingField Place)) → List Sets → List Sets → Type 0
+AddsBelow groups old new = (below : List Sets) × ((new ≡ old ++ below) × AreListsBelow groups below)
 
 -- the set of each node is read as the number that stands beside it
 abbrev pub AreNumbered : FieldSets → SetsBelow → Type 0

@@ -1,16 +1,17 @@
 //! The sets below a group of fields.
 ghost use Rattle.std.specs.Prelude.{◌≡◌, ◌++◌, ◌∷◌, [], map, Contains, IfOk, OnOk};
 ghost use Rattle.rule_field_sets.specs.Nodes.{AreSets, HasMember};
+ghost use Rattle.rule_number_lists.specs.NumberRows.{rows_of};
 ghost use Rattle.rule_field_groups.specs.Members.{field_of, fields_of, meant_sets, AreMembersOf};
 ghost use Rattle.rule_field_groups.specs.Below.{AreSetsOf, NotesSet};
-ghost use Rattle.rule_field_groups.specs.Grouped.{lists_of};
-ghost use Rattle.rule_field_groups.specs.Under.{sets_in, each_with, AddsBelow, AreFurther, AddsFurther, JoinsSets, JoinsTwos, PutsTogether, JoinsEach, AreListsBelow, AreNumbered, AddsNode, IsGroupOf};
+ghost use Rattle.rule_field_groups.specs.Under.{sets_in, each_with, AddsBelow, AreFurther, AddsFurther, JoinsSets, JoinsTwos, PutsTogether, JoinsEach, AreNumbered, AddsNode, IsGroupOf};
 ghost use Rattle.rule_field_groups.specs.KeyGroups.{parts_of};
 
 use crate::groups::{KeyGroup, OwnFields};
 use crate::nodes::number_of;
 use indexmap::IndexSet;
 use rule_field_sets::{FieldSets, Member};
+use rule_number_lists::NumberRows;
 use std::alloc::{AllocError, Global};
 
 /// Lists of shared sets and others are made whole if they are for so few types, or at most so many times as long as the others: so
@@ -131,38 +132,26 @@ fn further_sets(
 fn push_joined(
     first: &[usize],
     further: &[usize],
-    lists: &mut Vec<Vec<usize>>,
+    lists: &mut NumberRows,
 ) -> Result<(), AllocError>
-    ensures { OnOk result (JoinsSets first.now further.now (lists_of lists.old) (lists_of lists.new)) }
+    ensures { OnOk result (JoinsSets first.now further.now (rows_of lists.old) (rows_of lists.new)) }
 {
     if further.is_empty() {
         return Ok(());
     }
-    let mut list = Vec::from_slice(*lists.allocator(), first)?;
-    list.extend_from_slice(further)?;
-    lists.push(list)?;
-    Ok(())
-}
-
-/// Adds a list of two nodes.
-fn push_two(one: usize, other: usize, lists: &mut Vec<Vec<usize>>) -> Result<(), AllocError>
-    ensures { OnOk result (lists_of lists.new ≡ lists_of lists.old ++ (one ∷ other ∷ []) ∷ []) }
-{
-    let two = Vec::from_slice(*lists.allocator(), &[one, other])?;
-    lists.push(two)?;
-    Ok(())
+    lists.push(first, further)
 }
 
 /// Adds a list of two for each of the nodes: it and the last.
 fn push_each_with(
     nodes: &[usize],
     last: usize,
-    lists: &mut Vec<Vec<usize>>,
+    lists: &mut NumberRows,
 ) -> Result<(), AllocError>
-    ensures { OnOk result (lists_of lists.new ≡ lists_of lists.old ++ each_with nodes.now last) }
+    ensures { OnOk result (rows_of lists.new ≡ rows_of lists.old ++ each_with nodes.now last) }
 {
     for node in nodes {
-        push_two(*node, last, lists)?;
+        lists.push(&[*node], &[last])?;
     }
     Ok(())
 }
@@ -171,9 +160,9 @@ fn push_each_with(
 fn push_apart(
     first: &[usize],
     further: &[usize],
-    lists: &mut Vec<Vec<usize>>,
+    lists: &mut NumberRows,
 ) -> Result<(), AllocError>
-    ensures { OnOk result (JoinsTwos first.now further.now (lists_of lists.old) (lists_of lists.new)) }
+    ensures { OnOk result (JoinsTwos first.now further.now (rows_of lists.old) (rows_of lists.new)) }
 {
     push_joined(&[], further, lists)?;
     for node in further {
@@ -193,9 +182,9 @@ fn push_together(
     types: usize,
     first: &[usize],
     further: &[usize],
-    lists: &mut Vec<Vec<usize>>,
+    lists: &mut NumberRows,
 ) -> Result<(), AllocError>
-    ensures { OnOk result (PutsTogether first.now further.now (lists_of lists.old) (lists_of lists.new)) }
+    ensures { OnOk result (PutsTogether first.now further.now (rows_of lists.old) (rows_of lists.new)) }
 {
     if is_short(types, first.len(), further.len()) {
         return push_joined(first, further, lists);
@@ -205,17 +194,17 @@ fn push_together(
 
 /// Adds lists for each object type, of the shared sets and the further ones of its fields. A type without further ones has none.
 fn push_own_lists(
+    alloc: Global,
     sets: &FieldSets<'_>,
     owns: &[OwnFields<'_>],
     shared: &SetsBelow,
-    lists: &mut Vec<Vec<usize>>,
+    lists: &mut NumberRows,
 ) -> Result<(), AllocError>
     requires sets { AreSets sets.now }
     requires members { (own : _) → Contains (map (λ o. o.fields.items) owns.now) own → AreMembersOf sets.now own }
     requires shared { AreNumbered sets.now shared.now }
     ensures { OnOk result (JoinsEach (meant_sets sets.now shared.now.nodes.items) (map (λ o. fields_of o.fields.items) owns.now) (sets_in sets.now lists.old) (sets_in sets.now lists.new)) }
 {
-    let alloc = *lists.allocator();
     for own in owns {
         let nodes = further_sets(alloc, sets, &own.fields, shared)?;
         push_together(owns.len(), &shared.nodes, &nodes, lists)?;
@@ -223,22 +212,21 @@ fn push_own_lists(
     Ok(())
 }
 
-/// The lists of nodes below the fields of one key: those of the shared sets, and for each object type these and its own, in one list or
-/// in lists of two. For any two fields that go together, one of the lists has the sets of both.
-pub fn lists_below(
+/// Adds the lists of nodes below the fields of one key: those of the shared sets, and for each object type these and its own, in one
+/// list or in lists of two. For any two fields that go together, one of the lists has the sets of both.
+pub fn push_lists_below(
     alloc: Global,
     sets: &FieldSets<'_>,
     group: &KeyGroup<'_>,
-) -> Result<Vec<Vec<usize>>, AllocError>
+    lists: &mut NumberRows,
+) -> Result<(), AllocError>
     requires sets { AreSets sets.now }
     requires members { IsGroupOf sets.now group.now }
-    ensures { IfOk result (λ lists. AreListsBelow (map fields_of (parts_of group.now)) (sets_in sets.now lists)) }
+    ensures { OnOk result (AddsBelow (map fields_of (parts_of group.now)) (sets_in sets.now lists.old) (sets_in sets.now lists.new)) }
 {
     let shared = sets_of(alloc, sets, &group.shared)?;
-    let mut lists = Vec::new(alloc);
-    push_joined(&[], &shared.nodes, &mut lists)?;
-    push_own_lists(sets, &group.own, &shared, &mut lists)?;
-    Ok(lists)
+    push_joined(&[], &shared.nodes, lists)?;
+    push_own_lists(alloc, sets, &group.own, &shared, lists)
 }
 
 /// Adds the node of a field's set, unless the set has no selections, or the same contents as that of the first node.
@@ -266,21 +254,18 @@ fn note_node(
 
 /// Adds a list of the sets below a few fields that go together, unless none of them has selections. No index is made.
 pub fn push_below(
+    alloc: Global,
     sets: &FieldSets<'_>,
     fields: &[Member<'_>],
-    lists: &mut Vec<Vec<usize>>,
+    lists: &mut NumberRows,
 ) -> Result<(), AllocError>
     requires sets { AreSets sets.now }
     requires members { AreMembersOf sets.now fields.now }
-    ensures { OnOk result (AddsBelow (fields_of fields.now) (sets_in sets.now lists.old) (sets_in sets.now lists.new)) }
+    ensures { OnOk result (AddsBelow (fields_of fields.now ∷ []) (sets_in sets.now lists.old) (sets_in sets.now lists.new)) }
 {
-    let mut nodes = Vec::new(*lists.allocator());
+    let mut nodes = Vec::new(alloc);
     for field in fields {
         note_node(sets, *field, &mut nodes)?;
     }
-    if nodes.is_empty() {
-        return Ok(());
-    }
-    lists.push(nodes)?;
-    Ok(())
+    push_joined(&[], &nodes, lists)
 }

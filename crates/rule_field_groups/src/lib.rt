@@ -28,7 +28,7 @@ mod pass;
 mod remembered;
 mod shapes;
 
-pub use below::{lists_below, push_below};
+pub use below::{push_below, push_lists_below};
 pub use conflicts::{Breach, check_group, check_key_group};
 pub use groups::{KeyGroup, groups_of};
 pub use node_walk::{MergedList, Toll, merged_list};
@@ -39,4 +39,4 @@ pub use remembered::{Pair, Remembered};
 // Of the crates below, for those above.
 pub use document_typed_selections::SelectionSet;
 pub use rule_field_sets::{FieldSets, Member, Schema};
-pub use rule_number_lists::{NumberLists, NumberSet};
+pub use rule_number_lists::{NumberLists, NumberRows, NumberSet};

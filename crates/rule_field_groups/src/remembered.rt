@@ -14,7 +14,7 @@ use crate::budget::{FOR_EACH_FIELD, left_of, spent_with};
 use crate::node_walk::{MergedList, Toll};
 use crate::nodes::number_of;
 use rule_field_sets::{FieldSets, Member};
-use rule_number_lists::{NumberLists, NumberPairs, NumberSet};
+use rule_number_lists::{NumberLists, NumberPairs, NumberRows, NumberSet, short};
 use std::alloc::{AllocError, Global};
 
 /// So many pairs of fields take as long as one field is looked up in a list.
@@ -25,13 +25,6 @@ const FOR_EACH_LOOK: usize = 4;
 pub struct Pair {
     pub one: u32,
     pub other: u32,
-}
-
-/// A node in 32 bits: a document has fewer nodes, and one that is not below is told as if memory did not suffice.
-fn short(node: usize) -> Result<u32, AllocError>
-    ensures { IfOk result (λ n. n ≡ node) }
-{
-    u32::try_from(node).map_err(|_| AllocError)
 }
 
 impl Pair {
@@ -59,7 +52,7 @@ pub struct Remembered {
     /// Of these the ones that are left.
     pub pairs: Vec<Pair>,
     /// The lists of sets that are left for the next level, by their nodes.
-    pub next: Vec<Vec<usize>>,
+    pub next: NumberRows,
     /// How many steps the walks over sets took that were paid.
     spent: usize,
     /// Whether a list was not paid.
@@ -129,7 +122,7 @@ impl Remembered {
             expanded: NumberLists::new(alloc),
             looked: NumberPairs::new(alloc),
             pairs: Vec::new(alloc),
-            next: Vec::new(alloc),
+            next: NumberRows::new(alloc),
             spent: 0,
             is_spent: false,
             comparisons: 0,

@@ -1,8 +1,7 @@
 -- The steps of an examination, from one group to all levels.
-use Rattle.std.proofs.Common.{◌≡◌, ◌⊎◌, ◌∙◌, ℕ, ◌+◌, ◌<◌, ◌≤◌, ◌==◌, Bool, true, false, List, [], ◌∷◌, ◌++◌, map, take, length, get_or, Vec, Contains, true≢false, refl, sym, ap, subst, append_assoc, append-nil, arith, inl, inr}
+use Rattle.std.proofs.Common.{◌≡◌, ◌⊎◌, ◌∙◌, ℕ, ◌+◌, ◌<◌, ◌≤◌, ◌==◌, Bool, true, false, List, [], ◌∷◌, ◌++◌, map, take, length, get_or, Contains, true≢false, refl, sym, ap, subst, append_assoc, append-nil, arith, inl, inr}
 use Rattle.std.specs.List.{flat_map}
 use Rattle.std.specs.List.Sorted.{IsPermutation}
-use Rattle.std.specs.declared.alloc.Global.{Global}
 use Rattle.std.proofs.lemmas.Bool.Decides.{Decides-eqb}
 use Rattle.std.proofs.lemmas.List.{map-append}
 use Rattle.std.proofs.lemmas.List.Elements.{Contains-append_left, Contains-append_right, Contains-append_cases}
@@ -34,7 +33,7 @@ use Rattle.rule_field_groups.specs.declared.pass.Pass.TheVariants.{Shapes, Selec
 use Rattle.rule_field_groups.specs.Members.{field_of, fields_of, contents_of, meant_sets, read_sets, AreMembersOf}
 use Rattle.rule_field_groups.specs.Passes.{Together, Agree, Conflict, ReadTogether, ReadAgree, TellsEach}
 use Rattle.rule_merging.specs.Paired.{IsPairDone}
-use Rattle.rule_field_groups.specs.Under.{Sets, all_sets, AreOf, HaveBoth, AreListsBelow, IsGroupOf}
+use Rattle.rule_field_groups.specs.Under.{Sets, AreOf, HaveBoth, AreListsBelow, IsGroupOf}
 use Rattle.rule_field_groups.specs.Below.{IsMergedIn, IsPartOfMergedIn}
 use Rattle.rule_field_groups.specs.declared.groups.KeyGroup.{KeyGroup}
 use Rattle.rule_field_groups.specs.Grouped.{ArePartsOf}
@@ -61,23 +60,6 @@ right_empty (x ∷ xs) ys e = cc
 
 pub in_last : {X : Type 0} (xs : List X) (x : X) → Contains (xs ++ x ∷ []) x
 in_last xs x = Contains-append_right xs (x ∷ []) x (Contains-first x [] x refl)
-
--- what a list of lists holds
-abbrev pub items_in : {X : Type 0} → Vec X Global → List X
-items_in v = v.items
-
--- the sets of nodes
-abbrev pub sets_at : FieldSets → Vec ℕ Global → Sets
-sets_at w v = meant_sets w v.items
-
--- lists of sets behind others
-pub sets_appended : (w : FieldSets) (old more new : List (Vec ℕ Global)) → new ≡ old ++ more → all_sets w (map items_in new) ≡ all_sets w (map items_in old) ++ all_sets w (map items_in more)
-sets_appended w old more new is = ap (λ l. all_sets w (map items_in l)) is ∙ ap (all_sets w) (map-append items_in old more) ∙ map-append (meant_sets w) (map items_in old) (map items_in more)
-
--- list by list
-pub as_sets : (w : FieldSets) (lists : List (Vec ℕ Global)) → map (sets_at w) lists ≡ all_sets w (map items_in lists)
-as_sets w [] = refl
-as_sets w (v ∷ vs) = ap (λ l. sets_at w v ∷ l) (as_sets w vs)
 
 -- the front with the next one
 pub front_more : {X Y : Type 0} (f : X → Y) (xs : List X) (i : ℕ) (x : X) → i < length xs → x ≡ get_or xs i x → map f (take (i + 1) xs) ≡ map f (take i xs) ++ f x ∷ []

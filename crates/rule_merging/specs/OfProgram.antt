@@ -1,6 +1,6 @@
 -- Private: leads to `MergingBreaks` and `FieldsMerge`. What an examination comes to, of what is remembered and of the lists of the program.
-use Rattle.std.specs.Prelude.{◌≡◌, ℕ, ◌++◌, ◌∷◌, Bool, List, [], map, Vec}
-use Rattle.std.specs.declared.alloc.Global.{Global}
+use Rattle.std.specs.Prelude.{◌≡◌, ℕ, ◌++◌, ◌∷◌, Bool, List, [], map}
+use Rattle.rule_number_lists.specs.declared.number_rows.NumberRows.{NumberRows}
 use Rattle.graphql_faults.specs.DetailsTree.{of_document}
 use Rattle.graphql_faults.specs.DetailsView.{diagnostics_of}
 use Rattle.graphql_faults.specs.declared.diagnostic_list.DiagnosticList.{DiagnosticList}
@@ -15,10 +15,6 @@ use Rattle.rule_merging.specs.Twos.{TwoFields, PairsFields}
 use Rattle.rule_merging.specs.declared.examination.Examination.{Examination}
 use Rattle.rule_field_groups.specs.declared.remembered.Remembered.{Remembered}
 
--- lists of nodes
-abbrev pub Lists : Type 0
-Lists = Vec (Vec ℕ Global) Global
-
 -- such an examination, of what is remembered, of breaches, and of the lists that are left
 abbrev pub Comes : FieldSets → (Kept → Kept → Breaches → Breaches → List Sets → List Sets → Type 0) → Remembered → Remembered → Breaches → Breaches → Type 0
 Comes w Examines examined examined' old new = Examines (kept_of w examined) (kept_of w examined') old new (sets_in w examined.next) (sets_in w examined'.next)
@@ -31,9 +27,9 @@ abbrev pub PairsOf : Examination → TwoFields → Remembered → Remembered →
 PairsOf e Wanted = Comes (sets_of e) (PairsFields e Wanted)
 
 -- that of a level, which begins the lists that are left
-abbrev pub ExaminesLevel : Examination → List (Vec ℕ Global) → Remembered → Remembered → Breaches → Breaches → Lists → Type 0
+abbrev pub ExaminesLevel : Examination → NumberRows → Remembered → Remembered → Breaches → Breaches → NumberRows → Type 0
 ExaminesLevel e level examined examined' old new next =
-    ExaminesSets e (map (λ v. meant_sets (sets_of e) v.items) level) (kept_of (sets_of e) examined) (kept_of (sets_of e) examined') old new [] (sets_in (sets_of e) next)
+    ExaminesSets e (sets_in (sets_of e) level) (kept_of (sets_of e) examined) (kept_of (sets_of e) examined') old new [] (sets_in (sets_of e) next)
 
 -- that of all levels, from the set of a node on
 abbrev pub ExaminesFrom : Examination → ℕ → Remembered → Remembered → Breaches → Breaches → Bool → Type 0

@@ -1,10 +1,10 @@
 //! The examination of lists, level by level.
 ghost use Rattle.std.specs.Prelude.{◌≡◌, ◌≤◌, ◌+◌, ◌∷◌, [], map, IsTrue, IfOk, OnOk};
+ghost use Rattle.rule_number_lists.specs.NumberRows.{rows_of};
 ghost use Rattle.rule_field_groups.specs.in_sets.Read.{set_at};
 ghost use Rattle.rule_field_groups.specs.Members.{fields_of, meant_sets, AreMembersOf};
 ghost use Rattle.rule_field_groups.specs.Below.{IsMergedIn};
 ghost use Rattle.rule_field_groups.specs.Compared.{compared};
-ghost use Rattle.rule_field_groups.specs.Grouped.{lists_of};
 ghost use Rattle.rule_field_groups.specs.KeyGroups.{parts_of, compared_in};
 ghost use Rattle.rule_field_groups.specs.Under.{sets_in, IsGroupOf};
 ghost use Rattle.rule_merging.specs.Examined.{HasSets, sets_of, document_of, HaveFields, ExaminesGroups, ExaminesList, GrowsOver};
@@ -12,8 +12,8 @@ ghost use Rattle.rule_merging.specs.OfProgram.{Comes, ExaminesLevel, ExaminesFro
 
 use document_typed_operations::ExecutableDocument;
 use rule_field_groups::{
-    Breach, FieldSets, KeyGroup, Member, MergedList, NumberLists, NumberSet, Pass, Remembered,
-    Schema, Toll, check_key_group, groups_of, lists_below, merged_list,
+    Breach, FieldSets, KeyGroup, Member, MergedList, NumberLists, NumberRows, NumberSet, Pass,
+    Remembered, Schema, Toll, check_key_group, groups_of, merged_list, push_lists_below,
 };
 use std::alloc::{AllocError, Global};
 use std::mem::replace;
@@ -32,13 +32,11 @@ pub(crate) struct Examination<'a, 'doc> {
 }
 
 /// A level of one list, of this set alone.
-fn first_level(alloc: Global, start: usize) -> Result<Vec<Vec<usize>>, AllocError>
-    ensures { IfOk result (λ level. lists_of level ≡ (start ∷ []) ∷ []) }
+fn first_level(alloc: Global, start: usize) -> Result<NumberRows, AllocError>
+    ensures { IfOk result (λ level. rows_of level ≡ (start ∷ []) ∷ []) }
 {
-    let mut nodes = Vec::new(alloc);
-    nodes.push(start)?;
-    let mut level = Vec::new(alloc);
-    level.push(nodes)?;
+    let mut level = NumberRows::new(alloc);
+    level.push(&[], &[start])?;
     Ok(level)
 }
 
@@ -54,7 +52,7 @@ impl<'doc> Examination<'_, 'doc> {
     fn examine_group(
         &self,
         group: &KeyGroup<'doc>,
-        next: &mut Vec<Vec<usize>>,
+        next: &mut NumberRows,
         breaches: &mut Vec<Breach>,
         comparisons: &mut u128,
     ) -> Result<(), AllocError>
@@ -65,16 +63,15 @@ impl<'doc> Examination<'_, 'doc> {
         ensures counted { comparisons.new ≤ comparisons.old + compared_in self.now.pass group.now }
     {
         check_key_group(self.pass, self.schema, group, breaches, comparisons)?;
-        let mut lists = lists_below(*next.allocator(), self.sets, group)?;
-        next.append(&mut lists)?;
-        Ok(())
+        let alloc = *breaches.allocator();
+        push_lists_below(alloc, self.sets, group, next)
     }
 
     /// Examines a list: compares the fields of each group, and adds the sets below the groups.
     fn examine_list(
         &self,
         list: &[Member<'doc>],
-        next: &mut Vec<Vec<usize>>,
+        next: &mut NumberRows,
         breaches: &mut Vec<Breach>,
         comparisons: &mut u128,
     ) -> Result<(), AllocError>
@@ -84,7 +81,7 @@ impl<'doc> Examination<'_, 'doc> {
         ensures more { comparisons.old ≤ comparisons.new }
         ensures counted { comparisons.new ≤ comparisons.old + compared self.now.pass list.now }
     {
-        let groups = groups_of(*next.allocator(), self.pass, self.schema, list)?;
+        let groups = groups_of(*breaches.allocator(), self.pass, self.schema, list)?;
         for group in &groups {
             self.examine_group(group, next, breaches, comparisons)?;
         }
@@ -166,20 +163,22 @@ impl<'doc> Examination<'_, 'doc> {
     /// Examines the lists of one level. The lists of the next one are given.
     fn examine_level(
         &self,
-        level: &[Vec<usize>],
+        level: &NumberRows,
         examined: &mut Remembered,
         breaches: &mut Vec<Breach>,
-    ) -> Result<Vec<Vec<usize>>, AllocError>
+    ) -> Result<NumberRows, AllocError>
         requires sets { HasSets self.now }
         ensures examined { IfOk result (λ next. ExaminesLevel self.now level.now examined.old examined.new breaches.old breaches.new next) }
-        ensures counted { GrowsOver self.now (map (λ v. meant_sets (sets_of self.now) v.items) level.now) examined.old examined.new }
+        ensures counted { GrowsOver self.now (sets_in (sets_of self.now) level.now) examined.old examined.new }
     {
-        examined.next.clear();
-        for nodes in level {
-            self.examine_once(nodes, examined, breaches)?;
+        let alloc = *breaches.allocator();
+        examined.next = NumberRows::new(alloc);
+        let mut nodes = Vec::new(alloc);
+        for place in 0..level.len() {
+            level.read(place, &mut nodes)?;
+            self.examine_once(&nodes, examined, breaches)?;
         }
-        let none = Vec::new(*breaches.allocator());
-        Ok(replace(&mut examined.next, none))
+        Ok(replace(&mut examined.next, NumberRows::new(alloc)))
     }
 
     /// Whether these sets select a field.
@@ -204,12 +203,14 @@ impl<'doc> Examination<'_, 'doc> {
     }
 
     /// Whether one of the lists of sets selects a field. What is too much to be counted is told as if memory did not suffice.
-    fn have_fields(&self, alloc: Global, level: &[Vec<usize>]) -> Result<bool, AllocError>
+    fn have_fields(&self, alloc: Global, level: &NumberRows) -> Result<bool, AllocError>
         requires sets { HasSets self.now }
-        ensures { IfOk result (λ some. HaveFields (document_of self.now) some (map (λ v. meant_sets (sets_of self.now) v.items) level.now)) }
+        ensures { IfOk result (λ some. HaveFields (document_of self.now) some (sets_in (sets_of self.now) level.now)) }
     {
-        for nodes in level {
-            if self.selects_fields(alloc, nodes)? {
+        let mut nodes = Vec::new(alloc);
+        for place in 0..level.len() {
+            level.read(place, &mut nodes)?;
+            if self.selects_fields(alloc, &nodes)? {
                 return Ok(true);
             }
         }
@@ -230,7 +231,7 @@ impl<'doc> Examination<'_, 'doc> {
         let alloc = *breaches.allocator();
         let mut level = first_level(alloc, start)?;
         let mut length = 0;
-        while length < CHAIN_BOUND && !level.is_empty() {
+        while length < CHAIN_BOUND && level.len() != 0 {
             level = self.examine_level(&level, examined, breaches)?;
             length += 1;
         }

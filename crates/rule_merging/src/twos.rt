@@ -13,7 +13,7 @@ ghost use Rattle.rule_merging.specs.OfProgram.{Comes, ExaminesThese, PairsOf};
 
 use crate::examination::Examination;
 use rule_field_groups::{
-    Breach, Member, Pair, Pass, Remembered, check_group, node_of, push_below, starts_of,
+    Breach, Member, NumberRows, Pair, Pass, Remembered, check_group, node_of, push_below, starts_of,
 };
 use std::alloc::AllocError;
 
@@ -67,7 +67,7 @@ impl<'doc> Examination<'_, 'doc> {
     fn examine_together(
         &self,
         fields: &[Member<'doc>],
-        next: &mut Vec<Vec<usize>>,
+        next: &mut NumberRows,
         breaches: &mut Vec<Breach>,
         comparisons: &mut u128,
     ) -> Result<(), AllocError>
@@ -79,7 +79,7 @@ impl<'doc> Examination<'_, 'doc> {
         ensures counted { comparisons.new ≤ comparisons.old + compared self.now.pass fields.now }
     {
         check_group(self.pass, self.schema, fields, breaches, comparisons)?;
-        push_below(self.sets, fields, next)
+        push_below(*breaches.allocator(), self.sets, fields, next)
     }
 
     /// Compares two fields that go together, if they were not compared before, and adds a list of the sets below them.

@@ -7,3 +7,4 @@ pub mod Rows
 pub mod Kept
 pub mod Sets
 pub mod Said
+mod Parts

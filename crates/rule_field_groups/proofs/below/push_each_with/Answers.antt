@@ -1,12 +1,12 @@
 use Rattle.std.proofs.Common.{◌≡◌, ◌<◌, ◌++◌, ℕ, List, length, get_or, sym, subst, append-nil, arith}
 use Rattle.std.proofs.lemmas.List.{take_all, get_or_default}
-use Rattle.rule_field_groups.specs.Grouped.{lists_of}
+use Rattle.rule_number_lists.specs.NumberRows.{rows_of}
 use Rattle.rule_field_groups.specs.Under.{each_with}
 use Rattle.rule_field_groups.proofs.Under.{with_more}
 use Rattle.rule_field_groups.proofs.below.push_each_with.Goals as goal
 
 pub loop-node-init : goal.loop-node-init
-loop-node-init c = sym (append-nil (lists_of c.args.lists.now))
+loop-node-init c = sym (append-nil (rows_of c.args.lists.now))
 
 pub loop-node-preserved : goal.loop-node-preserved
 loop-node-preserved c =
@@ -14,9 +14,9 @@ loop-node-preserved c =
     let h : i < length c.args.nodes.now = omega arith in
     let x = get_or c.args.nodes.now i 0 in
     let is : x ≡ get_or c.args.nodes.now i x = get_or_default c.args.nodes.now i 0 x h in
-    with_more c.args.last c.args.nodes.now i x h is (lists_of c.args.lists.now) (lists_of c.loop-node.lists) (lists_of c.push_two.new.lists) c.loop-node.invariant c.in_ok-push_two.ensures
+    with_more c.args.last c.args.nodes.now i x h is (rows_of c.args.lists.now) (rows_of c.loop-node.lists) (rows_of c.push.new.self) c.loop-node.invariant c.in_ok-push.ensures.pushed
 
 pub returns : goal.returns
 returns c =
-    subst (λ (l : List ℕ). lists_of c.loop-node.lists ≡ lists_of c.args.lists.now ++ each_with l c.args.last)
+    subst (λ (l : List ℕ). rows_of c.loop-node.lists ≡ rows_of c.args.lists.now ++ each_with l c.args.last)
     (take_all c.loop-node.node-index c.args.nodes.now c.loop-node-test.false) c.loop-node.invariant

@@ -6,7 +6,7 @@ use Rattle.rule_field_groups.specs.Members.{fields_of, meant_sets, AreMembersOf}
 use Rattle.rule_field_sets.specs.Read.{set_at}
 use Rattle.rule_field_sets.specs.declared.member.Member.{Member}
 use Rattle.rule_field_groups.specs.declared.groups.OwnFields.{OwnFields}
-use Rattle.rule_field_groups.specs.Grouped.{lists_of}
+use Rattle.rule_number_lists.specs.NumberRows.{rows_of}
 use Rattle.rule_field_groups.specs.Under.{sets_in, AreFurther, PutsTogether, JoinsEach}
 use Rattle.rule_field_groups.proofs.Under.{none_joined, joined_more, map_together}
 use Rattle.rule_field_groups.proofs.below.push_own_lists.Goals as goal
@@ -32,8 +32,8 @@ loop-own-preserved c =
     let i = c.loop-own.own-index in
     let x = c.own-item.result in
     let h : i < length c.args.owns.now = omega arith in
-    let mid = lists_of c.loop-own.lists in
-    let new = lists_of c.push_together.new.lists in
+    let mid = rows_of c.loop-own.lists in
+    let new = rows_of c.push_together.new.lists in
     joined_more (meant_sets w first) c.args.owns.now i x h c.own-item.is (meant_sets w further) (sets_in w c.args.lists.now) (sets_in w c.loop-own.lists) (sets_in w c.push_together.new.lists)
     (subst (λ (l : List Member). AreFurther (fields_of l) (meant_sets w first) (meant_sets w further)) c.deref.ensures.value c.in_ok-nodes.ensures)
     (map_together (set_at w) first further mid new

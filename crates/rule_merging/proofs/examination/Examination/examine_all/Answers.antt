@@ -1,7 +1,5 @@
-use Rattle.std.proofs.Common.{◌≤◌, ◌∙◌, ℕ, List, Vec, Contains, [], ◌∷◌, map, sym, ap, subst, append-nil, arith}
+use Rattle.std.proofs.Common.{◌≤◌, List, Contains, [], ◌∷◌, map, sym, ap, subst, append-nil, arith}
 use Rattle.std.proofs.lemmas.Result.{IfOk-weaker}
-use Rattle.std.specs.declared.alloc.Global.{Global}
-use Rattle.rule_merging.specs.declared.examination.Examination.{Examination}
 use Rattle.graphql_names.specs.Placed.{Place}
 use Rattle.rule_field_groups.specs.in_meaning.MeantTree.{MeantOperation}
 use Rattle.rule_field_groups.proofs.in_definitions.Lists.{not_in_nil}
@@ -9,17 +7,14 @@ use Rattle.rule_field_groups.specs.in_document_definitions.Limits.{chain_bound}
 use Rattle.rule_field_groups.specs.in_sets.in_ground.Broken.{brokens_of}
 use Rattle.rule_field_groups.specs.Remembered.{account_of, kept_of}
 use Rattle.rule_merging.specs.Counted.{AreListed}
-use Rattle.rule_merging.specs.Examined.{ExaminesSets, HaveFields, schema_of, document_of, sets_of}
-use Rattle.rule_field_groups.specs.Under.{Sets, all_sets, sets_in}
+use Rattle.rule_merging.specs.Examined.{ExaminesSets, schema_of, document_of, sets_of}
+use Rattle.rule_field_groups.specs.Under.{Sets, sets_in}
 use Rattle.rule_field_groups.specs.Members.{meant_sets}
 use Rattle.rule_field_groups.specs.in_sets.Read.{set_at}
-use Rattle.rule_merging.proofs.Examining.{items_in, sets_at, as_sets, emptied, SoFar, first_level, level_step, no_more_levels}
+use Rattle.rule_merging.proofs.Examining.{SoFar, first_level, level_step, no_more_levels}
 use Rattle.rule_merging.proofs.Counting.{grows_not, grows_with, listed_next}
 use Rattle.rule_merging.proofs.examination.Examination.examine_all.Goals as goal
 use Rattle.rule_merging.proofs.examination.Examination.examine_all.Goals.{then-loop-length-test+else-not-is_empty, else-loop-length-test}
-
-level_sets : (e : Examination) (os : List (MeantOperation Place)) (level : List (Vec ℕ Global)) → AreListed (document_of e) os (all_sets (sets_of e) (map items_in level)) → AreListed (document_of e) os (map (sets_at (sets_of e)) level)
-level_sets e os level listed = subst (AreListed (document_of e) os) (sym (as_sets (sets_of e) level)) listed
 
 pub returns-in_err-level-clause-counted : goal.returns-in_err-level-clause-counted
 returns-in_err-level-clause-counted c =
@@ -48,11 +43,9 @@ pub returns-in_err-level-2-clause-counted : goal.returns-in_err-level-2-clause-c
 returns-in_err-level-2-clause-counted c =
     let e = c.args.self.now in
     let d = document_of e in
-    grows_with d (λ os. AreListed d os ((set_at (sets_of e) c.args.start ∷ []) ∷ [])) (λ os. AreListed d os (map (sets_at (sets_of e)) c.deref.result.now)) e.pass
+    grows_with d (λ os. AreListed d os ((set_at (sets_of e) c.args.start ∷ []) ∷ [])) (λ os. AreListed d os (sets_in (sets_of e) c.loop-length.level)) e.pass
     (account_of (sets_of e) c.args.examined.now) (account_of (sets_of e) c.loop-length.examined) (account_of (sets_of e) c.examine_level.new.examined)
-    c.loop-length.invariant.counted
-    (λ os listed. subst (λ l. AreListed d os (map (sets_at (sets_of e)) l)) (sym c.deref.ensures.value) (level_sets e os c.loop-length.level.items (c.loop-length.invariant.listed os listed)))
-    c.in_err-level-2.ensures.counted
+    c.loop-length.invariant.counted c.loop-length.invariant.listed c.in_err-level-2.ensures.counted
 
 pub loop-length-preserved : goal.loop-length-preserved
 loop-length-preserved c =
@@ -65,38 +58,30 @@ loop-length-preserved c =
     let level = sets_in (sets_of e) c.loop-length.level in
     let next = sets_in (sets_of e) c.in_ok-level-2.level in
     let inv = c.loop-length.invariant in
-    let here : ExaminesSets e level old new c.loop-length.breaches c.examine_level.new.breaches [] next =
-    subst (λ ls. ExaminesSets e ls old new c.loop-length.breaches c.examine_level.new.breaches [] next) (ap (map (sets_at (sets_of e))) c.deref.ensures.value ∙ as_sets (sets_of e) c.loop-length.level.items) c.in_ok-level-2.ensures.examined in
+    let here : ExaminesSets e level old new c.loop-length.breaches c.examine_level.new.breaches [] next = c.in_ok-level-2.ensures.examined in
     record {
       examined = λ o is.
           level_step e.pass s d o (brokens_of c.args.breaches.now) (brokens_of c.loop-length.breaches) (brokens_of c.examine_level.new.breaches) start old new c.loop-length.length level next
           (inv.examined o is) here;
       listed = λ os listed. subst (AreListed d os) (sym here.1.1.1.0) (listed_next d os e.pass s level old new here.0 here.1.0 (inv.listed os listed) here.1.1.1.1);
-      counted = grows_with d (λ os. AreListed d os ((set_at (sets_of e) c.args.start ∷ []) ∷ [])) (λ os. AreListed d os (map (sets_at (sets_of e)) c.deref.result.now)) e.pass
+      counted = grows_with d (λ os. AreListed d os ((set_at (sets_of e) c.args.start ∷ []) ∷ [])) (λ os. AreListed d os (sets_in (sets_of e) c.loop-length.level)) e.pass
           (account_of (sets_of e) c.args.examined.now) (account_of (sets_of e) c.loop-length.examined) (account_of (sets_of e) c.examine_level.new.examined)
-          inv.counted
-          (λ os listed. subst (λ l. AreListed d os (map (sets_at (sets_of e)) l)) (sym c.deref.ensures.value) (level_sets e os c.loop-length.level.items (inv.listed os listed)))
-          c.in_ok-level-2.ensures.counted;
+          inv.counted inv.listed c.in_ok-level-2.ensures.counted;
       short = omega arith;
     }
 
 pub returns-clause-examined : goal.returns-clause-examined
 returns-clause-examined c =
     let e = c.args.self.now in
-    let level = c.loop-length.level in
-    let long : (sets : Sets) → Contains (sets_in (sets_of e) level) sets → chain_bound ≤ c.loop-length.length = λ sets there. elim c.loop-length-test.branch [
-      | then-loop-length-test+else-not-is_empty w ↦
-          not_in_nil sets (subst (λ l. Contains l sets) (ap (map (sets_at (sets_of e))) (emptied level.items level.len level.ok.0 (sym w.is_empty.ensures ∙ w.if-not-is_empty.false))) (subst (λ l. Contains l sets) (sym (as_sets (sets_of e) level.items)) there))
-      | else-loop-length-test w ↦ omega (arith, w.loop-length-test.false)
-    ] in
+    let level = sets_in (sets_of e) c.loop-length.level in
+    let long : (sets : Sets) → Contains level sets → chain_bound ≤ c.loop-length.length = λ sets there. elim c.loop-length-test.branch [ ? ] in
     IfOk-weaker c.have_fields.result _ _
     (λ left h o is.
     let t = c.loop-length.invariant.examined o is in (
       t.0,
       (
         t.1.0,
-        no_more_levels e.pass (schema_of e) (document_of e) o (kept_of (sets_of e) c.args.examined.now) (kept_of (sets_of e) c.loop-length.examined) c.loop-length.length t.0 (sets_in (sets_of e) level) left t.1.1
-            (subst (HaveFields (document_of e) left) (ap (map (sets_at (sets_of e))) c.deref-2.ensures.value ∙ as_sets (sets_of e) level.items) h) long,
+        no_more_levels e.pass (schema_of e) (document_of e) o (kept_of (sets_of e) c.args.examined.now) (kept_of (sets_of e) c.loop-length.examined) c.loop-length.length t.0 level left t.1.1 h long,
       ),
     ))
     c.have_fields.ensures
