@@ -1,5 +1,5 @@
 -- Where pairs are of different fields and each set is looked at, the algorithm answers the same.
-use Rattle.std.proofs.Common.{◌≡◌, ◌⊎◌, ◌∙◌, ℕ, zero, suc, refl, sym, ap, subst, inl, inr}
+use Rattle.std.proofs.Common.{◌≡◌, ◌⊎◌, ◌∙◌, ℕ, zero, suc, List, refl, sym, ap, subst, inl, inr}
 use Rattle.rule_definitions.specs.Judged.{Judged}
 use Rattle.rule_definitions.specs.Names.{named_in}
 use Rattle.rule_document_definitions.specs.Selected.{response_key, own}
