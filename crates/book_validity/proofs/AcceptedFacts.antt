@@ -1,13 +1,14 @@
 -- Texts are accepted exactly where the book says yes.
-use Rattle.std.proofs.Common.{ℕ, List}
+use Rattle.std.proofs.Common.{◌≡◌, ℕ, List, sym, subst}
 use Rattle.schema_built_in.specs.Table.{built_in_definitions}
 use Rattle.rule_definitions.specs.Judged.{judged}
 use Rattle.rule_definitions.specs.Rules.{SchemaRules}
 use Rattle.verdict_definitions.specs.Texts.{SourceText, Tree, Terms}
 use Rattle.verdict_definitions.specs.Meaning.{all_definitions, schema_of, schema_at_hand, meanings_over}
 use Rattle.verdict_definitions.specs.Judge.{AreSchemasAccepted, IsDocumentAccepted}
-use Rattle.book_validity.specs.Yes.{meaning_over, AreValidSchemas, IsValidOver}
-use Rattle.book_validity.proofs.Folded.{accepted}
+use Rattle.rule_selections.proofs.in_typing.WholeDocuments.{document-whole}
+use Rattle.book_validity.specs.Yes.{meaning_over, schema_for_documents, AreValidSchemas, IsValidOver, TypedIsKeptWhole}
+use Rattle.book_validity.proofs.Folded.{has_scalars, filtered, accepted}
 use Rattle.book_validity.specs.Laws.{SchemasAcceptedByTheBook, DocumentsAcceptedByTheBook, AcceptedByTheBook}
 use Rattle.book_validity.proofs.SchemaFacts.{schema_rules_hold}
 use Rattle.book_validity.proofs.DocumentFacts.{rules_hold}
@@ -27,7 +28,7 @@ module _ (terms : Terms) (schemas : List SourceText) where
         within = a.within;
         folds = (folded_by_the_book built_in_definitions terms.first_extension (all_definitions s.trees)).1 s.folds;
         numbered = a.numbered;
-        valid = (schema_rules_hold (judged (schema_of terms s.trees))).1 s.holds;
+        valid = (schema_rules_hold (judged (schema_of terms s.trees)) (has_scalars terms.first_extension (all_definitions s.trees))).1 s.holds;
       }
 
   abbrev accepted_schemas : AreValidSchemas terms schemas → AreSchemasAccepted terms schemas
@@ -36,7 +37,7 @@ module _ (terms : Terms) (schemas : List SourceText) where
       trees = s.trees;
       read = s.read;
       folds = (folded_by_the_book built_in_definitions terms.first_extension (all_definitions s.trees)).0 s.folds;
-      holds = (schema_rules_hold (judged (schema_of terms s.trees))).0 s.valid;
+      holds = (schema_rules_hold (judged (schema_of terms s.trees)) (has_scalars terms.first_extension (all_definitions s.trees))).0 s.valid;
     };
     within = s.within;
     numbered = s.numbered;
@@ -74,8 +75,23 @@ module _ (terms : Terms) (trees : List Tree) (rules : SchemaRules (judged (schem
     within = o.within;
   }
 
+  -- the schema at hand is filtered
+  the_filtered : schema_at_hand terms trees ≡ schema_for_documents terms trees
+  the_filtered = filtered terms.first_extension (all_definitions trees)
+
+  pub over_filtered : IsDocumentAccepted (schema_at_hand terms trees) nesting number document → IsValidOver (schema_for_documents terms trees) nesting number document
+  over_filtered a = subst (λ s. IsValidOver s nesting number document) the_filtered (valid_over a)
+
+  pub accepted_filtered : IsValidOver (schema_for_documents terms trees) nesting number document → IsDocumentAccepted (schema_at_hand terms trees) nesting number document
+  accepted_filtered o = accepted_over (subst (λ s. IsValidOver s nesting number document) (sym the_filtered) o)
+
 pub documents_by_the_book : DocumentsAcceptedByTheBook
-documents_by_the_book terms trees rules nesting number document = (valid_over terms trees rules nesting number document, accepted_over terms trees rules nesting number document)
+documents_by_the_book terms trees rules nesting number document = (over_filtered terms trees rules nesting number document, accepted_filtered terms trees rules nesting number document)
+
+-- ---- and the document that is judged is the one that was read
+
+pub kept_whole : TypedIsKeptWhole
+kept_whole schema tree typed = document-whole (meanings_over schema) tree ((typed_by_the_book (meanings_over schema) tree).0 typed)
 
 -- ---- both
 
@@ -83,10 +99,10 @@ pub accepted_by_the_book : AcceptedByTheBook
 accepted_by_the_book terms schemas document = (
   λ a. record {
     schema = valid_schemas terms schemas a.schema;
-    over = valid_over terms a.schema.judged.trees a.schema.judged.holds _ _ document a.over;
+    over = over_filtered terms a.schema.judged.trees a.schema.judged.holds _ _ document a.over;
   },
   λ y. record {
     schema = accepted_schemas terms schemas y.schema;
-    over = accepted_over terms y.schema.trees (accepted_schemas terms schemas y.schema).judged.holds _ _ document y.over;
+    over = accepted_filtered terms y.schema.trees (accepted_schemas terms schemas y.schema).judged.holds _ _ document y.over;
   },
 )

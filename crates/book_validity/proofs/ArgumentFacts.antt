@@ -9,7 +9,6 @@ use Rattle.rule_definitions.specs.Judged.{Judged}
 use Rattle.rule_definitions.specs.Names.{defined_name, argument_name, input_name}
 use Rattle.rule_definitions.specs.GivenValues.{Variables, is_absent_or_null}
 use Rattle.rule_definitions.specs.Values.{ValueBreaks}
-use Rattle.rule_definitions.specs.Accepts.{Accepts}
 use Rattle.rule_definitions.specs.VariableUsage.{IsVariableUsageAllowed}
 use Rattle.rule_definitions.specs.Uses.{Taker, GivenBreaks, TakerBreaks}
 use Rattle.rule_definitions.proofs.Accepting.{accepts_where_quiet}
@@ -17,9 +16,11 @@ use Rattle.rule_definitions.proofs.Lists.{index_found, index_given}
 use Rattle.rule_definitions.proofs.Firsts.{lacks_found, lacks_given}
 use Rattle.rule_document_definitions.specs.Verdict.{no_places}
 use Rattle.book_validity.specs.Words.{AreUnique, named}
+use Rattle.book_validity.specs.Coercion.{IsOfCorrectType}
 use Rattle.book_validity.specs.Arguments.{AreArgumentsValid}
 use Rattle.rule_document_definitions.proofs.Decided.{Decided, stable, names, tests, both, either}
 use Rattle.book_validity.proofs.Naming.{Fault, Quiet, is_there, there, not_there, is_false, unique_from, unique_never, unique_first, first_named, is_first_named}
+use Rattle.book_validity.proofs.CoercionFacts.{of_correct_type}
 use Rattle.book_validity.proofs.KeyFacts.{keys_quiet, quiet_keys}
 
 abbrev U : Type 0
@@ -43,8 +44,11 @@ module _ (s : Judged) (variables : Variables U) (t : Taker U) where
   abbrev pub ArgumentsBreak : Fault → Type 0
   ArgumentsBreak fault = GivenBreaks no_places.at s variables t.given fault ⊎ TakerBreaks no_places.at s variables t fault
 
-  abbrev accepted : (ty : TypeTree U) (v : _) → Accepts s variables ty v ↔ Quiet (ValueBreaks no_places.at s variables (record { it = ty; place = tt }) tt v)
-  accepted ty v = accepts_where_quiet U no_places.at s variables ty tt tt v
+  abbrev accepted : (ty : TypeTree U) (v : _) → IsOfCorrectType s variables ty v ↔ Quiet (ValueBreaks no_places.at s variables (record { it = ty; place = tt }) tt v)
+  accepted ty v =
+      let quiet = accepts_where_quiet U no_places.at s variables ty tt tt v in
+      let of_type = of_correct_type s variables ty v in
+      (λ h. quiet.0 (of_type.1 h), λ q. of_type.0 (quiet.1 q))
 
   pub arguments_quiet : AreArgumentsValid s variables t.definitions t.given → Quiet ArgumentsBreak
   arguments_quiet h fault (inl (inl r)) = unique_never argument_name t.given h.unique r

@@ -1,10 +1,8 @@
 -- Where pairs are of different fields and each set is looked at, the algorithm answers the same.
-use Rattle.std.proofs.Common.{◌≡◌, ◌⊎◌, ◌∙◌, ℕ, Bool, true, false, zero, suc, List, [], ◌∷◌, None, Some, bytes_eq, refl, sym, ap, subst, inl, inr, true≢false}
-use Rattle.std.specs.Option.{option_map_or}
-use Rattle.std.proofs.lemmas.Slice.Eq.{bytes_eq-Decides}
+use Rattle.std.proofs.Common.{◌≡◌, ◌⊎◌, ◌∙◌, ℕ, zero, suc, List, refl, sym, ap, subst, inl, inr}
 use Rattle.rule_definitions.specs.Judged.{Judged}
 use Rattle.rule_definitions.specs.Names.{named_in}
-use Rattle.rule_document_definitions.specs.Selected.{Position, InOperation, InFragment, SelectionAt, response_key, own}
+use Rattle.rule_document_definitions.specs.Selected.{response_key, own}
 use Rattle.rule_document_definitions.specs.PossibleTypes.{IsComposite}
 use Rattle.rule_document_definitions.specs.Named.{FragmentsFoundByName}
 use Rattle.rule_document_definitions.specs.SameValues.{SameArguments}
@@ -18,6 +16,7 @@ use Rattle.book_validity.specs.MergingLaws.{FieldsAreTyped}
 use Rattle.book_validity.proofs.TypeFacts.{unwrap, unwrapped, may_meet}
 use Rattle.book_validity.proofs.SetFacts.{IsReachedField, started, handed_down, merged_left, merged_right, none_below}
 use Rattle.book_validity.proofs.Back.{ends}
+use Rattle.book_validity.proofs.SamePosition.{same_or_not}
 
 -- ---- onward: of all pairs, so of different ones
 
@@ -39,64 +38,6 @@ module _ (s : Judged) (d : Document) where
 
   pub any_set : (o : Operation) → DoItsFieldsMerge s d o → AnySetCanMerge s d o
   any_set o all set reached n = fewer_sets n set (all set reached n)
-
--- ---- positions are the same or not
-
--- what kind of position it is
-abbrev form_of : Position → List ℕ
-form_of (InOperation None) = 0 ∷ []
-form_of (InOperation (Some n)) = 1 ∷ []
-form_of (InFragment n) = 2 ∷ []
-form_of (SelectionAt h i) = 3 ∷ []
-
-abbrev text_of : Position → List ℕ
-text_of (InOperation n) = option_map_or (λ t. t) n []
-text_of (InFragment n) = n
-text_of (SelectionAt h i) = i ∷ []
-
-abbrev inside_of : Position → Position
-inside_of (SelectionAt h i) = h
-inside_of p = p
-
-texts_same : (a b : List ℕ) → (a ≡ b) ⊎ (a ≡ b → ⊥)
-texts_same a b = by (bytes_eq a b) refl
-  where
-    by : (r : Bool) → bytes_eq a b ≡ r → (a ≡ b) ⊎ (a ≡ b → ⊥)
-    by true e = inl ((bytes_eq-Decides a b).0 e)
-    by false e = inr (λ s. true≢false (sym ((bytes_eq-Decides a b).1 s) ∙ e))
-
-apart : (p q : Position) → bytes_eq (form_of p) (form_of q) ≡ false → (p ≡ q) ⊎ (p ≡ q → ⊥)
-apart p q differ = inr (λ e. true≢false (sym ((bytes_eq-Decides (form_of p) (form_of q)).1 (ap form_of e)) ∙ differ))
-
-abbrev first_of : List ℕ → ℕ
-first_of [] = 0
-first_of (n ∷ ns) = n
-
-same_or_not : (p q : Position) → (p ≡ q) ⊎ (p ≡ q → ⊥)
-same_or_not (InOperation None) (InOperation None) = inl refl
-same_or_not (InOperation (Some a)) (InOperation (Some b)) = elim (texts_same a b) [ inl e ↦ inl (ap (λ n. InOperation (Some n)) e) | inr n ↦ inr (λ e. n (ap text_of e)) ]
-same_or_not (InFragment a) (InFragment b) = elim (texts_same a b) [ inl e ↦ inl (ap InFragment e) | inr n ↦ inr (λ e. n (ap text_of e)) ]
-same_or_not (SelectionAt h i) (SelectionAt k j) = by (same_or_not h k) (texts_same (i ∷ []) (j ∷ []))
-  where
-    head : (i ∷ []) ≡ (j ∷ []) → i ≡ j
-    head e = ap first_of e
-
-    by : (h ≡ k) ⊎ (h ≡ k → ⊥) → ((i ∷ []) ≡ (j ∷ [])) ⊎ ((i ∷ []) ≡ (j ∷ []) → ⊥) → (SelectionAt h i ≡ SelectionAt k j) ⊎ (SelectionAt h i ≡ SelectionAt k j → ⊥)
-    by (inl a) (inl b) = inl (ap (λ p. SelectionAt p i) a ∙ ap (SelectionAt k) (head b))
-    by (inr n) b = inr (λ e. n (ap inside_of e))
-    by (inl a) (inr n) = inr (λ e. n (ap text_of e))
-same_or_not (InOperation None) (InOperation (Some b)) = apart _ _ refl
-same_or_not (InOperation None) (InFragment b) = apart _ _ refl
-same_or_not (InOperation None) (SelectionAt k j) = apart _ _ refl
-same_or_not (InOperation (Some a)) (InOperation None) = apart _ _ refl
-same_or_not (InOperation (Some a)) (InFragment b) = apart _ _ refl
-same_or_not (InOperation (Some a)) (SelectionAt k j) = apart _ _ refl
-same_or_not (InFragment a) (InOperation None) = apart _ _ refl
-same_or_not (InFragment a) (InOperation (Some b)) = apart _ _ refl
-same_or_not (InFragment a) (SelectionAt k j) = apart _ _ refl
-same_or_not (SelectionAt h i) (InOperation None) = apart _ _ refl
-same_or_not (SelectionAt h i) (InOperation (Some b)) = apart _ _ refl
-same_or_not (SelectionAt h i) (InFragment b) = apart _ _ refl
 
 -- ---- back: two chains are in one set where they part, and again where they have come together
 

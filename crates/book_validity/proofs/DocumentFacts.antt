@@ -31,7 +31,7 @@ module _ (s : Judged) (d : Document) where
     operation o c =
         let r = quiet_reached s d o (λ fault b. q (OfData fault) (inl (o, (c, inr b)))) in
         record {
-          subscription = quiet_subscription d o (λ fault b. q (OfDocument fault) (inl (o, (c, b))));
+          subscription = quiet_subscription d o by_name (λ fault b. q (OfDocument fault) (inl (o, (c, b))));
           selections = r.selections;
           fragments = r.fragments;
           directives = r.directives;

@@ -1,12 +1,12 @@
 -- It is decided whether kinds, and references to types, are the same.
-use Rattle.std.proofs.Common.{◌≡◌, ℕ, List, [], ◌∷◌, refl, sym, ap, subst, ◌∙◌, Some, slice_get, get_or, Contains, inr}
+use Rattle.std.proofs.Common.{◌≡◌, ℕ, List, [], ◌∷◌, refl, sym, ap, ◌∙◌, Some, slice_get, get_or, inr}
 use Rattle.std.proofs.lemmas.Option.{same_Some}
 use Rattle.graphql_names.specs.Placed.{Text}
 use Rattle.tree_literals.specs.TypeTree.{TypeTree, NamedTree, NonNullNamedTree, ListTree, NonNullListTree}
 use Rattle.schema_types.specs.SchemaTree.{kind_number}
 use Rattle.schema_types.specs.declared.type_kind.TypeKind.{TypeKind}
 use Rattle.schema_types.specs.declared.type_kind.TypeKind.TheVariants as kind
-use Rattle.rule_document_definitions.proofs.Decided.{Decided, along, names, some_of}
+use Rattle.rule_document_definitions.proofs.Decided.{Decided, along, names}
 
 abbrev U : Type 0
 U = Unit {0}
@@ -48,6 +48,3 @@ type_or_not (NonNullNamedTree a) (NonNullNamedTree b) = along (ap NonNullNamedTr
 type_or_not (ListTree a) (ListTree b) = along (ap ListTree) (ap inner) (type_or_not a b)
 type_or_not (NonNullListTree a) (NonNullListTree b) = along (ap NonNullListTree) (ap inner) (type_or_not a b)
 type_or_not _ _ = inr (λ e. cc)
-
-pub among_names : (ns : List (List ℕ)) (n : List ℕ) → Decided (Contains ns n)
-among_names ns n = along (λ h. subst (Contains ns) h.1.1 h.1.0) (λ c. (n, (c, refl))) (some_of (λ k. k ≡ n) (λ k. names k n) ns)

@@ -1,13 +1,15 @@
 -- What definitions fold to behind what is built in: fields are of objects and interfaces, and what is built in is there.
-use Rattle.std.proofs.Common.{◌≡◌, ◌⊎◌, ◌∙◌, ℕ, Bool, true, false, List, [], ◌∷◌, ◌++◌, map, find, bytes_eq, Option, None, Some, option_map, option_to_list, ◌&&◌, not, Contains, codes, refl, sym, ap, subst, inl, inr, true≢false, is_some, if◌then◌else◌}
+use Rattle.std.proofs.Common.{◌≡◌, ◌⊎◌, ◌∙◌, ℕ, Bool, true, false, List, [], ◌∷◌, ◌++◌, map, filter, find, bytes_eq, Option, None, Some, option_map, option_to_list, ◌&&◌, not, Contains, codes, refl, sym, ap, subst, inl, inr, true≢false, is_some, is_none, if◌then◌else◌}
+use Rattle.std.proofs.lemmas.List.{append-nil}
+use Rattle.std.proofs.lemmas.List.Elements.{Contains-append_right}
 use Rattle.graphql_names.specs.Placed.{Placed, Place}
 use Rattle.tree_type_members.specs.TypeSystemTree.{FieldDefinitionTree, unplaced_field_definition}
 use Rattle.schema_components.specs.Lists.{firsts}
 use Rattle.schema_components.specs.Given.{Given, plain_given}
-use Rattle.schema_types.specs.SchemaTree.{SchemaTree, is_leaf_kind, is_output_kind}
+use Rattle.schema_types.specs.SchemaTree.{SchemaTree, SchemaType, is_leaf_kind, is_output_kind}
 use Rattle.schema_types.specs.Plain.{plain_type, plain}
 use Rattle.schema_types.specs.Looks.{TypeLooks, type_looks}
-use Rattle.schema_types.specs.Addresses.{under}
+use Rattle.schema_types.specs.Addresses.{under, type_at}
 use Rattle.schema_types.specs.BuiltIn.{built_in_definitions}
 use Rattle.schema_types.specs.TypeParts.{TypeDefinition, type_here}
 use Rattle.schema_types.specs.declared.type_kind.TypeKind.{TypeKind}
@@ -26,15 +28,16 @@ use Rattle.rule_selections.proofs.in_typing.TypedPlaces.{document-typed}
 use Rattle.rule_definitions.specs.Words.{Present}
 use Rattle.rule_definitions.specs.Judged.{judged}
 use Rattle.rule_definitions.specs.Names.{named_in, scalar_names}
-use Rattle.rule_definitions.specs.Kept.{validated}
+use Rattle.rule_definitions.specs.Kept.{built_in_scalar, is_referenced, is_missing, kept, validated}
 use Rattle.rule_definitions.specs.Rules.{SchemaRules}
 use Rattle.rule_definitions.proofs.Lookups.{find_given}
 use Rattle.rule_schema_laws.proofs.Validated.{named_type}
 use Rattle.rule_schema_laws.proofs.Distinct.{folds_distinct}
 use Rattle.rule_schema_laws.proofs.Fine.{here_is}
-use Rattle.rule_cycle_search.proofs.Lists.{not_in_nil, only, found_in, Contains-cons, mapped_some}
+use Rattle.rule_cycle_search.proofs.Lists.{not_in_nil, only, found_in, Contains-cons, Contains-first, mapped_some}
 use Rattle.rule_document_definitions.specs.PossibleTypes.{IsCompositeType}
 use Rattle.book_validity.specs.MergingLaws.{AcceptedMergesAsSpecified}
+use Rattle.book_validity.specs.Laws.{HasScalars}
 use Rattle.book_validity.proofs.Granted.{HasOutputFields, FieldsAreOfTheirKinds, HasBuiltIn}
 use Rattle.book_validity.proofs.Schemas.{output_fields}
 use Rattle.book_validity.proofs.Typed.{merging}
@@ -49,6 +52,10 @@ module _ {X V : Type 0} (key : X → List ℕ) (made : X → V) where
           ≡ option_map made (if b then Some x else find (λ y. bytes_eq n (key y)) xs)
       by true rest = refl
       by false rest = rest
+
+none_pass : {X : Type 0} (p : X → Bool) (xs : List X) → ((x : X) → Contains xs x → p x ≡ false) → filter p xs ≡ []
+none_pass p [] h = refl
+none_pass p (x ∷ xs) h = ap (λ (b : Bool). if b then x ∷ filter p xs else filter p xs) (h x (Contains-first x xs x refl)) ∙ none_pass p xs (λ y c. h y (Contains-append_right (x ∷ []) xs y c))
 
 module _ (first : ℕ) (texts : Definitions) where
   abbrev all : Definitions
@@ -119,6 +126,9 @@ module _ (first : ℕ) (texts : Definitions) where
     ]
   ]
 
+  pub has_scalars : HasScalars (judged schema)
+  has_scalars n c = ap is_some (scalars n c).1.0
+
   composite : (n : List ℕ) → option_map (λ (t : TypeDefinition Place). t.parts.kind) (defined n) ≡ Some kind.Object → Present ((judged schema).type_named n) IsCompositeType
   composite n e = let (t, (at, is)) = of_kind n kind.Object e in (t, (at, ap (λ k. is_output_kind k && not (is_leaf_kind k)) is))
 
@@ -150,6 +160,19 @@ module _ (first : ℕ) (texts : Definitions) where
         schema_there = composite (codes "__Schema") refl;
         type_there = composite (codes "__Type") refl;
       }
+
+  -- ---- none is missing, so none is put behind
+
+  none_missing : (n : List ℕ) → Contains scalar_names n → is_missing schema n ≡ false
+  none_missing n c =
+      let (t, (there, is)) = scalars n c in
+      let (v, (at, same)) = mapped_some (λ v. type_looks (plain_type v)) (type_at schema n) t (sym (named_type schema n) ∙ there) in
+      ap (λ (o : Option (SchemaType Place)). is_none o && is_referenced n schema) at
+
+  pub filtered : validated schema ≡ kept schema
+  filtered =
+      ap (λ ns. record (kept schema) { types = (kept schema).types ++ map built_in_scalar ns }) (none_pass (is_missing schema) scalar_names none_missing)
+      ∙ ap (λ ts. record (kept schema) { types = ts }) (append-nil (kept schema).types)
 
   output : SchemaRules (judged schema) → HasOutputFields (validated schema)
   output rules = output_fields schema (folds_distinct built_in_definitions first texts) kinds built_in rules

@@ -17,6 +17,7 @@ use Rattle.book_validity.specs.Words.{IsThere}
 use Rattle.book_validity.specs.Folding.{IsFoldable, HasApart, AreFoldable}
 use Rattle.book_validity.specs.Laws.{FoldedByTheBook}
 use Rattle.book_validity.proofs.Naming.{is_there, there, is_true, is_false}
+use Rattle.book_validity.proofs.ApartFacts.{components_apart, roots_apart}
 
 kind_is : (a b : TypeKind) → same_kind a b ≡ true → a ≡ b
 kind_is kind.Scalar kind.Scalar h = refl
@@ -38,10 +39,10 @@ module _ (built_in : Definitions) (first : ℕ) (texts : Definitions) where
   abbrev all : Definitions
   all = built_in ++ texts
 
-  module _ (h : AreFoldable built_in first texts) where
+  module _ (h : AreFoldable built_in texts) where
     -- parts of a type of that kind
-    of_kind : (k : TypeKind) (t : TypeDefinition Place) → Contains (firsts type_name (types_in all)) t → same_kind t.parts.kind k ≡ true → HasApart built_in first texts t k
-    of_kind k t c e = subst (HasApart built_in first texts t) (kind_is t.parts.kind k e) (h.parts t c)
+    of_kind : (k : TypeKind) (t : TypeDefinition Place) → Contains (firsts type_name (types_in all)) t → same_kind t.parts.kind k ≡ true → HasApart built_in texts t k
+    of_kind k t c e = subst (HasApart built_in texts t) (kind_is t.parts.kind k e) (h.parts t c)
 
     sound : FoldingRules built_in first texts
     sound fault (rule.executable_definition (before, (d, (at, b)))) = true≢false (sym b.0 ∙ (h.definitions before d at).of_schema)
@@ -55,14 +56,14 @@ module _ (built_in : Definitions) (first : ℕ) (texts : Definitions) where
     sound fault (rule.type_extension_kind_mismatch (before, (d, (at, (e, (t, b)))))) =
         let p = (h.definitions before d at).extends_type e b.0 in
         true≢false (sym p.1.1 ∙ ap (λ (x : TypeDefinition Place). same_kind x.parts.kind e.kind) (same_Some p.0 t (sym p.1.0 ∙ b.1)) ∙ b.2)
-    sound fault (rule.duplicate_root_operation (g, (r, told))) = h.roots g r
-    sound fault (rule.duplicate_implements_interface_in_object (t, (g, b))) = (of_kind kind.Object t b.0 b.1).0 g b.2
-    sound fault (rule.duplicate_implements_interface_in_interface (t, (g, b))) = (of_kind kind.Interface t b.0 b.1).0 g b.2
-    sound fault (rule.object_field_name_collision (t, (g, b))) = (of_kind kind.Object t b.0 b.1).1 g b.2
-    sound fault (rule.interface_field_name_collision (t, (g, b))) = (of_kind kind.Interface t b.0 b.1).1 g b.2
-    sound fault (rule.enum_value_name_collision (t, (g, b))) = of_kind kind.Enum t b.0 b.1 g b.2
-    sound fault (rule.union_member_name_collision (t, (g, b))) = of_kind kind.Union t b.0 b.1 g b.2
-    sound fault (rule.input_field_name_collision (t, (g, b))) = of_kind kind.InputObject t b.0 b.1 g b.2
+    sound fault (rule.duplicate_root_operation (g, (r, told))) = (roots_apart built_in first texts).1 h.roots g r
+    sound fault (rule.duplicate_implements_interface_in_object (t, (g, b))) = (components_apart built_in first texts t (λ p. p.interfaces) (λ i. i.it)).1 (of_kind kind.Object t b.0 b.1).0 g b.2
+    sound fault (rule.duplicate_implements_interface_in_interface (t, (g, b))) = (components_apart built_in first texts t (λ p. p.interfaces) (λ i. i.it)).1 (of_kind kind.Interface t b.0 b.1).0 g b.2
+    sound fault (rule.object_field_name_collision (t, (g, b))) = (components_apart built_in first texts t (λ p. p.fields) (λ f. f.it.name.it)).1 (of_kind kind.Object t b.0 b.1).1 g b.2
+    sound fault (rule.interface_field_name_collision (t, (g, b))) = (components_apart built_in first texts t (λ p. p.fields) (λ f. f.it.name.it)).1 (of_kind kind.Interface t b.0 b.1).1 g b.2
+    sound fault (rule.enum_value_name_collision (t, (g, b))) = (components_apart built_in first texts t (λ p. p.values) (λ v. v.it.value.it)).1 (of_kind kind.Enum t b.0 b.1) g b.2
+    sound fault (rule.union_member_name_collision (t, (g, b))) = (components_apart built_in first texts t (λ p. p.members) (λ m. m.it)).1 (of_kind kind.Union t b.0 b.1) g b.2
+    sound fault (rule.input_field_name_collision (t, (g, b))) = (components_apart built_in first texts t (λ p. p.inputs) (λ f. f.it.name.it)).1 (of_kind kind.InputObject t b.0 b.1) g b.2
 
   module _ (q : FoldingRules built_in first texts) where
     not_second : (before : Definitions) (d : DefinitionTree Place) → StandsAfter texts before d → (t : TypeDefinition Place) → type_here d ≡ Some t → (s : Bool) → is_built_in_scalar built_in texts (type_name t) ≡ s
@@ -70,7 +71,7 @@ module _ (built_in : Definitions) (first : ℕ) (texts : Definitions) where
     not_second before d at t e true s has = q _ (rule.built_in_scalar_type_redefinition (before, (d, (at, (t, ((e, has), s, refl))))))
     not_second before d at t e false s has = q _ (rule.type_definition_collision (before, (d, (at, (t, ((e, has), s, refl))))))
 
-    definition : (before : Definitions) (d : DefinitionTree Place) → StandsAfter texts before d → IsFoldable built_in first texts before d
+    definition : (before : Definitions) (d : DefinitionTree Place) → StandsAfter texts before d → IsFoldable built_in texts before d
     definition before d at = record {
       of_schema = is_false (is_executable d) (λ e. q _ (rule.executable_definition (before, (d, (at, (e, refl))))));
       one_schema = λ here. none_of (schema_definition_in before) (λ e. q _ (rule.schema_definition_collision (before, (d, (at, (here, e, refl))))));
@@ -82,13 +83,19 @@ module _ (built_in : Definitions) (first : ℕ) (texts : Definitions) where
           (t, (is, is_true (same_kind t.parts.kind e.kind) (λ other. q _ (rule.type_extension_kind_mismatch (before, (d, (at, (e, (t, (here, is, other, refl))))))))));
     }
 
-    parts : (t : TypeDefinition Place) → Contains (firsts type_name (types_in all)) t → (k : TypeKind) → same_kind t.parts.kind k ≡ true → HasApart built_in first texts t k
+    parts : (t : TypeDefinition Place) → Contains (firsts type_name (types_in all)) t → (k : TypeKind) → same_kind t.parts.kind k ≡ true → HasApart built_in texts t k
     parts t c kind.Scalar e = tt
-    parts t c kind.Object e = ((λ g r. q _ (rule.duplicate_implements_interface_in_object (t, (g, (c, e, r, refl))))), (λ g r. q _ (rule.object_field_name_collision (t, (g, (c, e, r, refl))))))
-    parts t c kind.Interface e = ((λ g r. q _ (rule.duplicate_implements_interface_in_interface (t, (g, (c, e, r, refl))))), (λ g r. q _ (rule.interface_field_name_collision (t, (g, (c, e, r, refl))))))
-    parts t c kind.Union e = λ g r. q _ (rule.union_member_name_collision (t, (g, (c, e, r, refl))))
-    parts t c kind.Enum e = λ g r. q _ (rule.enum_value_name_collision (t, (g, (c, e, r, refl))))
-    parts t c kind.InputObject e = λ g r. q _ (rule.input_field_name_collision (t, (g, (c, e, r, refl))))
+    parts t c kind.Object e = (
+      (components_apart built_in first texts t (λ p. p.interfaces) (λ i. i.it)).0 (λ g r. q _ (rule.duplicate_implements_interface_in_object (t, (g, (c, e, r, refl))))),
+      (components_apart built_in first texts t (λ p. p.fields) (λ f. f.it.name.it)).0 (λ g r. q _ (rule.object_field_name_collision (t, (g, (c, e, r, refl))))),
+    )
+    parts t c kind.Interface e = (
+      (components_apart built_in first texts t (λ p. p.interfaces) (λ i. i.it)).0 (λ g r. q _ (rule.duplicate_implements_interface_in_interface (t, (g, (c, e, r, refl))))),
+      (components_apart built_in first texts t (λ p. p.fields) (λ f. f.it.name.it)).0 (λ g r. q _ (rule.interface_field_name_collision (t, (g, (c, e, r, refl))))),
+    )
+    parts t c kind.Union e = (components_apart built_in first texts t (λ p. p.members) (λ m. m.it)).0 (λ g r. q _ (rule.union_member_name_collision (t, (g, (c, e, r, refl)))))
+    parts t c kind.Enum e = (components_apart built_in first texts t (λ p. p.values) (λ v. v.it.value.it)).0 (λ g r. q _ (rule.enum_value_name_collision (t, (g, (c, e, r, refl)))))
+    parts t c kind.InputObject e = (components_apart built_in first texts t (λ p. p.inputs) (λ f. f.it.name.it)).0 (λ g r. q _ (rule.input_field_name_collision (t, (g, (c, e, r, refl)))))
 
     itself : (k : TypeKind) → same_kind k k ≡ true
     itself kind.Scalar = refl
@@ -98,10 +105,10 @@ module _ (built_in : Definitions) (first : ℕ) (texts : Definitions) where
     itself kind.Enum = refl
     itself kind.InputObject = refl
 
-    complete : AreFoldable built_in first texts
+    complete : AreFoldable built_in texts
     complete = record {
       definitions = definition;
-      roots = λ g r. q _ (rule.duplicate_root_operation (g, (r, refl)));
+      roots = (roots_apart built_in first texts).0 (λ g r. q _ (rule.duplicate_root_operation (g, (r, refl))));
       parts = λ t c. parts t c t.parts.kind (itself t.parts.kind);
     }
 

@@ -8,14 +8,17 @@ pub mod Granted
 pub mod Typed
 pub mod Schemas
 pub mod Folded
+pub mod SamePosition
 pub mod Different
 pub mod Naming
 pub mod KeyFacts
+pub mod CoercionFacts
 pub mod ArgumentFacts
 pub mod DirectiveFacts
 pub mod VariableFacts
 pub mod SelectionFacts
 pub mod FragmentFacts
+pub mod RootFacts
 pub mod OperationFacts
 pub mod DocumentFacts
 pub mod FieldSetFacts
@@ -28,6 +31,7 @@ pub mod ByName
 pub mod AcceptedFacts
 pub mod TypingFacts
 pub mod DocumentTyped
+pub mod ApartFacts
 pub mod FoldingFacts
 pub mod RefusedFacts
 pub mod ExceptionFacts

@@ -1,12 +1,15 @@
 -- What leads back to itself by references, each with its place, leads back to itself by the steps of the book.
-use Rattle.std.proofs.Common.{List, [], ◌∷◌, ◌++◌, refl, sym, subst, None, inl, inr}
+use Rattle.std.proofs.Common.{◌≡◌, ◌⊎◌, ℕ, List, [], ◌∷◌, ◌++◌, refl, sym, ap, subst, None, inl, inr}
+use Rattle.tree_directives.specs.DirectiveTree.{InputValueTree}
 use Rattle.rule_cycle_search.specs.Paths.{Leads}
 use Rattle.rule_definitions.specs.Judged.{Judged, applied_directives}
+use Rattle.rule_definitions.specs.Names.{named_in}
 use Rattle.rule_definitions.specs.Things.{Thing, ADirective, AType}
 use Rattle.rule_definitions.specs.Cycles.{RefersToInput, RefersByUse, RefersByInput, Refers}
 use Rattle.rule_document_definitions.specs.Reached.{Closed, first, next}
 use Rattle.book_validity.specs.Types.{Requires}
-use Rattle.book_validity.specs.Schema.{Uses, UsesByInput, References}
+use Rattle.book_validity.specs.Words.{IsThere}
+use Rattle.book_validity.specs.Schema.{Applies, IsOf, References, by_directive_of_argument, by_type_of_argument, by_directive_of_definition, by_directive_of_type, by_directive_of_value, by_directive_of_input_field, by_type_of_input_field}
 
 module _ {X R : Type 0} (By : X → R → X → Type 0) (Step : X → X → Type 0) where
   module _ (step : (x : X) (by : R) (y : X) → By x by y → Step x y) (start : X) where
@@ -36,30 +39,46 @@ module _ (s : Judged) where
   pub input_back : (n m : _) → Requires s n m → (by : _) × RefersToInput s n by m
   input_back n m h = let (t, (e, (k, (i, (v, (has, refers)))))) = h.from in (_, (t, (e, (k, ((i, (v, (has, (refl, refers)))), h.to)))))
 
-  use_step : (holder : _) (ds : _) (by : _) (to : Thing) → RefersByUse s holder ds by to → Uses s ds to
-  use_step holder ds by to (i, (d, (e, (is, there)))) = (i, (d, (e, there)))
+  -- ---- what a directive or type refers to
 
-  use_back : (holder : _) (ds : _) (to : Thing) → Uses s ds to → (by : _) × RefersByUse s holder ds by to
-  use_back holder ds to (i, (d, (e, there))) = (_, (i, (d, (e, (refl, there)))))
+  applied_step : (holder : _) (ds : _) (by : _) (to : Thing) → RefersByUse s holder ds by to → (m : List ℕ) × ((to ≡ ADirective m) × Applies s ds m)
+  applied_step holder ds by to (i, (d, (e, (is, (same, there))))) = (d.name.it, (same, ((i, (d, (e, refl))), there)))
 
-  by_input_step : (at : _) (v : _) (by : _) (to : Thing) → RefersByInput s at v by to → UsesByInput s v to
-  by_input_step at v by to (inl u) = inl (use_step at (applied_directives v.directives) by to u)
-  by_input_step at v by to (inr (is, r)) = inr r
+  applied_back : (holder : _) (ds : _) (m : List ℕ) → Applies s ds m → (by : _) × RefersByUse s holder ds by (ADirective m)
+  applied_back holder ds m ((i, (d, (e, same))), there) = (_, (i, (d, (e, (refl, (ap ADirective (sym same), subst (λ k. IsThere (s.directive k)) (sym same) there))))))
 
-  by_input_back : (at : _) (v : _) (to : Thing) → UsesByInput s v to → (by : _) × RefersByInput s at v by to
-  by_input_back at v to (inl u) = let b = use_back at (applied_directives v.directives) to u in (b.0, inl b.1)
-  by_input_back at v to (inr r) = (None, inr (refl, r))
+  -- an argument or input field, by a directive or its type
+  by_input_step : (at : _) (v : InputValueTree (Unit {0})) (by : _) (to : Thing) → RefersByInput s at v by to → (m : List ℕ) × (((to ≡ ADirective m) × Applies s (applied_directives v.directives) m) ⊎ ((to ≡ AType m) × IsOf s v m))
+  by_input_step at v by to (inl u) = let (m, used) = applied_step at (applied_directives v.directives) by to u in (m, inl used)
+  by_input_step at v by to (inr (is, (same, there))) = (named_in v.ty.it, inr (same, (refl, there)))
+
+  by_directive_back : (at : _) (v : InputValueTree (Unit {0})) (m : List ℕ) → Applies s (applied_directives v.directives) m → (by : _) × RefersByInput s at v by (ADirective m)
+  by_directive_back at v m u = let b = applied_back at (applied_directives v.directives) m u in (b.0, inl b.1)
+
+  by_type_back : (at : _) (v : InputValueTree (Unit {0})) (m : List ℕ) → IsOf s v m → (by : _) × RefersByInput s at v by (AType m)
+  by_type_back at v m (same, there) = (None, inr (refl, (ap AType (sym same), subst (λ k. IsThere (s.type_named k)) (sym same) there)))
 
   pub reference_step : (x : Thing) (by : _) (y : Thing) → Refers s x by y → References s x y
-  reference_step (ADirective n) by y (d, (e, inl (i, (v, (a, r))))) = (d, (e, inl (i, (v, (a, by_input_step _ v.it by y r)))))
-  reference_step (ADirective n) by y (d, (e, inr u)) = (d, (e, inr (use_step _ (applied_directives d.directives) by y u)))
-  reference_step (AType n) by y (t, (e, inl u)) = (t, (e, inl (use_step _ t.directives by y u)))
-  reference_step (AType n) by y (t, (e, inr (inl (m, (v, (a, u)))))) = (t, (e, inr (inl (m, (v, (a, use_step _ (applied_directives v.directives) by y u))))))
-  reference_step (AType n) by y (t, (e, inr (inr (m, (v, (a, r)))))) = (t, (e, inr (inr (m, (v, (a, by_input_step _ v by y r))))))
+  reference_step (ADirective n) by y (d, (e, inl (i, (v, (a, r))))) = let (m, ways) = by_input_step _ v.it by y r in elim ways [
+    | inl u ↦ subst (References s (ADirective n)) (sym u.0) (by_directive_of_argument (d, (e, (i, (v, (a, u.1))))))
+    | inr u ↦ subst (References s (ADirective n)) (sym u.0) (by_type_of_argument (d, (e, (i, (v, (a, u.1))))))
+  ]
+  reference_step (ADirective n) by y (d, (e, inr u)) =
+      let (m, (same, used)) = applied_step _ (applied_directives d.directives) by y u in subst (References s (ADirective n)) (sym same) (by_directive_of_definition (d, (e, used)))
+  reference_step (AType n) by y (t, (e, inl u)) =
+      let (m, (same, used)) = applied_step _ t.directives by y u in subst (References s (AType n)) (sym same) (by_directive_of_type (t, (e, used)))
+  reference_step (AType n) by y (t, (e, inr (inl (k, (v, (a, u)))))) =
+      let (m, (same, used)) = applied_step _ (applied_directives v.directives) by y u in subst (References s (AType n)) (sym same) (by_directive_of_value (t, (e, (k, (v, (a, used))))))
+  reference_step (AType n) by y (t, (e, inr (inr (k, (v, (a, r)))))) = let (m, ways) = by_input_step _ v by y r in elim ways [
+    | inl u ↦ subst (References s (AType n)) (sym u.0) (by_directive_of_input_field (t, (e, (k, (v, (a, u.1))))))
+    | inr u ↦ subst (References s (AType n)) (sym u.0) (by_type_of_input_field (t, (e, (k, (v, (a, u.1))))))
+  ]
 
   pub reference_back : (x y : Thing) → References s x y → (by : _) × Refers s x by y
-  reference_back (ADirective n) y (d, (e, inl (i, (v, (a, r))))) = let b = by_input_back _ v.it y r in (b.0, (d, (e, inl (i, (v, (a, b.1))))))
-  reference_back (ADirective n) y (d, (e, inr u)) = let b = use_back _ (applied_directives d.directives) y u in (b.0, (d, (e, inr b.1)))
-  reference_back (AType n) y (t, (e, inl u)) = let b = use_back _ t.directives y u in (b.0, (t, (e, inl b.1)))
-  reference_back (AType n) y (t, (e, inr (inl (m, (v, (a, u)))))) = let b = use_back _ (applied_directives v.directives) y u in (b.0, (t, (e, inr (inl (m, (v, (a, b.1)))))))
-  reference_back (AType n) y (t, (e, inr (inr (m, (v, (a, r)))))) = let b = by_input_back _ v y r in (b.0, (t, (e, inr (inr (m, (v, (a, b.1)))))))
+  reference_back x y (by_directive_of_argument {n = n} {m = m} (d, (e, (i, (v, (a, u)))))) = let b = by_directive_back _ v.it m u in (b.0, (d, (e, inl (i, (v, (a, b.1))))))
+  reference_back x y (by_type_of_argument {n = n} {m = m} (d, (e, (i, (v, (a, u)))))) = let b = by_type_back _ v.it m u in (b.0, (d, (e, inl (i, (v, (a, b.1))))))
+  reference_back x y (by_directive_of_definition {n = n} {m = m} (d, (e, u))) = let b = applied_back _ (applied_directives d.directives) m u in (b.0, (d, (e, inr b.1)))
+  reference_back x y (by_directive_of_type {n = n} {m = m} (t, (e, u))) = let b = applied_back _ t.directives m u in (b.0, (t, (e, inl b.1)))
+  reference_back x y (by_directive_of_value {n = n} {m = m} (t, (e, (k, (v, (a, u)))))) = let b = applied_back _ (applied_directives v.directives) m u in (b.0, (t, (e, inr (inl (k, (v, (a, b.1)))))))
+  reference_back x y (by_directive_of_input_field {n = n} {m = m} (t, (e, (k, (v, (a, u)))))) = let b = by_directive_back _ v m u in (b.0, (t, (e, inr (inr (k, (v, (a, b.1)))))))
+  reference_back x y (by_type_of_input_field {n = n} {m = m} (t, (e, (k, (v, (a, u)))))) = let b = by_type_back _ v m u in (b.0, (t, (e, inr (inr (k, (v, (a, b.1)))))))

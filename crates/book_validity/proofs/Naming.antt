@@ -12,13 +12,13 @@ Fault = FaultAt (Unit {0}) (Unit {0})
 abbrev pub Quiet : (Fault → Type 0) → Type 0
 Quiet Breaks = (fault : Fault) → Breaks fault → ⊥
 
-same_index : (a b : ℕ) → (a < b → ⊥) → (b < a → ⊥) → a ≡ b
+pub same_index : (a b : ℕ) → (a < b → ⊥) → (b < a → ⊥) → a ≡ b
 same_index zero zero h k = refl
 same_index zero (suc b) h k = absurd (h (omega arith))
 same_index (suc a) zero h k = absurd (k (omega arith))
 same_index (suc a) (suc b) h k = ap suc (same_index a b (λ l. h (omega (arith, l))) (λ l. k (omega (arith, l))))
 
-not_below : {A : Type 0} (i j : ℕ) → i ≡ j → i < j → A
+pub not_below : {A : Type 0} (i j : ℕ) → i ≡ j → i < j → A
 not_below i j e l = absurd (omega (arith, e, l))
 
 pub is_there : {X : Type 0} (o : Option X) → (o ≡ None → ⊥) → IsThere o

@@ -1,5 +1,5 @@
 -- Subscriptions and the uses of @defer are valid exactly where no rule on them is broken.
-use Rattle.std.proofs.Common.{◌≡◌, ℕ, ◌<◌, ◌≤◌, Bool, false, length, refl, sym, ap, ◌∙◌, Option, None, Some, inl, inr, is_some, true≢false, arith}
+use Rattle.std.proofs.Common.{◌≡◌, Bool, false, refl, sym, ap, ◌∙◌, Option, None, Some, inl, inr, is_some, true≢false}
 use Rattle.std.proofs.lemmas.Option.{same_Some}
 use Rattle.graphql_names.specs.Placed.{Placed}
 use Rattle.tree_literals.specs.ValueQueries.{variable_name}
@@ -9,6 +9,7 @@ use Rattle.rule_definitions.specs.Words.{Present}
 use Rattle.rule_definitions.proofs.Lists.{index_found, index_given}
 use Rattle.rule_document_definitions.specs.DocumentFaults.{Broken}
 use Rattle.rule_document_definitions.specs.Selected.{selection_directives}
+use Rattle.rule_document_definitions.specs.Named.{FragmentsFoundByName}
 use Rattle.rule_document_definitions.specs.Subscriptions.{SubscriptionBreaks}
 use Rattle.rule_document_definitions.specs.DeferUses.{defers, labels, string_labels, given_if, literal_if, IsConditional}
 use Rattle.rule_document_definitions.specs.Defer.{DeferBreaks, LabelsBreak}
@@ -17,6 +18,7 @@ use Rattle.book_validity.specs.Subscriptions.{IsValidSubscription}
 use Rattle.book_validity.specs.Defer.{AreDefersValid, AreLabelsValid}
 use Rattle.rule_document_definitions.proofs.Decided.{Decided, stable, along, either, tests, present}
 use Rattle.book_validity.proofs.Naming.{unique_from, unique_never}
+use Rattle.book_validity.proofs.RootFacts.{at_most_one, one_of_all}
 
 abbrev U : Type 0
 U = Unit {0}
@@ -27,20 +29,14 @@ Silent Breaks = (fault : Broken U) → Breaks fault → ⊥
 module _ (d : Document) (o : Operation) where
   -- ---- subscriptions
 
-  at_most_one : (n : ℕ) → (1 < n → ⊥) → n ≤ 1
-  at_most_one n h = omega (arith, h)
-
-  not_more : {A : Type 0} (n : ℕ) → n ≤ 1 → 1 < n → A
-  not_more n h l = absurd (omega (arith, h, l))
-
   pub subscription_quiet : (o.operation_type ≡ operation.Subscription → IsValidSubscription d o) → Silent (SubscriptionBreaks d o)
-  subscription_quiet h fault (is, inl (fs, (are, (more, told)))) = not_more (length fs) ((h is).single fs are) more
+  subscription_quiet h fault (is, inl (fs, (are, (more, told)))) = at_most_one d o (h is).single fs are more
   subscription_quiet h fault (is, inr (inl (f, (root, (meta, told))))) = (h is).no_introspection f root meta
   subscription_quiet h fault (is, inr (inr (x, (r, (i, (e, (a, (one, told)))))))) = (h is).unconditional x r e (index_given (selection_directives x.it) i e a) one
 
-  pub quiet_subscription : Silent (SubscriptionBreaks d o) → o.operation_type ≡ operation.Subscription → IsValidSubscription d o
-  quiet_subscription q is = record {
-    single = λ fs are. at_most_one (length fs) (λ more. q _ (is, inl (fs, (are, (more, refl)))));
+  pub quiet_subscription : FragmentsFoundByName d → Silent (SubscriptionBreaks d o) → o.operation_type ≡ operation.Subscription → IsValidSubscription d o
+  quiet_subscription by_name q is = record {
+    single = one_of_all d o by_name (λ fs are more. q _ (is, inl (fs, (are, (more, refl)))));
     no_introspection = λ f root meta. q _ (is, inr (inl (f, (root, (meta, refl)))));
     unconditional = λ x r e c one. let (i, a) = index_found (selection_directives x.it) e c in q _ (is, inr (inr (x, (r, (i, (e, (a, (one, refl))))))));
   }

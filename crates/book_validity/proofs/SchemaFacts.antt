@@ -30,10 +30,10 @@ use Rattle.book_validity.specs.Members.{IsNameAllowed, IsOfKind, AreArgumentDefi
 use Rattle.book_validity.specs.Interfaces.{IsValidImplementation, IsValidImplementationField}
 use Rattle.book_validity.specs.Types.{HasParts, Requires, IsValidType}
 use Rattle.book_validity.specs.Schema.{References, IsValidSchema}
-use Rattle.book_validity.specs.Laws.{SchemaRulesHoldByTheBook}
+use Rattle.book_validity.specs.Laws.{HasScalars, SchemaRulesHoldByTheBook}
 use Rattle.rule_document_definitions.proofs.Decided.{stable, present}
 use Rattle.book_validity.proofs.Naming.{is_there, there, not_there, is_true, is_false, unique_from, unique_never, first_named, found_index}
-use Rattle.book_validity.proofs.Equal.{kind_or_not, type_or_not, among_names}
+use Rattle.book_validity.proofs.Equal.{kind_or_not, type_or_not}
 use Rattle.book_validity.proofs.Spotted.{applied_quiet, quiet_applied}
 use Rattle.book_validity.proofs.Loops.{leads_on, leads_back, input_step, input_back, reference_step, reference_back}
 
@@ -46,21 +46,19 @@ absent o x is none = absurd (true≢false (sym (ap is_some is) ∙ ap is_some no
 module _ (s : Judged) where
   -- ---- kinds of types that are named
 
-  -- a type that is not there has the name of a built-in scalar, and one that is there has the kind
-  of_kind : (test : TypeKind → Bool) (n : List ℕ) → (s.type_named n ≡ None → (Contains scalar_names n → ⊥) → ⊥) → ((t : TypeLooks) → s.type_named n ≡ Some t → test t.kind ≡ false → ⊥) → IsOfKind s test n
-  of_kind test n known fits = by (s.type_named n) refl
+  -- a type that is not there has not the name of a built-in scalar, and one that is there has the kind
+  of_kind : HasScalars s → (test : TypeKind → Bool) (n : List ℕ) → (s.type_named n ≡ None → (Contains scalar_names n → ⊥) → ⊥) → ((t : TypeLooks) → s.type_named n ≡ Some t → test t.kind ≡ false → ⊥) → IsOfKind s test n
+  of_kind scalars test n known fits = by (s.type_named n) refl
     where
       by : (o : Option TypeLooks) → s.type_named n ≡ o → IsOfKind s test n
-      by None e = inr (e, stable (among_names scalar_names n) (known e))
-      by (Some t) e = inl (t, (e, is_true (test t.kind) (fits t e)))
+      by None e = absurd (known e (λ c. not_there (s.type_named n) (scalars n c) e))
+      by (Some t) e = (t, (e, is_true (test t.kind) (fits t e)))
 
-  kind_known : {A : Type 0} (test : TypeKind → Bool) (n : List ℕ) → IsOfKind s test n → s.type_named n ≡ None → (Contains scalar_names n → ⊥) → A
-  kind_known test n (inl (t, (e, k))) none out = absent (s.type_named n) t e none
-  kind_known test n (inr (none, c)) _ out = absurd (out c)
+  kind_known : {A : Type 0} (test : TypeKind → Bool) (n : List ℕ) → IsOfKind s test n → s.type_named n ≡ None → A
+  kind_known test n (t, (e, k)) none = absent (s.type_named n) t e none
 
   kind_fits : {A : Type 0} (test : TypeKind → Bool) (n : List ℕ) → IsOfKind s test n → (t : TypeLooks) → s.type_named n ≡ Some t → test t.kind ≡ false → A
-  kind_fits test n (inl (t, (e, k))) u is out = absurd (true≢false (sym k ∙ ap (λ (x : TypeLooks). test x.kind) (same_Some t u (sym e ∙ is)) ∙ out))
-  kind_fits test n (inr (none, c)) u is out = absent (s.type_named n) u is none
+  kind_fits test n (t, (e, k)) u is out = absurd (true≢false (sym k ∙ ap (λ (x : TypeLooks). test x.kind) (same_Some t u (sym e ∙ is)) ∙ out))
 
   -- the type is there and of one kind
   is_of : (k : TypeKind) (n : List ℕ) → (s.type_named n ≡ None → ⊥) → ((t : TypeLooks) → s.type_named n ≡ Some t → (t.kind ≡ k → ⊥) → ⊥) → Present (s.type_named n) (λ t. t.kind ≡ k)
@@ -93,13 +91,13 @@ module _ (s : Judged) where
             not_allowed (ArgumentAt (DirectiveDefinitionAt n) i) (input_name v) ((h.directives n d e).arguments.each i v c).allowed b r
         names (inr (inr (inr (inr (inl (n, (t, (e, (m, (v, (a, (b, (r, told))))))))))))) = not_allowed (InputAt n m) m ((h.types n t e).inputs m v a).allowed b r
         names (inr (inr (inr (inr (inr (n, (t, (e, (m, (v, (a, (b, (r, told))))))))))))) = not_allowed (ValueAt n m) m ((h.types n t e).values m v a).allowed b r
-    references fault (inr (inr (inr (inr (inr (inl (n, (t, (e, (m, (f, (a, (none, (out, told)))))))))))))) = kind_known is_output_kind (named_in f.ty) ((h.types n t e).fields m f a).output_type none out
+    references fault (inr (inr (inr (inr (inr (inl (n, (t, (e, (m, (f, (a, (none, (out, told)))))))))))))) = kind_known is_output_kind (named_in f.ty) ((h.types n t e).fields m f a).output_type none
     references fault (inr (inr (inr (inr (inr (inr (inl (inl (inl (n, (t, (e, (m, (f, (a, (i, (v, (c, (none, (out, told)))))))))))))))))))) =
-        kind_known is_input_kind (named_in v.it.ty.it) (((h.types n t e).fields m f a).arguments.each i v c).input_type none out
+        kind_known is_input_kind (named_in v.it.ty.it) (((h.types n t e).fields m f a).arguments.each i v c).input_type none
     references fault (inr (inr (inr (inr (inr (inr (inl (inl (inr (n, (d, (e, (i, (v, (c, (none, (out, told))))))))))))))))) =
-        kind_known is_input_kind (named_in v.it.ty.it) ((h.directives n d e).arguments.each i v c).input_type none out
+        kind_known is_input_kind (named_in v.it.ty.it) ((h.directives n d e).arguments.each i v c).input_type none
     references fault (inr (inr (inr (inr (inr (inr (inl (inr (n, (t, (e, (m, (v, (a, (none, (out, told)))))))))))))))) =
-        kind_known is_input_kind (named_in v.ty.it) ((h.types n t e).inputs m v a).input_type none out
+        kind_known is_input_kind (named_in v.ty.it) ((h.types n t e).inputs m v a).input_type none
     references fault (inr (inr (inr (inr (inr (inr (inr (inl (n, (t, (e, (m, (a, (none, told)))))))))))))) = let (u, (f, k)) = (h.types n t e).members m a in absent (s.type_named m) u f none
     references fault (inr (inr (inr (inr (inr (inr (inr (inr (inl (n, (t, (e, (m, (f, (a, (u, (is, (out, told)))))))))))))))))) = kind_fits is_output_kind (named_in f.ty) ((h.types n t e).fields m f a).output_type u is out
     references fault (inr (inr (inr (inr (inr (inr (inr (inr (inr (inl (inl (inl (n, (t, (e, (m, (f, (a, (i, (v, (c, (u, (is, (out, told)))))))))))))))))))))))) =
@@ -180,7 +178,7 @@ module _ (s : Judged) where
 
   -- ---- from no fault to a yes
 
-  module _ (q : SchemaRules s) where
+  module _ (scalars : HasScalars s) (q : SchemaRules s) where
     query_given : (fault : SchemaFault) → QueryRootOperationTypeAt s fault → ⊥
     query_given fault b = q fault (inl (inl b))
 
@@ -239,7 +237,7 @@ module _ (s : Judged) where
       unique = unique_from input_name f.arguments (λ r. arguments_differ _ (inl (n, (t, (e, (m, (f, (a, (r.0, (r.1.0, (r.1.1.0, (r.1.1.1.0, (r.1.1.1.1.0, (r.1.1.1.1.1.0, (r.1.1.1.1.1.1.0, (r.1.1.1.1.1.1.1.0, (r.1.1.1.1.1.1.1.1.0, refl)))))))))))))))));
       each = λ i v c. record {
         allowed = name_allowed (ArgumentAt (FieldAt n m) i) (input_name v) (λ outside r. reserved _ (inr (inr (inr (inl (inl (n, (t, (e, (m, (f, (a, (i, (v, (c, (outside, (r, refl)))))))))))))))));
-        input_type = of_kind is_input_kind (named_in v.it.ty.it)
+        input_type = of_kind scalars is_input_kind (named_in v.it.ty.it)
             (λ none out. input_known _ (inl (inl (n, (t, (e, (m, (f, (a, (i, (v, (c, (none, (out, refl))))))))))))))
             (λ u is out. input_fits _ (inl (inl (n, (t, (e, (m, (f, (a, (i, (v, (c, (u, (is, (out, refl)))))))))))))));
         directives = quiet_applied s location.ArgumentDefinition (applied_directives v.it.directives) (ArgumentAt (FieldAt n m) i)
@@ -252,7 +250,7 @@ module _ (s : Judged) where
       unique = unique_from input_name d.arguments (λ r. arguments_differ _ (inr (n, (d, (e, (r.0, (r.1.0, (r.1.1.0, (r.1.1.1.0, (r.1.1.1.1.0, (r.1.1.1.1.1.0, (r.1.1.1.1.1.1.0, (r.1.1.1.1.1.1.1.0, (r.1.1.1.1.1.1.1.1.0, refl))))))))))))));
       each = λ i v c. record {
         allowed = name_allowed (ArgumentAt (DirectiveDefinitionAt n) i) (input_name v) (λ outside r. reserved _ (inr (inr (inr (inl (inr (n, (d, (e, (i, (v, (c, (outside, (r, refl))))))))))))));
-        input_type = of_kind is_input_kind (named_in v.it.ty.it)
+        input_type = of_kind scalars is_input_kind (named_in v.it.ty.it)
             (λ none out. input_known _ (inl (inr (n, (d, (e, (i, (v, (c, (none, (out, refl)))))))))))
             (λ u is out. input_fits _ (inl (inr (n, (d, (e, (i, (v, (c, (u, (is, (out, refl))))))))))));
         directives = quiet_applied s location.ArgumentDefinition (applied_directives v.it.directives) (ArgumentAt (DirectiveDefinitionAt n) i)
@@ -274,7 +272,7 @@ module _ (s : Judged) where
       field : (m : List ℕ) (f : FieldDefinitionTree U) → t.field m ≡ Some f → IsValidFieldDefinition s n m f
       field m f a = record {
         allowed = name_allowed (FieldAt n m) m (λ outside r. reserved _ (inr (inr (inl (n, (t, (e, (m, (f, (a, (outside, (r, refl))))))))))));
-        output_type = of_kind is_output_kind (named_in f.ty)
+        output_type = of_kind scalars is_output_kind (named_in f.ty)
             (λ none out. field_known _ (n, (t, (e, (m, (f, (a, (none, (out, refl)))))))))
             (λ u is out. output_fits _ (n, (t, (e, (m, (f, (a, (u, (is, (out, refl))))))))));
         arguments = field_arguments n t e m f a;
@@ -323,7 +321,7 @@ module _ (s : Judged) where
         };
         inputs = λ m v a. record {
           allowed = name_allowed (InputAt n m) m (λ outside r. reserved _ (inr (inr (inr (inr (inl (n, (t, (e, (m, (v, (a, (outside, (r, refl))))))))))))));
-          input_type = of_kind is_input_kind (named_in v.ty.it)
+          input_type = of_kind scalars is_input_kind (named_in v.ty.it)
               (λ none out. input_known _ (inr (n, (t, (e, (m, (v, (a, (none, (out, refl))))))))))
               (λ u is out. input_fits _ (inr (n, (t, (e, (m, (v, (a, (u, (is, (out, refl)))))))))));
           directives = quiet_applied s location.InputFieldDefinition (applied_directives v.directives) (InputAt n m) (λ fault b. used_well fault (inr (inr (inr (inr (inr (inl (n, (t, (e, (m, (v, (a, b)))))))))))));
@@ -351,4 +349,4 @@ module _ (s : Judged) where
     }
 
 pub schema_rules_hold : SchemaRulesHoldByTheBook
-schema_rules_hold s = (valid_quiet s, quiet_valid s)
+schema_rules_hold s scalars = (valid_quiet s, quiet_valid s scalars)

@@ -13,7 +13,6 @@ use Rattle.rule_definitions.specs.Judged.{Judged}
 use Rattle.rule_definitions.specs.Names.{defined_name}
 use Rattle.rule_definitions.specs.GivenValues.{wanted_name}
 use Rattle.rule_definitions.specs.Values.{ValueBreaks}
-use Rattle.rule_definitions.specs.Accepts.{Accepts}
 use Rattle.rule_definitions.proofs.Accepting.{accepts_where_quiet}
 use Rattle.rule_definitions.proofs.Lists.{index_found, index_given}
 use Rattle.rule_document_definitions.specs.Selected.{Standing, as_field, selection_directives}
@@ -21,9 +20,11 @@ use Rattle.rule_document_definitions.specs.UsedVariables.{StandsInValue, StandsI
 use Rattle.rule_document_definitions.specs.Variables.{VariablesBreak}
 use Rattle.rule_document_definitions.specs.Verdict.{no_places}
 use Rattle.book_validity.specs.Words.{Document, Each, Operation}
+use Rattle.book_validity.specs.Coercion.{IsOfCorrectType}
 use Rattle.book_validity.specs.Variables.{AreVariablesValid, IsInputType}
 use Rattle.rule_document_definitions.proofs.Decided.{Decided, stable, either, names, present, at_some_index}
 use Rattle.book_validity.proofs.Naming.{Quiet, is_there, there, is_true, unique_from, unique_never}
+use Rattle.book_validity.proofs.CoercionFacts.{of_correct_type}
 use Rattle.book_validity.proofs.KeyFacts.{keys_quiet, quiet_keys}
 use Rattle.book_validity.proofs.DirectiveFacts.{directives_quiet, quiet_directives}
 use Rattle.rule_document_definitions.proofs.Spreading.{at_reached, at_reached_fragment}
@@ -67,8 +68,11 @@ module _ (n : List ℕ) where
 
 module _ (s : Judged) (d : Document) (o : Operation) where
   abbrev accepted : (x : Placed U (VariableDefinitionTree U)) (v : Placed U (ValueTree U))
-      → Accepts s [] (unplaced_type x.it.ty.it) v.it ↔ Quiet (ValueBreaks no_places.at s [] (wanted_by x.it) v.place v.it)
-  accepted x v = accepts_where_quiet {P = U} U no_places.at s [] (unplaced_type x.it.ty.it) tt tt v.it
+      → IsOfCorrectType s [] (unplaced_type x.it.ty.it) v.it ↔ Quiet (ValueBreaks no_places.at s [] (wanted_by x.it) v.place v.it)
+  accepted x v =
+      let quiet = accepts_where_quiet {P = U} U no_places.at s [] (unplaced_type x.it.ty.it) tt tt v.it in
+      let of_type = of_correct_type s [] (unplaced_type x.it.ty.it) v.it in
+      (λ h. quiet.0 (of_type.1 h), λ q. of_type.0 (quiet.1 q))
 
   pub variables_quiet : AreVariablesValid s d o → Quiet (VariablesBreak no_places s d o)
   variables_quiet h fault (inl r) = unique_never defined_name o.variables h.unique r

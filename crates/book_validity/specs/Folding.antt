@@ -1,25 +1,22 @@
 -- Folding (section 3): the rules on the list of definitions that a schema is folded from. Names differ, and what is extended is there.
-use Rattle.std.specs.Prelude.{◌≡◌, ℕ, true, false, List, ◌++◌, None}
+use Rattle.std.specs.Prelude.{◌≡◌, ℕ, true, false, List, [], ◌∷◌, ◌++◌, flat_map, filter, option_to_list, None, if◌then◌else◌}
 use Rattle.graphql_names.specs.Placed.{Place}
+use Rattle.tree_directives.specs.OperationQueries.{operation_keyword}
+use Rattle.tree_type_members.specs.TypeSystemTree.{SchemaParts}
 use Rattle.tree_definitions.specs.DefinitionTree.{DefinitionTree}
 use Rattle.tree_definitions.specs.Queries.{is_executable}
-use Rattle.schema_components.specs.Lists.{StandsAfter, IsRepeated, firsts, has_name}
-use Rattle.schema_components.specs.Given.{Given, given_name}
+use Rattle.schema_components.specs.Lists.{StandsAfter, firsts, has_name}
 use Rattle.schema_types.specs.SchemaTree.{same_kind}
 use Rattle.schema_types.specs.TypeParts.{TypeParts, TypeDefinition, type_here, type_extension_here}
 use Rattle.schema_types.specs.declared.type_kind.TypeKind.{TypeKind}
 use Rattle.schema_types.specs.declared.type_kind.TypeKind.TheVariants as kind
-use Rattle.schema_fold.specs.Listed.{Definitions, numbered, type_name, types_in, type_named, directive_here, directive_name, directives_in}
-use Rattle.schema_fold.specs.Components.{components, field_key, value_key, input_key}
-use Rattle.schema_fold.specs.SchemaFold.{schema_here, schema_extension_here, schema_definition_in, schema_is_defined, roots_given, root_key}
+use Rattle.schema_fold.specs.Listed.{Definitions, type_name, types_in, type_named, directive_here, directive_name, directives_in}
+use Rattle.schema_fold.specs.Components.{go_together}
+use Rattle.schema_fold.specs.SchemaFold.{schema_here, schema_extension_here, schema_definition_in, schema_is_defined, schema_base}
 use Rattle.rule_definitions.specs.Words.{Present, IfPresent}
-use Rattle.book_validity.specs.Words.{Never, Each, IsThere}
+use Rattle.book_validity.specs.Words.{Each, IsThere, AreUnique}
 
--- none of these has the name of one before it
-abbrev pub AreApart : {X : Type 0} → (X → List ℕ) → List X → Type 0
-AreApart {X} key xs = (x : X) → Never (IsRepeated key xs x)
-
-module _ (built_in : Definitions) (first : ℕ) (texts : Definitions) where
+module _ (built_in texts : Definitions) where
   abbrev pub all : Definitions
   all = built_in ++ texts
 
@@ -37,20 +34,29 @@ module _ (built_in : Definitions) (first : ℕ) (texts : Definitions) where
     -- Laxer: built-in types may be extended too
     pub extends_type : IfPresent (type_extension_here d) (λ e. Present (type_named e.name.it all) (λ t. same_kind t.parts.kind e.kind ≡ true))
 
-  abbrev pub AreOf : {A : Type 0} → TypeDefinition Place → (TypeParts Place → List A) → (Given Place A → List ℕ) → Type 0
-  AreOf t of key = AreApart key (components of (numbered first all) t)
+  -- what is given of the schema: by its definition, or what stands for that, and by its extensions, where they apply
+  abbrev pub schema_parts : List (SchemaParts Place)
+  schema_parts = (schema_base all).parts ∷ (if schema_is_defined all then flat_map (λ d. option_to_list (schema_extension_here d)) all else [])
 
-  -- 3.6 to 3.10: interfaces, fields, members, values and input fields of a type, from its definition and its extensions
+  -- what is given of a type: by its definition, and by its extensions, which are those of its name and kind
+  abbrev pub parts_of : TypeDefinition Place → List (TypeParts Place)
+  parts_of t = t.parts ∷ filter (go_together t.parts) (flat_map (λ d. option_to_list (type_extension_here d)) all)
+
+  -- no two of these that are given of the type have one name
+  abbrev pub AreApartIn : {A : Type 0} → TypeDefinition Place → (TypeParts Place → List A) → (A → List ℕ) → Type 0
+  AreApartIn t given name = AreUnique name (flat_map given (parts_of t))
+
+  -- 3.6 to 3.10: interfaces, fields, members, values and input fields of a type
   abbrev pub HasApart : TypeDefinition Place → TypeKind → Type 0
   HasApart t kind.Scalar = Unit {0}
-  HasApart t kind.Object = AreOf t (λ p. p.interfaces) given_name × AreOf t (λ p. p.fields) field_key
-  HasApart t kind.Interface = AreOf t (λ p. p.interfaces) given_name × AreOf t (λ p. p.fields) field_key
-  HasApart t kind.Union = AreOf t (λ p. p.members) given_name
-  HasApart t kind.Enum = AreOf t (λ p. p.values) value_key
-  HasApart t kind.InputObject = AreOf t (λ p. p.inputs) input_key
+  HasApart t kind.Object = AreApartIn t (λ p. p.interfaces) (λ i. i.it) × AreApartIn t (λ p. p.fields) (λ f. f.it.name.it)
+  HasApart t kind.Interface = AreApartIn t (λ p. p.interfaces) (λ i. i.it) × AreApartIn t (λ p. p.fields) (λ f. f.it.name.it)
+  HasApart t kind.Union = AreApartIn t (λ p. p.members) (λ m. m.it)
+  HasApart t kind.Enum = AreApartIn t (λ p. p.values) (λ v. v.it.value.it)
+  HasApart t kind.InputObject = AreApartIn t (λ p. p.inputs) (λ f. f.it.name.it)
 
   pub record AreFoldable : Type 0 where
     pub definitions : (before : Definitions) (d : DefinitionTree Place) → StandsAfter texts before d → IsFoldable before d
     -- 3.3.1: an operation has one root at most
-    pub roots : AreApart root_key (roots_given first all)
+    pub roots : AreUnique (λ r. operation_keyword r.it.operation_type) (flat_map (λ p. p.roots) schema_parts)
     pub parts : Each (firsts type_name (types_in all)) (λ t. HasApart t t.parts.kind)

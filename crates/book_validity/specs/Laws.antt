@@ -9,20 +9,21 @@ use Rattle.document_meaning.specs.MeantTree.{MeantSet}
 use Rattle.verdict_definitions.specs.in_typing.Meanings.{Meanings}
 use Rattle.verdict_definitions.specs.in_typing.TypingFaults.{TypingFault, SetFails, TypingRules}
 use Rattle.rule_definitions.specs.Judged.{Judged, judged}
+use Rattle.rule_definitions.specs.Names.{scalar_names}
 use Rattle.rule_definitions.specs.Rules.{SchemaRules}
 use Rattle.rule_document_definitions.specs.Named.{FragmentsFoundByName}
 use Rattle.rule_document_definitions.specs.Verdict.{DocumentRules, FieldSetRules, StandaloneRules}
 use Rattle.verdict_definitions.specs.Texts.{SourceText, Tree, Terms}
 use Rattle.verdict_definitions.specs.Meaning.{schema_of, schema_at_hand}
 use Rattle.verdict_definitions.specs.Judge.{AreSchemasAccepted, IsDocumentAccepted, IsAccepted}
-use Rattle.book_validity.specs.Words.{Document, Never}
+use Rattle.book_validity.specs.Words.{Document, Never, Each, IsThere}
 use Rattle.book_validity.specs.Document.{IsValidDocument}
 use Rattle.book_validity.specs.FieldSets.{IsValidFieldSet}
 use Rattle.book_validity.specs.Standalone.{IsValidAlone}
 use Rattle.book_validity.specs.Schema.{IsValidSchema}
 use Rattle.book_validity.specs.Typing.{AreTyped, IsTypedDocument}
 use Rattle.book_validity.specs.Folding.{AreFoldable}
-use Rattle.book_validity.specs.Yes.{AreValidSchemas, IsValidOver, IsYes}
+use Rattle.book_validity.specs.Yes.{schema_for_documents, AreValidSchemas, IsValidOver, IsYes}
 
 -- of a document whose fragments stand under their own names, as each that is typed does
 abbrev pub RulesHoldByTheBook : Type 0
@@ -35,8 +36,12 @@ SetRulesHoldByTheBook = (s : Judged) (set : MeantSet (Unit {0})) → IsValidFiel
 abbrev pub RulesAloneHoldByTheBook : Type 0
 RulesAloneHoldByTheBook = (d : Document) → FragmentsFoundByName d → IsValidAlone d ↔ StandaloneRules d
 
+-- the built-in scalars are there, as in each schema that texts fold to
+abbrev pub HasScalars : Judged → Type 0
+HasScalars s = Each scalar_names (λ n. IsThere (s.type_named n))
+
 abbrev pub SchemaRulesHoldByTheBook : Type 0
-SchemaRulesHoldByTheBook = (s : Judged) → IsValidSchema s ↔ SchemaRules s
+SchemaRulesHoldByTheBook = (s : Judged) → HasScalars s → IsValidSchema s ↔ SchemaRules s
 
 -- a document, the selections of a set are typed exactly where no rule of typing is broken
 abbrev pub TypedByTheBook : Type 0
@@ -47,7 +52,7 @@ SetsTypedByTheBook = (m : Meanings) (t : List ℕ) (ts : SelectionTrees Place) �
 
 -- definitions are foldable exactly where no folding rule is broken
 abbrev pub FoldedByTheBook : Type 0
-FoldedByTheBook = (built_in : Definitions) (first : ℕ) (texts : Definitions) → AreFoldable built_in first texts ↔ FoldingRules built_in first texts
+FoldedByTheBook = (built_in : Definitions) (first : ℕ) (texts : Definitions) → AreFoldable built_in texts ↔ FoldingRules built_in first texts
 
 -- schema texts, a document over the schema of such texts, are accepted exactly where they are valid by the book
 abbrev pub SchemasAcceptedByTheBook : Type 0
@@ -55,7 +60,7 @@ SchemasAcceptedByTheBook = (terms : Terms) (schemas : List SourceText) → AreSc
 
 abbrev pub DocumentsAcceptedByTheBook : Type 0
 DocumentsAcceptedByTheBook = (terms : Terms) (trees : List Tree) → SchemaRules (judged (schema_of terms trees)) → (nesting number : ℕ) (document : SourceText)
-    → IsDocumentAccepted (schema_at_hand terms trees) nesting number document ↔ IsValidOver (schema_at_hand terms trees) nesting number document
+    → IsDocumentAccepted (schema_at_hand terms trees) nesting number document ↔ IsValidOver (schema_for_documents terms trees) nesting number document
 
 -- texts are accepted exactly where the book says yes
 abbrev pub AcceptedByTheBook : Type 0

@@ -1,4 +1,5 @@
 pub mod Words
+pub mod Coercion
 pub mod Values
 pub mod Arguments
 pub mod Directives

@@ -1,5 +1,5 @@
 -- What types and directives have: fields, arguments, input fields, enum values (sections 2.1.9, 3.4.2, 3.6.1, 3.9, 3.10 and 3.13).
-use Rattle.std.specs.Prelude.{◌≡◌, ℕ, Bool, true, false, List, [], map, Contains, slice_get, None, Some, ◌⊎◌}
+use Rattle.std.specs.Prelude.{◌≡◌, ℕ, Bool, true, false, List, [], map, slice_get, Some}
 use Rattle.tree_directives.specs.DirectiveTree.{DirectiveTree, InputValueTree, InputValues}
 use Rattle.tree_directives.specs.declared.directive_location.DirectiveLocation.{DirectiveLocation}
 use Rattle.tree_directives.specs.declared.directive_location.DirectiveLocation.TheVariants as location
@@ -9,7 +9,7 @@ use Rattle.schema_types.specs.Addresses.{Address, FieldAt, ValueAt, ArgumentAt}
 use Rattle.schema_types.specs.declared.type_kind.TypeKind.{TypeKind}
 use Rattle.rule_definitions.specs.Words.{Present}
 use Rattle.rule_definitions.specs.Judged.{Judged, applied_directives}
-use Rattle.rule_definitions.specs.Names.{is_reserved, scalar_names, named_in, input_name}
+use Rattle.rule_definitions.specs.Names.{is_reserved, named_in, input_name}
 use Rattle.book_validity.specs.Words.{AreUnique}
 use Rattle.book_validity.specs.Directives.{AreDirectivesValid}
 
@@ -18,10 +18,9 @@ module _ (s : Judged) where
   abbrev pub IsNameAllowed : Address → List ℕ → Type 0
   IsNameAllowed at name = s.built_in at ≡ false → is_reserved name ≡ false
 
-  -- the type of the name is there and of such a kind; or it is a built-in scalar that is not there: a schema that has been judged has
-  -- of these only what is used, while what texts fold to has them all
+  -- the type of the name is there, and of such a kind
   abbrev pub IsOfKind : (TypeKind → Bool) → List ℕ → Type 0
-  IsOfKind test n = Present (s.type_named n) (λ t. test t.kind ≡ true) ⊎ ((s.type_named n ≡ None) × Contains scalar_names n)
+  IsOfKind test n = Present (s.type_named n) (λ t. test t.kind ≡ true)
 
   -- 5.7, of what is applied in a schema: there are no variables
   abbrev pub AreApplied : DirectiveLocation → List (DirectiveTree (Unit {0})) → Type 0

@@ -1,6 +1,6 @@
 -- A valid schema: every rule of section 3 holds of what its definitions fold to, as the specification states them, and nothing is
 -- said of faults and places. Folding (names that differ, extensions of what is there) comes before it.
-use Rattle.std.specs.Prelude.{◌≡◌, ℕ, false, List, Some, ◌⊎◌}
+use Rattle.std.specs.Prelude.{◌≡◌, ℕ, false, List, Some}
 use Rattle.tree_directives.specs.DirectiveTree.{DirectiveTree, InputValueTree, DirectiveDefinitionTree}
 use Rattle.tree_directives.specs.declared.operation_type.OperationType.{OperationType}
 use Rattle.tree_directives.specs.declared.directive_location.DirectiveLocation.TheVariants as location
@@ -30,18 +30,30 @@ pub record AreRootsValid (s : Judged) : Type 0 where
 -- ---- 3.13: what a directive or type refers to
 
 module _ (s : Judged) where
-  -- by one of these directives, that is applied
-  abbrev pub Uses : List (DirectiveTree (Unit {0})) → Thing → Type 0
-  Uses ds to = AtSomeIndex ds (λ i d. (to ≡ ADirective d.name.it) × IsThere (s.directive d.name.it))
+  -- one of these, which are applied, is the directive of the name m
+  abbrev pub Applies : List (DirectiveTree (Unit {0})) → List ℕ → Type 0
+  Applies ds m = AtSomeIndex ds (λ i d. d.name.it ≡ m) × IsThere (s.directive m)
 
-  -- by the directives of an argument or input field, or by its type
-  abbrev pub UsesByInput : InputValueTree (Unit {0}) → Thing → Type 0
-  UsesByInput v to = Uses (applied_directives v.directives) to ⊎ ((to ≡ AType (named_in v.ty.it)) × IsThere (s.type_named (named_in v.ty.it)))
+  -- the type of an argument or input field is, inside, that of the name m
+  abbrev pub IsOf : InputValueTree (Unit {0}) → List ℕ → Type 0
+  IsOf v m = (named_in v.ty.it ≡ m) × IsThere (s.type_named m)
 
-  abbrev pub References : Thing → Thing → Type 0
-  References (ADirective n) to = Present (s.directive n) (λ d. AtSomeIndex d.arguments (λ i v. UsesByInput v.it to) ⊎ Uses (applied_directives d.directives) to)
-  References (AType n) to = Present (s.type_named n) (λ t.
-      Uses t.directives to ⊎ (Somewhere t.value (λ m v. Uses (applied_directives v.directives) to) ⊎ Somewhere t.input (λ m v. UsesByInput v to)))
+-- the first refers to the second, directly, in one of these ways
+pub data References (s : Judged) : Thing → Thing → Type 0 where
+  -- a directive, by a directive that is applied to one of its arguments
+  by_directive_of_argument : {n m : List ℕ} → Present (s.directive n) (λ d. AtSomeIndex d.arguments (λ i v. Applies s (applied_directives v.it.directives) m)) → References s (ADirective n) (ADirective m)
+  -- a directive, by the type of one of its arguments
+  by_type_of_argument : {n m : List ℕ} → Present (s.directive n) (λ d. AtSomeIndex d.arguments (λ i v. IsOf s v.it m)) → References s (ADirective n) (AType m)
+  -- a directive, by one that is applied to its definition
+  by_directive_of_definition : {n m : List ℕ} → Present (s.directive n) (λ d. Applies s (applied_directives d.directives) m) → References s (ADirective n) (ADirective m)
+  -- a type, by a directive that is applied to it
+  by_directive_of_type : {n m : List ℕ} → Present (s.type_named n) (λ t. Applies s t.directives m) → References s (AType n) (ADirective m)
+  -- an enum, by a directive that is applied to one of its values
+  by_directive_of_value : {n m : List ℕ} → Present (s.type_named n) (λ t. Somewhere t.value (λ k v. Applies s (applied_directives v.directives) m)) → References s (AType n) (ADirective m)
+  -- an input object, by a directive that is applied to one of its fields
+  by_directive_of_input_field : {n m : List ℕ} → Present (s.type_named n) (λ t. Somewhere t.input (λ k v. Applies s (applied_directives v.directives) m)) → References s (AType n) (ADirective m)
+  -- an input object, by the type of one of its fields
+  by_type_of_input_field : {n m : List ℕ} → Present (s.type_named n) (λ t. Somewhere t.input (λ k v. IsOf s v m)) → References s (AType n) (AType m)
 
 -- 3.13 Directives
 pub record IsValidDirectiveDefinition (s : Judged) (n : List ℕ) (d : DirectiveDefinitionTree (Unit {0})) : Type 0 where

@@ -7,9 +7,9 @@ use Rattle.rule_definitions.specs.Words.{Present, IfPresent}
 use Rattle.rule_definitions.specs.Judged.{Judged}
 use Rattle.rule_definitions.specs.Names.{defined_name}
 use Rattle.rule_definitions.specs.GivenValues.{wanted_name}
-use Rattle.rule_definitions.specs.Accepts.{Accepts}
 use Rattle.rule_document_definitions.specs.UsedVariables.{wanted_by, IsUsedIn}
 use Rattle.book_validity.specs.Words.{Document, Operation, Each, AreUnique}
+use Rattle.book_validity.specs.Coercion.{IsOfCorrectType}
 use Rattle.book_validity.specs.Values.{HasUniqueKeys}
 use Rattle.book_validity.specs.Directives.{AreDirectivesValid}
 
@@ -25,7 +25,7 @@ pub record AreVariablesValid (s : Judged) (d : Document) (o : Operation) : Type 
   -- 5.8.4 All Variables Used
   pub used : Each o.variables (λ x. IsUsedIn (defined_name x) d o)
   -- 5.6.1 Values of Correct Type: of a default, in which no variables stand
-  pub defaults : Each o.variables (λ x. IfPresent x.it.default_value (λ v. Accepts s [] (unplaced_type x.it.ty.it) v.it))
+  pub defaults : Each o.variables (λ x. IfPresent x.it.default_value (λ v. IsOfCorrectType s [] (unplaced_type x.it.ty.it) v.it))
   -- 5.6.3 Input Object Field Uniqueness
   pub keys : Each o.variables (λ x. IfPresent x.it.default_value (λ v. HasUniqueKeys v.it))
   -- 5.7 Directives

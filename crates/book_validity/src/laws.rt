@@ -1,6 +1,7 @@
 //! Laws of the book, each the contract of a function that does nothing.
 
 ghost use Rattle.book_validity.specs.Laws.{RulesHoldByTheBook, SetRulesHoldByTheBook, RulesAloneHoldByTheBook, SchemaRulesHoldByTheBook, TypedByTheBook, SetsTypedByTheBook, FoldedByTheBook, SchemasAcceptedByTheBook, DocumentsAcceptedByTheBook, AcceptedByTheBook};
+ghost use Rattle.book_validity.specs.Yes.{TypedIsKeptWhole};
 ghost use Rattle.book_validity.specs.Exceptions.{UsagesAllowed, SpreadsPossible};
 ghost use Rattle.book_validity.specs.Refused.{UnusedVariableIsInvalid, ConflictingFieldsDoNotMerge, MissingFieldIsInvalid};
 ghost use Rattle.book_validity.specs.MergingLaws.{AcceptedMergesAsSpecified, TypedMergesAsSpecified, EverySetCanMerge, EitherReading, OneDepthDecides};
@@ -30,6 +31,11 @@ pub fn typed_by_the_book()
 /// The selections of a set are typed by the book exactly when no rule of typing is broken in it.
 pub fn sets_typed_by_the_book()
     ensures { SetsTypedByTheBook }
+{}
+
+/// What a typed document means has all of it: the rules are about each operation, fragment and selection that was read.
+pub fn typed_is_kept_whole()
+    ensures { TypedIsKeptWhole }
 {}
 
 /// A document, a field set, a document without a schema is valid by the book exactly when no rule on it is broken.
