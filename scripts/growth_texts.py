@@ -237,7 +237,7 @@ def told_ops(size):
 
 
 def told_names(size):
-    """Many fields are not there, in a type whose name is as long as the document."""
+    """Many fields are not there, in a type whose name is as long as the document; so is each line of the answer."""
     name = "N" * (size // 2 - 20)
     return f"schema{{query:{name}}}type {name}{{b:ID}}", "{" + filled(size - 2, "a ") + "}"
 
@@ -355,8 +355,8 @@ def told_roots(size):
 
 
 def told_variables(size):
-    """Operations share uses of a variable that none of them defines."""
-    head = operations(size // 2) + "fragment F on Query{"
+    """Operations share uses of a variable that none of them defines; each use is judged under each operation."""
+    head = operations(size * 2 // 3) + "fragment F on Query{"
     return "type Query{a(a:ID):ID}", head + filled(size - len(head) - 1, "a(a:$a)") + "}"
 
 
@@ -573,7 +573,7 @@ FAMILIES = [
     family(told_args, 400, told=True),
     family(told_keys, 400, told=True),
     family(told_ops, 2_000, told=True),
-    family(told_names, 4_000, told=True),
+    family(told_names, 4_000, told=True, bound=4.3),
     family(hash_aliases, 8_000, 100_000),
     family(hash_lists, 3_500),
     family(hash_schema, 6_000, SCHEMA),
@@ -592,6 +592,6 @@ FAMILIES = [
     family(shared_variables, 4_000),
     family(own_arguments, 8_000, SCHEMA),
     family(told_roots, 3_000, told=True),
-    family(told_variables, 800, told=True),
+    family(told_variables, 800, told=True, bound=4.3),
     family(told_labels, 2_500, told=True),
 ]

@@ -1,4 +1,5 @@
 pub mod Added
 pub mod Once
 pub mod PlacedBreach
+pub mod ToldOfDocument
 pub mod TracePlaces

@@ -10,6 +10,7 @@
 mod add;
 mod breach;
 mod data;
+mod details;
 mod fault;
 mod once;
 mod told;

@@ -36,6 +36,21 @@ impl DiagnosticList {
         }
     }
 
+    /// The list of these, in order.
+    pub fn from_vec(diagnostics: Vec<(Option<SourceSpan>, Details)>) -> DiagnosticList
+        ensures { diagnostics_of result ≡ map details_at diagnostics.items }
+    {
+        DiagnosticList { diagnostics }
+    }
+
+    /// All of them, in order, by themselves.
+    pub fn into_vec(self) -> Vec<(Option<SourceSpan>, Details)>
+        ensures { map details_at result.items ≡ diagnostics_of self }
+    {
+        let DiagnosticList { diagnostics } = self;
+        diagnostics
+    }
+
     /// Adds one at the end. After a refusal the list is as it was.
     pub fn push(&mut self, place: Option<SourceSpan>, details: Details) -> Result<(), AllocError>
         ensures added { OnOk result (diagnostics_of self.new ≡ diagnostics_of self.old ++ details_at (place, details) ∷ []) }

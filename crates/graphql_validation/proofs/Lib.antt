@@ -9,6 +9,7 @@ pub mod FieldSets
 pub mod Telling
 pub mod FirstTold
 pub mod MergedOperations
+pub mod MergedOnce
 pub mod WholeDocuments
 pub mod Fitting
 pub mod Staying

@@ -1,22 +1,19 @@
 -- Merging, operation by operation.
-use Rattle.std.proofs.Common.{◌≡◌, ◌↔◌, inl, inr, ◌++◌, Bool, List, [], ◌∷◌, map, take, refl, ap, sym, ◌∙◌, subst, Contains, append_assoc}
-use Rattle.std.proofs.lemmas.List.{map-append, take-map}
+use Rattle.std.proofs.Common.{◌≡◌, ◌↔◌, inl, inr, ◌++◌, Bool, List, [], ◌∷◌, map, refl, ap, sym, ◌∙◌, subst, Contains, append_assoc}
+use Rattle.std.proofs.lemmas.List.{map-append}
 use Rattle.std.proofs.lemmas.List.Elements.{Contains-append_cases}
 use Rattle.std.specs.Prelude.{IsTrue}
 use Rattle.graphql_names.specs.Placed.{Place}
 use Rattle.document_meaning.specs.MeantTree.{MeantOperation, MeantDocument}
 use Rattle.rule_definitions.proofs.Lists.{not_in_nil, only, Contains-first}
-use Rattle.rule_definitions.specs.Room.{most_told}
 use Rattle.rule_definitions.specs.Judged.{Judged}
 use Rattle.rule_document_definitions.specs.Merging.{FieldsMerge}
 use Rattle.rule_document_definitions.specs.Selected.{operations}
 use Rattle.rule_document_definitions.specs.Told.{PlacedDocumentFault}
 use Rattle.rule_merging.specs.in_faults.DetailsTree.{of_document}
-use Rattle.rule_document_definitions.specs.Reached.{AtOperation}
-use Rattle.rule_merging.specs.Merged.{MergingFailsAt, MergingTold, DocumentMergingTold}
+use Rattle.rule_merging.specs.Merged.{MergingTold, DocumentMergingTold}
 use Rattle.graphql_validation.specs.Told.{Telling}
 use Rattle.rule_merging.proofs.Behind.{nothing_told, told_nothing}
-use Rattle.graphql_validation.proofs.FirstTold.{none_told}
 
 told_behind : (old mid new : Telling) (a b : List PlacedDocumentFault) → mid ≡ old ++ map of_document a → new ≡ mid ++ map of_document b → new ≡ old ++ map of_document (a ++ b)
 told_behind old mid new a b e i =
@@ -35,18 +32,6 @@ module _ (s : Judged) (d : MeantDocument Place) where
   pub merging_more : (old mid new : Telling) (o : MeantOperation Place) → Contains (operations d) o → DocumentMergingTold s d old mid → MergingTold s d o mid new → DocumentMergingTold s d old new
   merging_more old mid new o among (a, (e, first)) (b, (i, next)) =
       (a ++ b, (told_behind old mid new a b e i, λ f c. elim (Contains-append_cases a b f c) [ inl h ↦ first f h | inr h ↦ (o, (among, next f h)) ]))
-
-  -- the first of what is told in a list of its own, behind another list
-  pub merging_first : (old own new : Telling) → DocumentMergingTold s d [] own → new ≡ old ++ take most_told own
-      → (all : List PlacedDocumentFault) × ((new ≡ old ++ map of_document (take most_told all)) × ((f : PlacedDocumentFault) → Contains all f → AtOperation d (λ o. MergingFailsAt s d o f)))
-  merging_first old own new (all, (is, fails)) e =
-      (all, (e ∙ ap (λ l. old ++ l) (ap (take most_told) is ∙ take-map of_document most_told all), fails))
-
-  -- nothing is told there where the other list stays
-  pub merging_silent : (old own new : Telling) → DocumentMergingTold s d [] own → new ≡ old ++ take most_told own → new ≡ old → own ≡ []
-  merging_silent old own new (all, (is, fails)) e same =
-      let none = none_told old new all (e ∙ ap (λ l. old ++ l) (ap (take most_told) is ∙ take-map of_document most_told all)) same in
-      is ∙ ap (map of_document) none
 
   -- ---- what merges
 

@@ -52,7 +52,7 @@ module _ {X : Type 0} where
   apart_first (suc n) [] a = tt
   apart_first (suc n) (x ∷ xs) a = ((λ c. a.0 (of_these n xs x c)), apart_first n xs a.1)
 
-  once_first : (all : List X) → EachOnce all → EachOnce (take most_told all)
+  pub once_first : (all : List X) → EachOnce all → EachOnce (take most_told all)
   once_first all (inl full) = inl (first_full all full)
   once_first all (inr none) = inr (no_repeat (take most_told all) (apart_first most_told all (apart all none)))
 

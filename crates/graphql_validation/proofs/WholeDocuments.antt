@@ -34,7 +34,7 @@ use Rattle.graphql_validation.specs.Steps.{TellsUnder}
 use Rattle.rule_fragments.specs.Documents.{SomeBreaks, BreachesTold}
 use Rattle.rule_fragments.proofs.UnlessFull.{of_first, first_tells, tells_none}
 use Rattle.graphql_validation.specs.Told.{AnswersFragment, Telling}
-use Rattle.graphql_validation.specs.TellsDocument.{IsTypedUnder, FailsBesides, FailsBesideMerging, FailsInMerging, SomeFails, TellsDocument, DocumentTold, TellsOnceBesideMerging}
+use Rattle.graphql_validation.specs.TellsDocument.{IsTypedUnder, FailsBesides, FailsBesideMerging, FailsInMerging, SomeFails, TellsDocument, DocumentTold}
 use Rattle.graphql_validation.proofs.FirstTold.{parts_told}
 use Rattle.graphql_validation.proofs.Ordered.{beside_under}
 use Rattle.fault_lists.specs.Once.{KeepsOnce}
@@ -153,9 +153,6 @@ module _ (s : SchemaTree Place) (d : MeantDocument Place) where
         ),
       ),
     )
-
-    pub merging_once : TellsOnceBesideMerging s d old new
-    merging_once = (take most_told all, (is, inr (λ f c. in_merging f (conflicts f (of_first all f c)))))
 
   -- ---- what is silent
 

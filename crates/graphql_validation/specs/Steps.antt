@@ -12,6 +12,7 @@ use Rattle.rule_selections.specs.in_typing.Meanings.{meanings}
 use Rattle.fault_data.specs.Adds.{Adds}
 use Rattle.fault_data.specs.FaultView.{faults_of}
 use Rattle.fault_lists.specs.Added.{AddsNew, TellsAll}
+use Rattle.fault_lists.specs.Once.{EachOnce}
 use Rattle.rule_definitions.specs.Room.{most_told}
 use Rattle.rule_merging.specs.in_faults.DetailsTree.{of_document}
 use Rattle.rule_merging.specs.in_faults.DetailsView.{diagnostics_of}
@@ -101,9 +102,9 @@ module _ (s : SchemaTree Place) where
     abbrev pub TellsUnder : List PlacedFault → Type 0
     TellsUnder told = AreReachesTyped s d → AreUnderOwnNames d → DataTold d (AllUnder s d) (λ o. OperationFails d o s) told
 
-    -- the first 1,000 of what merging tells of the operations of the document
+    -- the first 1,000 of what merging tells of the operations of the document, of which no two are equal, unless they are as many
     abbrev pub TellsMerging : DiagnosticList → DiagnosticList → Type 0
-    TellsMerging old new = (all : List PlacedDocumentFault) × (AddsDetails old new (take most_told all) × ((f : PlacedDocumentFault) → Contains all f → AtOperation d (λ o. MergingFailsAt (judged s) d o f)))
+    TellsMerging old new = (all : List PlacedDocumentFault) × (AddsDetails old new (take most_told all) × (EachOnce all × ((f : PlacedDocumentFault) → Contains all f → AtOperation d (λ o. MergingFailsAt (judged s) d o f))))
 
     -- the fields of each operation merge
     abbrev pub AllMerge : Type 0

@@ -15,7 +15,6 @@ use Rattle.rule_document_definitions.specs.Reached.{AtOperation}
 use Rattle.rule_document_definitions.specs.Subscriptions.{SubscriptionBreaks}
 use Rattle.rule_document_definitions.specs.Told.{PlacedDocumentFault, DocumentFails, DocumentMergingFails, DocumentBoundFails, IsValidDocument, places_alone}
 use Rattle.rule_document_definitions.specs.Verdict.{WithinBounds}
-use Rattle.fault_lists.specs.Once.{EachOnce}
 use Rattle.rule_fragments.specs.UnlessFull.{TellsUnlessFull}
 use Rattle.rule_fragments.specs.Used.{IsUsed}
 use Rattle.rule_fragments.specs.Nested.{NestsTooDeep}
@@ -60,11 +59,6 @@ module _ (s : SchemaTree Place) (d : MeantDocument Place) where
   -- behind what was told stands what fails of the document: all of it, or 1,000 faults
   abbrev pub DocumentTold : Telling → Telling → Type 0
   DocumentTold old new = (told : List PlacedDocumentFault) × ((new ≡ old ++ map of_document told) × (TellsUnlessFull SomeFails TellsDocument told × MergingStandsApart told))
-
-  -- of what stands behind what was told no two are equal, unless they are 1,000, or do not merge
-  abbrev pub TellsOnceBesideMerging : Telling → Telling → Type 0
-  TellsOnceBesideMerging old new = (told : List PlacedDocumentFault) × ((new ≡ old ++ map of_document told)
-      × (EachOnce told ⊎ ((f : PlacedDocumentFault) → Contains told f → FailsInMerging f)))
 
   -- the same of a document that is typed
   abbrev pub TypedDocumentTold : Telling → Telling → Type 0

@@ -10,7 +10,8 @@ ghost use Rattle.rule_fragments.specs.in_ground.Broken.{brokens_of};
 ghost use Rattle.rule_definitions.specs.Judged.{judged};
 ghost use Rattle.rule_merging.specs.Merged.{DocumentMergingTold};
 ghost use Rattle.rule_fragments.specs.Possible.{ArePossibleIfFound};
-ghost use Rattle.graphql_validation.specs.TellsDocument.{TypedDocumentTold, TellsOnceBesideMerging, SilenceMeansValid, ValidMeansSilence};
+ghost use Rattle.graphql_validation.specs.TellsDocument.{TypedDocumentTold, SilenceMeansValid, ValidMeansSilence};
+ghost use Rattle.graphql_validation.specs.Told.{TellsOnce};
 ghost use Rattle.graphql_validation.specs.Steps.{TellsMerging, AllMerge};
 
 use crate::found::fragments_differ;
@@ -51,7 +52,7 @@ fn merge_each(
     Ok(list)
 }
 
-/// Adds the first [`MOST_TOLD`] of what does not merge in the operations.
+/// Adds the first [`MOST_TOLD`] of what does not merge in the operations, each once.
 fn merge_operations(
     alloc: Global,
     list: &mut DiagnosticList,
@@ -62,15 +63,16 @@ fn merge_operations(
     ensures merged { OnOk result (diagnostics_of list.new ≡ diagnostics_of list.old → AllMerge (schema_tree schema.now) (document_meant document.now)) }
     ensures begins { OnErr result (BeginsAs (diagnostics_of list.old) (diagnostics_of list.new)) }
 {
-    let mut told = merge_each(alloc, schema, document)?;
+    let merged = merge_each(alloc, schema, document)?;
+    let mut told = DiagnosticList::from_vec(each_once(merged.into_vec())?);
     told.truncate(MOST_TOLD);
     list.append(&mut told)
 }
 
 /// Tells what breaks the rules on a document under a schema (section 5, from 5.2.3 on, and the rules on `@defer`): all of it,
-/// or [`MOST_TOLD`] faults. Where all other rules hold, the fields of each operation are merged (section 5.3.2). If the document
-/// is typed, as each that is built, nothing is told exactly when all rules hold, apart from the bounds on how deep spreads,
-/// selections and fields nest. Where memory is refused the list begins as before.
+/// each once, or [`MOST_TOLD`] faults. Where all other rules hold, the fields of each operation are merged (section 5.3.2). If
+/// the document is typed, as each that is built, nothing is told exactly when all rules hold, apart from the bounds on how deep
+/// spreads, selections and fields nest. Where memory is refused the list begins as before.
 pub fn validate_executable_document(
     alloc: Global,
     list: &mut DiagnosticList,
@@ -78,7 +80,7 @@ pub fn validate_executable_document(
     document: &ExecutableDocument,
 ) -> Result<(), AllocError>
     ensures told { OnOk result (TypedDocumentTold (schema_tree schema.now) (document_meant document.now) (diagnostics_of list.old) (diagnostics_of list.new)) }
-    ensures once { OnOk result (TellsOnceBesideMerging (schema_tree schema.now) (document_meant document.now) (diagnostics_of list.old) (diagnostics_of list.new)) }
+    ensures once { OnOk result (TellsOnce (diagnostics_of list.old) (diagnostics_of list.new)) }
     ensures silent { OnOk result (SilenceMeansValid (schema_tree schema.now) (document_meant document.now) (diagnostics_of list.old) (diagnostics_of list.new)) }
     ensures accepts { OnOk result (ValidMeansSilence (schema_tree schema.now) (document_meant document.now) (diagnostics_of list.old) (diagnostics_of list.new)) }
     ensures begins { OnErr result (BeginsAs (diagnostics_of list.old) (diagnostics_of list.new)) }
@@ -99,7 +101,7 @@ pub fn validate_with_possible_types(
 ) -> Result<(), AllocError>
     requires { ArePossibleIfFound (judged (schema_tree schema.now)) (option_copied possible) }
     ensures told { OnOk result (TypedDocumentTold (schema_tree schema.now) (document_meant document.now) (diagnostics_of list.old) (diagnostics_of list.new)) }
-    ensures once { OnOk result (TellsOnceBesideMerging (schema_tree schema.now) (document_meant document.now) (diagnostics_of list.old) (diagnostics_of list.new)) }
+    ensures once { OnOk result (TellsOnce (diagnostics_of list.old) (diagnostics_of list.new)) }
     ensures silent { OnOk result (SilenceMeansValid (schema_tree schema.now) (document_meant document.now) (diagnostics_of list.old) (diagnostics_of list.new)) }
     ensures accepts { OnOk result (ValidMeansSilence (schema_tree schema.now) (document_meant document.now) (diagnostics_of list.old) (diagnostics_of list.new)) }
     ensures begins { OnErr result (BeginsAs (diagnostics_of list.old) (diagnostics_of list.new)) }

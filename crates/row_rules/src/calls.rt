@@ -28,12 +28,12 @@ impl<R: Rules> Calls for Judging<'_, R> {
             "directives" => Some(&["schema", "standalone", "location", "input"]),
             "arguments" | "never" | "words" => Some(&["input"]),
             "usage" => Some(&["schema", "input"]),
-            "judged_document" | "made" => Some(&["schema", "nesting", "input", "once", "some"]),
+            "judged_document" | "made" => Some(&["schema", "nesting", "input", "some"]),
             "merging" => Some(&[
-                "schema", "nesting", "input", "once", "some", "returns", "at_least", "at_most",
+                "schema", "nesting", "input", "some", "returns", "at_least", "at_most",
             ]),
-            "alone" => Some(&["nesting", "input", "once", "some"]),
-            "judged_field_set" => Some(&["schema", "nesting", "type", "input", "once", "some"]),
+            "alone" => Some(&["nesting", "input", "some"]),
+            "judged_field_set" => Some(&["schema", "nesting", "type", "input", "some"]),
             _ => None,
         }
     }

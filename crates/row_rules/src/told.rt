@@ -33,10 +33,7 @@ pub(crate) fn push_told(
     answer: &mut Answer,
 ) -> Result<(), Problem> {
     push_copies(alloc, list, answer);
-    let mut lines = lines_of(alloc, list)?;
-    if says(case.row, "once", "yes")? {
-        lines.dedup();
-    }
+    let lines = lines_of(alloc, list)?;
     answer.status.put(if lines.is_empty() { "0" } else { "1" });
     if says(case.row, "some", "yes")? && !lines.is_empty() && are_wanted(case, &lines) {
         push_wanted(case, answer);

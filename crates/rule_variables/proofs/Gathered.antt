@@ -1,5 +1,5 @@
 -- The names that are gathered are those of the variables that the operation uses.
-use Rattle.std.proofs.Common.{◌↔◌, ◌⊎◌, inl, inr, ℕ, List, [], Contains}
+use Rattle.std.proofs.Common.{◌↔◌, ◌⊎◌, inl, inr, ℕ, List, [], Contains, is_some, true≢false, sym, ap}
 use Rattle.graphql_names.specs.Placed.{Place}
 use Rattle.document_meaning.specs.MeantTree.{MeantOperation, MeantFragment, MeantDocument}
 use Rattle.rule_definitions.specs.Words.{AtSomeIndex}
@@ -66,3 +66,10 @@ module _ (d : MeantDocument Place) (o : MeantOperation Place) (members : List (M
     λ h. elim h [ inl u ↦ inl u | inr r ↦ elim r [ inl k ↦ inr (inl k) | inr n ↦ inr (inr ((unused_is at f).0 n)) ] ],
     λ h. elim h [ inl u ↦ inl u | inr r ↦ elim r [ inl k ↦ inr (inl k) | inr n ↦ inr (inr ((unused_is at f).1 n)) ] ],
   )
+
+-- of no variables nothing is told alone
+none_at : {X : Type 0} (P : ℕ → X → Type 0) → AtSomeIndex [] P → ⊥
+none_at P q = true≢false (sym (ap is_some q.1.1.0))
+
+pub none_break : (used : List (List ℕ)) (f : PlacedFault) → AloneBreaks [] used f → ⊥
+none_break used f h = elim h [ inl u ↦ none_at _ u | inr r ↦ elim r [ inl k ↦ none_at _ k | inr n ↦ none_at _ n ] ]

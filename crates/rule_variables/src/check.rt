@@ -49,6 +49,10 @@ pub fn check_variables_alone(
     ensures { OnOk result ((at : Address → Place) (d : MeantDocument Place) → IsReachOf d (meant_by_operation (node_tree typed_operation_tree operation.now)) reach.now → Adds faults.old faults.new (VariablesBreakAlone at d (meant_by_operation (node_tree typed_operation_tree operation.now)))) }
 {
     let own = operation.content();
+    if own.variables.is_empty() {
+        // what is used is not looked for: no variable is there that may be unused
+        return Ok(());
+    }
     let alloc = *faults.allocator();
     let used = used_names(alloc, own, reach)?;
     check_alone(&own.variables, &used, faults)

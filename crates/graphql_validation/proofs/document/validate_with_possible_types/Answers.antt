@@ -1,4 +1,4 @@
-use Rattle.std.proofs.Common.{◌≡◌, OnOk, [], ◌∙◌, inl, sym, subst, take, true≢false}
+use Rattle.std.proofs.Common.{◌≡◌, OnOk, [], ◌∙◌, sym, subst, take, true≢false}
 use Rattle.std.proofs.lemmas.Result.{on_ok_weaker}
 use Rattle.rule_fragments.specs.in_typed_operations.DocumentView.{document_meant}
 use Rattle.rule_document_definitions.proofs.UnplacedFragments.{named_if_own}
@@ -13,8 +13,8 @@ use Rattle.graphql_validation.specs.TellsDocument.{IsTypedUnder, TellsDocument}
 use Rattle.rule_merging.proofs.Behind.{begins_same, refused_so}
 use Rattle.rule_definitions.specs.Room.{most_told}
 use Rattle.graphql_validation.proofs.FirstTold.{none_told}
-use Rattle.graphql_validation.proofs.Once.{told_once}
-use Rattle.graphql_validation.proofs.WholeDocuments.{own_names, document_told, nothing_beside, merging_told, merging_once, breaches_kept, silent_is_valid, valid_is_silent, only_none}
+use Rattle.graphql_validation.proofs.Once.{once_first, told_once}
+use Rattle.graphql_validation.proofs.WholeDocuments.{own_names, document_told, nothing_beside, merging_told, breaches_kept, silent_is_valid, valid_is_silent, only_none}
 use Rattle.graphql_validation.proofs.document.validate_with_possible_types.Goals as goal
 
 pub returns-in_err-faults-clause-begins : goal.returns-in_err-faults-clause-begins
@@ -32,7 +32,7 @@ pub returns-then-is_nothing-clause-once : goal.returns-then-is_nothing-clause-on
 returns-then-is_nothing-clause-once c =
     let s = schema_tree c.args.schema.now in
     let d = document_meant c.args.document.now in
-    on_ok_weaker c.merge_operations.result (λ h. merging_once s d (diagnostics_of c.args.list.now) (diagnostics_of c.merge_operations.new.list) h.0 h.1.0 h.1.1)
+    on_ok_weaker c.merge_operations.result (λ h. (take most_told h.0, (h.1.0, once_first h.0 h.1.1.0)))
     (subst (λ (y : Schema). OnOk c.merge_operations.result (TellsMerging (schema_tree y) d c.args.list.now c.merge_operations.new.list)) c.schema.ensures c.merge_operations.ensures.told)
 
 pub returns-then-is_nothing-clause-told : goal.returns-then-is_nothing-clause-told
@@ -45,7 +45,7 @@ returns-then-is_nothing-clause-told c =
     let bound = c.passes_path_bound-is_passed.ensures in
     let breaks = breaches_kept s d (brokens_of c.in_ok-document_breaches.field-0) bs c.in_ok-document_breaches.ensures c.in_ok-breaches.ensures in
     let none : IsTypedUnder s d → TellsDocument s d [] = λ typed. nothing_beside s d typed fs bs p c.in_ok-faults.ensures.told breaks bound.right bound.found (c.is_nothing.ensures.0 c.if-is_nothing.true) in
-    on_ok_weaker c.merge_operations.result (λ h typed. merging_told s d (diagnostics_of c.args.list.now) (diagnostics_of c.merge_operations.new.list) h.0 h.1.0 h.1.1 (none typed)) (subst (λ (y : Schema). OnOk c.merge_operations.result (TellsMerging (schema_tree y) d c.args.list.now c.merge_operations.new.list)) c.schema.ensures c.merge_operations.ensures.told)
+    on_ok_weaker c.merge_operations.result (λ h typed. merging_told s d (diagnostics_of c.args.list.now) (diagnostics_of c.merge_operations.new.list) h.0 h.1.0 h.1.1.1 (none typed)) (subst (λ (y : Schema). OnOk c.merge_operations.result (TellsMerging (schema_tree y) d c.args.list.now c.merge_operations.new.list)) c.schema.ensures c.merge_operations.ensures.told)
 
 pub returns-then-is_nothing-clause-silent : goal.returns-then-is_nothing-clause-silent
 returns-then-is_nothing-clause-silent c =
@@ -89,7 +89,7 @@ returns-clause-once c =
     let bs = brokens_of c.in_ok-breaches.breaches in
     let p = c.passes_path_bound-is_passed.result in
     on_ok_weaker c.append_all.result
-    (λ h. (take most_told (all_told fs bs p), (h, inl (told_once fs bs p c.in_ok-faults.ensures.once (c.in_ok-breaches.ensures).once))))
+    (λ h. (take most_told (all_told fs bs p), (h, told_once fs bs p c.in_ok-faults.ensures.once (c.in_ok-breaches.ensures).once)))
     c.append_all.ensures.added
 
 pub returns-clause-silent : goal.returns-clause-silent

@@ -1,4 +1,4 @@
-use Rattle.std.proofs.Common.{[], ap, subst, ◌∙◌}
+use Rattle.std.proofs.Common.{[], ap, subst, sym, ◌∙◌}
 use Rattle.std.proofs.lemmas.Result.{on_ok_weaker}
 use Rattle.graphql_names.specs.Placed.{Place, node_tree}
 use Rattle.document_typed_operations.specs.TypedDocument.{typed_operation_tree}
@@ -8,12 +8,12 @@ use Rattle.rule_definitions.specs.GivenValues.{Variables}
 use Rattle.rule_uses.specs.in_fault_data.FaultView.{faults_of}
 use Rattle.rule_uses.specs.in_fault_data.Adds.{Adds}
 use Rattle.rule_uses.specs.in_rule_values.Wanting.{variables_of}
-use Rattle.rule_definitions.proofs.Adding.{gains_same}
+use Rattle.rule_definitions.proofs.Adding.{gains_nothing, gains_same}
 use Rattle.rule_document_ground.specs.Reach.{reached_members, reached_fragments_of}
 use Rattle.rule_document_ground.specs.NotedNames.{noted_names}
 use Rattle.rule_variables.specs.UsedNames.{with_used}
 use Rattle.rule_variables.specs.VariableFaults.{AloneBreaks}
-use Rattle.rule_variables.proofs.Gathered.{alone_is}
+use Rattle.rule_variables.proofs.Gathered.{alone_is, none_break}
 use Rattle.rule_variables.proofs.check.check_variables_alone.Goals as goal
 
 pub returns : goal.returns
@@ -28,3 +28,12 @@ returns c =
     (subst (λ ns. Adds c.args.faults.now c.check_alone.new.faults (AloneBreaks o.variables ns)) names
     (subst (λ (vs : Variables Place). Adds c.args.faults.now c.check_alone.new.faults (AloneBreaks vs (noted_names c.in_ok-used.used))) own h)))
     c.check_alone.ensures
+
+pub returns-in-is_empty : goal.returns-in-is_empty
+returns-in-is_empty c at d reach =
+    let o = meant_by_operation (node_tree typed_operation_tree c.args.operation.now) in
+    let members = reached_members c.args.reach.now in
+    let fragments = reached_fragments_of c.args.reach.now in
+    let none : o.variables ≡ [] = ? in
+    gains_nothing (faults_of c.args.faults.now) _ (λ f q. none_break _ f
+    (subst (λ (vs : Variables Place). AloneBreaks vs (with_used [] o.directives members fragments) f) none ((alone_is d o members fragments reach at f).1 q)))
