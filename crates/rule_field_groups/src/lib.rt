@@ -5,7 +5,7 @@
 //! of them in which no fragment is walked twice (`node_walk.rt`). Two passes compare the fields of such a list (`Pass`): fields of one
 //! response key in shape, and fields that one object may have in name and arguments. `groups_of` splits the fields of one key once by
 //! the types that they are selected on (`KeyGroup` of `groups.rt`). `check_key_group` compares those on abstract types with their first,
-//! and those on an object type with that one too, or else with their own first (`conflicts.rt`). `lists_below` gives the sets below a
+//! and those on an object type with that one too, or else with their own first (`conflicts.rt`). `push_lists_below` adds the sets below a
 //! group as lists of sets for the next level (`AreListsBelow` of `specs/Under.antt`). A few fields that are known to go together need no
 //! index: `check_group` compares them, and `push_below` gives the list of the sets below them.
 //!

@@ -76,7 +76,7 @@ group_members w list groups group are parts there part c m k =
     let p = parts part (given_in lists_in_group part groups group there c) in
     are m (of_filter p.0 list m (subst (λ l. Contains l m) p.1 k)).0
 
-no_items : {X : Type 0} (xs : List X) → length xs ≡ 0 → xs ≡ []
+pub no_items : {X : Type 0} (xs : List X) → length xs ≡ 0 → xs ≡ []
 no_items [] e = refl
 no_items (x ∷ xs) e = absurd (omega (arith, e))
 

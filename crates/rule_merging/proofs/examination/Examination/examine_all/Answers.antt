@@ -1,6 +1,7 @@
-use Rattle.std.proofs.Common.{◌≤◌, List, Contains, [], ◌∷◌, map, sym, ap, subst, append-nil, arith}
+use Rattle.std.proofs.Common.{◌≡◌, ◌≤◌, List, Contains, [], ◌∷◌, length, map, sym, ap, subst, append-nil, arith}
 use Rattle.std.proofs.lemmas.Result.{IfOk-weaker}
 use Rattle.graphql_names.specs.Placed.{Place}
+use Rattle.rule_number_lists.specs.NumberRows.{rows_of}
 use Rattle.rule_field_groups.specs.in_meaning.MeantTree.{MeantOperation}
 use Rattle.rule_field_groups.proofs.in_definitions.Lists.{not_in_nil}
 use Rattle.rule_field_groups.specs.in_document_definitions.Limits.{chain_bound}
@@ -8,13 +9,13 @@ use Rattle.rule_field_groups.specs.in_sets.in_ground.Broken.{brokens_of}
 use Rattle.rule_field_groups.specs.Remembered.{account_of, kept_of}
 use Rattle.rule_merging.specs.Counted.{AreListed}
 use Rattle.rule_merging.specs.Examined.{ExaminesSets, schema_of, document_of, sets_of}
-use Rattle.rule_field_groups.specs.Under.{Sets, sets_in}
+use Rattle.rule_field_groups.specs.Under.{Sets, all_sets, sets_in}
 use Rattle.rule_field_groups.specs.Members.{meant_sets}
 use Rattle.rule_field_groups.specs.in_sets.Read.{set_at}
-use Rattle.rule_merging.proofs.Examining.{SoFar, first_level, level_step, no_more_levels}
+use Rattle.rule_merging.proofs.Examining.{no_items, SoFar, first_level, level_step, no_more_levels}
 use Rattle.rule_merging.proofs.Counting.{grows_not, grows_with, listed_next}
 use Rattle.rule_merging.proofs.examination.Examination.examine_all.Goals as goal
-use Rattle.rule_merging.proofs.examination.Examination.examine_all.Goals.{then-loop-length-test+else-not-is_empty, else-loop-length-test}
+use Rattle.rule_merging.proofs.examination.Examination.examine_all.Goals.{then-loop-length-test+else-len-ne0, else-loop-length-test}
 
 pub returns-in_err-level-clause-counted : goal.returns-in_err-level-clause-counted
 returns-in_err-level-clause-counted c =
@@ -74,7 +75,12 @@ pub returns-clause-examined : goal.returns-clause-examined
 returns-clause-examined c =
     let e = c.args.self.now in
     let level = sets_in (sets_of e) c.loop-length.level in
-    let long : (sets : Sets) → Contains level sets → chain_bound ≤ c.loop-length.length = λ sets there. elim c.loop-length-test.branch [ ? ] in
+    let long : (sets : Sets) → Contains level sets → chain_bound ≤ c.loop-length.length = λ sets there. elim c.loop-length-test.branch [
+      | then-loop-length-test+else-len-ne0 w ↦
+          let none : length (rows_of c.loop-length.level) ≡ 0 = omega (arith, w.len.ensures, w.if-len-ne0.false) in
+          not_in_nil sets (subst (λ l. Contains l sets) (ap (all_sets (sets_of e)) (no_items (rows_of c.loop-length.level) none)) there)
+      | else-loop-length-test w ↦ omega (arith, w.loop-length-test.false)
+    ] in
     IfOk-weaker c.have_fields.result _ _
     (λ left h o is.
     let t = c.loop-length.invariant.examined o is in (
