@@ -24,3 +24,6 @@ pub returns-clause-accepts : goal.returns-clause-accepts
 returns-clause-accepts c =
     subst (λ (y : Schema). OnOk c.validate_with_possible_types.result (ValidMeansSilence (schema_tree y) (document_meant c.args.document.now) (diagnostics_of c.args.list.now) (diagnostics_of c.validate_with_possible_types.new.list)))
     c.new-schema.ensures c.validate_with_possible_types.ensures.accepts
+
+pub returns-clause-once : goal.returns-clause-once
+returns-clause-once c = c.validate_with_possible_types.ensures.once
