@@ -1,0 +1,147 @@
+"""The documents of a project, read and checked, with processes side by side where there are many."""
+
+import multiprocessing
+import os
+from concurrent.futures import ProcessPoolExecutor
+from dataclasses import dataclass, field
+from typing import Any, Callable, Dict, Iterable, List, Optional, Sequence, Set, Tuple
+
+from .. import NotUtf8Error, StackError
+from . import globs
+from .config import Project
+from .failures import MEMORY, WRONG_WORDS, Stop
+from .findings import DOCUMENT, Finding, PartsMap, excerpt, findings, once, place_in
+from .schemas import Held, paths, told_path
+from .sources import JAVASCRIPT, PYTHON, TEXTS, File, Source, is_utf8, read, sources
+from .units import Project as Definitions
+from .units import Unit
+
+FEW = 100
+"""So many texts are checked by one process."""
+TEMPLATE = "Template"
+
+
+@dataclass
+class Found:
+    """What is found in the documents of a project."""
+
+    documents: int = 0
+    """How many texts were checked."""
+    findings: List[Finding] = field(default_factory=list)
+    unread: List[str] = field(default_factory=list)
+    """What is told of files that cannot be read."""
+
+
+def document_paths(project: Project) -> List[str]:
+    """The files of a project's documents, from its root; without its schema's and those that it excludes."""
+    names, unmet = globs.found(project.root, project.documents, TEXTS + JAVASCRIPT + PYTHON)
+    if unmet:
+        raise Stop(WRONG_WORDS, f"no document is named by `{unmet[0]}` in {told_path(project.root, '.')}")
+    left = set(paths(project))
+    return [it for it in names if it not in left and not globs.matches(it, project.exclude)]
+
+
+def scanned(pair: Tuple[str, str]) -> Tuple[Optional[str], List[Source]]:
+    """The texts of a file, or why there are none."""
+    real, told = pair
+    try:
+        file = read(real, told)
+    except OSError as error:
+        return f"{told}: {error.strerror}", []
+    return texts_in(file)
+
+
+def texts_in(file: File) -> Tuple[Optional[str], List[Source]]:
+    """The texts of a file that is read."""
+    if not is_utf8(file.data):
+        return f"{file.path}: is not UTF-8", []
+    return None, sources(file)
+
+
+class _Side:
+    """Processes side by side, which are forked, so that they have what is there already."""
+
+    state: Any = None
+
+    @classmethod
+    def map(cls, work: Callable[[Any], Any], items: Sequence[Any], state: Any = None) -> List[Any]:
+        """What the work makes of each item, in order."""
+        count = min(os.cpu_count() or 1, -(-len(items) // FEW))
+        cls.state = state
+        if count < 2 or "fork" not in multiprocessing.get_all_start_methods():
+            return [work(it) for it in items]
+        with ProcessPoolExecutor(count, mp_context=multiprocessing.get_context("fork")) as pool:
+            return list(pool.map(work, items, chunksize=max(1, len(items) // (count * 4))))
+
+
+@dataclass
+class Documents:
+    """The texts of a project over its schema."""
+
+    of_project: Project
+    project: Definitions
+    held: Held
+    unread: List[str] = field(default_factory=list)
+
+    @staticmethod
+    def of(project: Project, held: Held) -> "Documents":
+        """The documents in a project's files."""
+        pairs = [(os.path.join(project.root, it), told_path(project.root, it)) for it in document_paths(project)]
+        read_files = _Side.map(scanned, pairs)
+        unread = [words for words, _ in read_files if words]
+        return Documents(project, Definitions([source for _, found in read_files for source in found]), held, unread)
+
+    @property
+    def sources(self) -> Sequence[Source]:
+        """The texts."""
+        return self.project.sources
+
+    def check(self, unit: Unit) -> List[Finding]:
+        """What is wrong with a unit."""
+        if self.project.is_filled(unit):
+            return []
+        text, parts = self.project.text(unit)
+        schema = self.held.schema
+        assert schema
+        try:
+            report = schema.check(text, path=DOCUMENT)
+        except MemoryError:
+            raise Stop(MEMORY, "out of memory") from None
+        except (StackError, NotUtf8Error) as error:
+            raise Stop(WRONG_WORDS, f"{error}: lower --nesting") from None
+        return findings(report, PartsMap(parts, self.held.texts, text)) if not report else []
+
+    def templates(self, numbers: Iterable[int]) -> List[Finding]:
+        """The places at which a program fills a definition, so that it is not checked."""
+        found = []
+        for source in (self.sources[it] for it in numbers):
+            for hole in source.inside:
+                words = "a program fills this place, so that the text is not known and not checked"
+                shown = excerpt(source.file, hole.start, hole.end)
+                hint = "write a fragment, or a variable: whole fragments alone may be filled in, between definitions"
+                found.append(Finding(place_in(source.file, hole.start, hole.end), TEMPLATE, words, hint, (), {}, "error", shown))
+        return found
+
+    def found(self, chosen: Optional[Set[int]] = None) -> Found:
+        """What is found in the units that have a part of these sources, or else in all."""
+        units = [it for it in self.project.units() if chosen is None or it.sources & chosen]
+        if chosen is None:
+            documents = set(range(len(self.sources)))
+        else:
+            documents = chosen.union(*(it.sources for it in units)) if units else chosen
+        lists = _Side.map(_checked, units, self)
+        found = [finding for it in lists for finding in it] + self.templates(documents)
+        return Found(len(documents), once(found), self.unread)
+
+
+def _checked(unit: Unit) -> List[Finding]:
+    documents: Documents = _Side.state
+    return documents.check(unit)
+
+
+def by_path(found: Iterable[Finding]) -> Dict[str, List[Finding]]:
+    """The findings of each path."""
+    lists: Dict[str, List[Finding]] = {}
+    for it in found:
+        lists.setdefault(it.place.path, []).append(it)
+    return lists

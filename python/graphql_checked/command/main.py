@@ -1,0 +1,46 @@
+"""The words of `graphql-check`."""
+
+import argparse
+import sys
+from typing import List, Optional
+
+from . import check, globs
+from .failures import MEMORY, NOT_BUILT, UNREAD, Stop
+
+DESCRIPTION = "Checks the schemas and documents of a repository, in the configuration of graphql-config."
+STATUSES = """statuses: 0 accepted, 1 refused, 2 wrong words or configuration, 3 a file cannot be read or is not UTF-8, 4 out of memory,
+70 the library is not there"""
+
+
+def reader() -> argparse.ArgumentParser:
+    """What reads the words."""
+    from .. import __version__
+
+    found = argparse.ArgumentParser(prog="graphql-check", description=DESCRIPTION, epilog=STATUSES)
+    found.add_argument("-V", "--version", action="version", version=f"graphql-check {__version__}")
+    commands = found.add_subparsers(dest="command", metavar="COMMAND")
+    one = commands.add_parser("check", help="tells what is wrong (this is done without words, too)", description=check.__doc__, epilog=STATUSES)
+    check.add(one)
+    one.set_defaults(run=check.run)
+    return found
+
+
+def main(words: Optional[List[str]] = None) -> int:
+    """Does what the words ask for, and gives the status."""
+    globs.forget()
+    given = reader().parse_args((sys.argv[1:] if words is None else words) or ["check"])
+    if not given.command:
+        reader().error("name a command: check, manifest or lsp")
+    try:
+        return int(given.run(given))
+    except Stop as stop:
+        print(f"graphql-check: {stop}", file=sys.stderr)
+        return stop.status
+    except MemoryError:
+        print("graphql-check: out of memory", file=sys.stderr)
+        return MEMORY
+    except OSError as error:
+        print(f"graphql-check: {error}", file=sys.stderr)
+        return NOT_BUILT if "libgraphql_checked" in str(error) else UNREAD
+    except KeyboardInterrupt:
+        return 130
