@@ -58,20 +58,26 @@ def texts_in(file: File) -> Tuple[Optional[str], List[Source]]:
     return None, sources(file)
 
 
-class _Side:
-    """Processes side by side, which are forked, so that they have what is there already."""
+_states: List[Any] = []
 
-    state: Any = None
 
-    @classmethod
-    def map(cls, work: Callable[[Any], Any], items: Sequence[Any], state: Any = None) -> List[Any]:
-        """What the work makes of each item, in order."""
-        count = min(os.cpu_count() or 1, -(-len(items) // FEW))
-        cls.state = state
+def state() -> Any:
+    """What the work of `side_by_side` is given."""
+    return _states[-1]
+
+
+def side_by_side(work: Callable[[Any], Any], items: Sequence[Any], given: Any = None) -> List[Any]:
+    """What the work makes of each item, in order. Where there are many, processes do it side by side; they are forked, so that they
+    have the schema and all texts."""
+    count = min(len(os.sched_getaffinity(0)) if hasattr(os, "sched_getaffinity") else os.cpu_count() or 1, -(-len(items) // FEW))
+    _states.append(given)
+    try:
         if count < 2 or "fork" not in multiprocessing.get_all_start_methods():
             return [work(it) for it in items]
         with ProcessPoolExecutor(count, mp_context=multiprocessing.get_context("fork")) as pool:
             return list(pool.map(work, items, chunksize=max(1, len(items) // (count * 4))))
+    finally:
+        _states.pop()
 
 
 @dataclass
@@ -87,7 +93,7 @@ class Documents:
     def of(project: Project, held: Held) -> "Documents":
         """The documents in a project's files."""
         pairs = [(os.path.join(project.root, it), told_path(project.root, it)) for it in document_paths(project)]
-        read_files = _Side.map(scanned, pairs)
+        read_files = side_by_side(scanned, pairs)
         unread = [words for words, _ in read_files if words]
         return Documents(project, Definitions([source for _, found in read_files for source in found]), held, unread)
 
@@ -129,13 +135,13 @@ class Documents:
             documents = set(range(len(self.sources)))
         else:
             documents = chosen.union(*(it.sources for it in units)) if units else chosen
-        lists = _Side.map(_checked, units, self)
+        lists = side_by_side(_checked, units, self)
         found = [finding for it in lists for finding in it] + self.templates(documents)
         return Found(len(documents), once(found), self.unread)
 
 
 def _checked(unit: Unit) -> List[Finding]:
-    documents: Documents = _Side.state
+    documents: Documents = state()
     return documents.check(unit)
 
 

@@ -4,7 +4,7 @@ import argparse
 import sys
 from typing import List, Optional
 
-from . import check, globs
+from . import check, globs, manifest
 from .failures import MEMORY, NOT_BUILT, UNREAD, Stop
 
 DESCRIPTION = "Checks the schemas and documents of a repository, in the configuration of graphql-config."
@@ -22,6 +22,9 @@ def reader() -> argparse.ArgumentParser:
     one = commands.add_parser("check", help="tells what is wrong (this is done without words, too)", description=check.__doc__, epilog=STATUSES)
     check.add(one)
     one.set_defaults(run=check.run)
+    one = commands.add_parser("manifest", help="writes or compares the manifest of trusted documents", description=manifest.__doc__, epilog=STATUSES)
+    manifest.add(one)
+    one.set_defaults(run=manifest.run)
     return found
 
 

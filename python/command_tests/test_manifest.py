@@ -1,0 +1,76 @@
+"""`graphql-check manifest`: trusted documents."""
+
+import hashlib
+import json
+import sys
+
+from conftest import Repository
+
+BODY = "query Page($id: ID!) { product(id: $id) { ...A ...B } } fragment A on Product { name ...C } fragment B on Product { name } fragment C on Product { tags }"
+
+
+def filled(shop: Repository) -> Repository:
+    return shop.write(
+        {
+            "src/a.graphql": "# a comment\nquery Page($id: ID!) {\n  product(id: $id) { ...A, ...B }\n}\nfragment B on Product { name }",
+            "src/c.ts": "gql`fragment C on Product { tags }`; gql`fragment A on Product { name ...C }`; gql`mutation Do { setStatus(order: 1, status: PAID) { id } }`",
+        }
+    )
+
+
+def test_the_form_of_apollo(shop: Repository) -> None:
+    """The members that Apollo's documentation of a persisted query manifest names."""
+    done = filled(shop).run("manifest")
+    told = json.loads(done.out)
+    assert (done.status, list(told), told["format"], told["version"]) == (0, ["format", "version", "operations"], "apollo-persisted-query-manifest", 1)
+    assert [(it["name"], it["type"]) for it in told["operations"]] == [("Do", "mutation"), ("Page", "query")]
+    assert told["operations"][1]["body"] == BODY
+    assert told["operations"][1]["id"] == hashlib.sha256(BODY.encode()).hexdigest()
+
+
+def test_the_form_of_relay(shop: Repository) -> None:
+    told = json.loads(filled(shop).run("manifest", "--form", "relay").out)
+    assert told[hashlib.sha256(BODY.encode()).hexdigest()] == BODY
+    assert len(told) == 2 and list(told) == sorted(told)
+
+
+def test_the_same_bytes_on_each_run_and_however_files_are_cut(shop: Repository) -> None:
+    filled(shop)
+    first = shop.program("manifest").out
+    assert shop.run("manifest").out == first
+    whole = (shop.folder / "src/a.graphql").read_text()
+    (shop.folder / "src/a.graphql").unlink()
+    shop.write({"src/z/b.graphql": "fragment B on Product{name}", "src/z/a.py": f"P = gql('''{whole.split('fragment')[0]}''')"})
+    assert shop.run("manifest").out == first
+
+
+def test_compared_with_a_stored_one(shop: Repository) -> None:
+    filled(shop)
+    for form in "apollo", "relay":
+        assert shop.run("manifest", "--form", form, "--output", "m.json").status == 0
+        done = shop.run("manifest", "--check", "m.json")
+        assert (done.status, done.out, done.told) == (0, "", "m.json has these 2 operations\n")
+    shop.write({"src/d.graphql": "query More { product(id: 1) { id } }"})
+    done = shop.run("manifest", "--check", "m.json")
+    assert (done.status, done.out) == (1, "m.json: has not `More` as it is now\n")
+    shop.write({"src/d.graphql": "query # more\n Page { product(id: 1) { id } }", "m.json": "[]"})
+    assert shop.run("manifest", "--check", "m.json").status == 1, "two operations of one name"
+    shop.write({"src/d.graphql": "query D { product(id: 1) { id } }"})
+    assert shop.run("manifest", "--check", "m.json").status == 3
+    assert shop.run("manifest", "--check", "nosuch.json").status == 3
+
+
+def test_what_has_no_manifest(shop: Repository) -> None:
+    shop.write({"src/a.graphql": "{ product(id: 1) { id } }"})
+    done = shop.run("manifest")
+    assert (done.status, done.lines) == (1, ["src/a.graphql:1:1: error[Manifest]: an operation of a manifest has a name"])
+    shop.write({"src/a.graphql": "query A { nope }"})
+    done = shop.run("manifest", "--output", "m.json")
+    assert done.status == 1 and not (shop.folder / "m.json").exists()
+
+
+def test_the_hash_is_that_of_sha256sum(shop: Repository) -> None:
+    (first, _) = json.loads(filled(shop).run("manifest").out)["operations"]
+    shop.write({"body": first["body"]})
+    assert shop.command(["sha256sum", "body"]).out.split()[0] == first["id"]
+    assert sys.version_info >= (3, 8)
