@@ -1,10 +1,13 @@
 //! Fields of types by name.
-ghost use Rattle.std.specs.Prelude.{◌≡◌, IfOk, IfErr};
+ghost use Rattle.std.specs.Prelude.{◌≡◌, ◌&&◌, IfOk, IfErr};
+ghost use Rattle.std.specs.Option.{option_map};
 ghost use Rattle.tree_type_members.specs.TypeSystemTree.{field_definition_tree};
 ghost use Rattle.schema_components.specs.Given.{component_tree};
 ghost use Rattle.schema_building.specs.in_schema_types.Addresses.{under};
 ghost use Rattle.schema_building.specs.in_schema_types.TypeView.{extended_type};
+ghost use Rattle.schema_building.specs.in_built_in.MetaFields.{meta_field_of};
 ghost use Rattle.graphql_schema.specs.SchemaOf.{schema_tree};
+ghost use Rattle.graphql_schema.specs.MetaField.{by_definition};
 ghost use Rattle.graphql_schema.specs.FieldView.{lent_field};
 ghost use Rattle.graphql_schema.specs.LookUps.{is_query_root, IsFieldOn, IsFieldNamed, FieldIsMissing};
 
@@ -61,11 +64,29 @@ impl Schema {
         match field_of(ty, name) {
             // A field of the type's own comes first, also if its name is reserved, which a rule tells.
             Some(field) => Some(field),
-            None => self.meta_fields.get(
-                is_composite,
-                is_composite && self.is_query_root(type_name),
-                name,
-            ),
+            None => self.meta_field(is_composite, type_name, name),
+        }
+    }
+
+    /// The meta-field of that name of a type of that name, which is composite or not.
+    fn meta_field(
+        &self,
+        is_composite: bool,
+        type_name: &Name,
+        name: &Name,
+    ) -> Option<&Component<FieldDefinition>>
+        ensures { lent_field result ≡ option_map by_definition (meta_field_of is_composite (is_composite && is_query_root (schema_tree self.now) type_name.now.text) name.now.text) }
+    {
+        // names of types are compared last: they may be long
+        match name.as_str() {
+            "__typename" if is_composite => Some(&self.meta_fields.typename),
+            "__schema" if is_composite && self.is_query_root(type_name) => {
+                Some(&self.meta_fields.schema)
+            }
+            "__type" if is_composite && self.is_query_root(type_name) => {
+                Some(&self.meta_fields.type_by_name)
+            }
+            _ => None,
         }
     }
 

@@ -1,11 +1,9 @@
 //! The definitions of a schema's meta-fields.
 ghost use Rattle.std.specs.Prelude.{◌≡◌};
-ghost use Rattle.std.specs.Option.{option_map};
 ghost use Rattle.tree_type_members.specs.TypeSystemTree.{field_definition_tree};
-ghost use Rattle.schema_building.specs.in_built_in.MetaFields.{typename_field, schema_field, type_field, meta_field_of};
+ghost use Rattle.schema_building.specs.in_built_in.MetaFields.{typename_field, schema_field, type_field};
 ghost use Rattle.schema_components.specs.Given.{component_tree};
 ghost use Rattle.graphql_schema.specs.MetaField.{by_definition};
-ghost use Rattle.graphql_schema.specs.FieldView.{lent_field};
 
 use graphql_names::Name;
 use schema_components::{Component, ComponentOrigin};
@@ -17,9 +15,9 @@ use tree_type_members::FieldDefinition;
 /// The definitions of `__typename`, `__schema` and `__type` (sections 4.1 and 4.2).
 // Kept in each schema, so that they are lent as other fields are.
 pub(crate) struct MetaFields {
-    typename: Component<FieldDefinition>,
-    schema: Component<FieldDefinition>,
-    type_by_name: Component<FieldDefinition>,
+    pub(crate) typename: Component<FieldDefinition>,
+    pub(crate) schema: Component<FieldDefinition>,
+    pub(crate) type_by_name: Component<FieldDefinition>,
 }
 
 // Not derived: a derived drop is proved again in each crate that drops one.
@@ -50,22 +48,5 @@ impl MetaFields {
             schema: Component::new(ComponentOrigin::Definition, schema_field(alloc)?),
             type_by_name: Component::new(ComponentOrigin::Definition, type_field(alloc)?),
         })
-    }
-
-    /// The meta-field of that name, of a composite type or another, which is the root of queries or not.
-    pub(crate) fn get(
-        &self,
-        is_composite: bool,
-        is_query_root: bool,
-        name: &Name,
-    ) -> Option<&Component<FieldDefinition>>
-        ensures { lent_field result ≡ option_map by_definition (meta_field_of is_composite is_query_root name.now.text) }
-    {
-        match name.as_str() {
-            "__typename" if is_composite => Some(&self.typename),
-            "__schema" if is_query_root => Some(&self.schema),
-            "__type" if is_query_root => Some(&self.type_by_name),
-            _ => None,
-        }
     }
 }

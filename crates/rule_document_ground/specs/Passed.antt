@@ -21,7 +21,7 @@ use Rattle.rule_document_definitions.specs.ReadFields.{ReadField, read_field, Re
 use Rattle.rule_document_ground.specs.Fields.{field_of, meant_fragments}
 use Rattle.rule_document_ground.specs.declared.field_selection.FieldSelection.{FieldSelection}
 use Rattle.rule_document_ground.specs.LoneKeys.{HasOneOfEachKey, AreKeysLone}
-use Rattle.rule_document_ground.specs.declared.keys.KeyWalk.{KeyWalk}
+use Rattle.rule_document_ground.specs.declared.lone_keys.KeyWalk.{KeyWalk}
 
 -- what is read of a set, of several, of fields, and of the fragments of a document
 abbrev pub read_of_set : SelectionSet → ReadSet
