@@ -90,6 +90,17 @@ def matches(path: str, patterns: Iterable[str]) -> bool:
     return any(expression(normal(it)).fullmatch(path) or path.startswith(normal(it).rstrip("/") + "/") for it in patterns)
 
 
+def chooses(path: str, patterns: Iterable[str]) -> bool:
+    """Whether `found` would give a path."""
+    is_chosen = False
+    for it in patterns:
+        if it.startswith("!"):
+            is_chosen = is_chosen and not expression(normal(it[1:])).fullmatch(path)
+        else:
+            is_chosen = is_chosen or matches(path, [it])
+    return is_chosen
+
+
 def found(root: str, patterns: Iterable[str], endings: Tuple[str, ...]) -> Tuple[List[str], List[str]]:
     """The paths, from the root, of the files of these patterns, in order; and the patterns that have none. A folder stands for the
     files below it that have one of these endings."""

@@ -4,7 +4,7 @@ import argparse
 import sys
 from typing import List, Optional
 
-from . import check, globs, manifest
+from . import check, globs, manifest, server
 from .failures import MEMORY, NOT_BUILT, UNREAD, Stop
 
 DESCRIPTION = "Checks the schemas and documents of a repository, in the configuration of graphql-config."
@@ -25,12 +25,16 @@ def reader() -> argparse.ArgumentParser:
     one = commands.add_parser("manifest", help="writes or compares the manifest of trusted documents", description=manifest.__doc__, epilog=STATUSES)
     manifest.add(one)
     one.set_defaults(run=manifest.run)
+    one = commands.add_parser("lsp", help="serves an editor", description=server.__doc__)
+    server.add(one)
+    one.set_defaults(run=server.run)
     return found
 
 
 def main(words: Optional[List[str]] = None) -> int:
     """Does what the words ask for, and gives the status."""
     globs.forget()
+    sys.setrecursionlimit(5000)  # documents nest deeper than Python's calls may
     given = reader().parse_args((sys.argv[1:] if words is None else words) or ["check"])
     if not given.command:
         reader().error("name a command: check, manifest or lsp")

@@ -239,6 +239,11 @@ class Types:
             found.roots = {**{key: it for key, it in names.items() if it in found.types}, **found.roots}
         return found
 
+    def all_members(self, type_name: str) -> Tuple[int, List[Member]]:
+        """The fields or values of a type and its extensions, with the number of the text of its definition."""
+        found = self.types.get(type_name, [])
+        return (found[0][0] if found else 0), [member for _, it in found for member in it.members]
+
     def member(self, type_name: str, name: str) -> Optional[Tuple[int, Member]]:
         """A field or a value of a type, with the number of its text."""
         for number, it in self.types.get(type_name, []):
