@@ -47,7 +47,11 @@ class TypeSystemDefinition(Member):
     is_extension: bool = False
     members: List[Member] = field(default_factory=list)
     names: List[str] = field(default_factory=list)
-    """The interfaces of a type, the members of a union."""
+    """The interfaces of a type, the members of a union, the locations of a directive."""
+    first: int = 0
+    """The byte where the definition begins, with its description."""
+    last: int = 0
+    """The byte after it."""
 
 
 class Cursor:
@@ -206,8 +210,10 @@ def definitions(text: bytes) -> List[TypeSystemDefinition]:
     """The definitions and extensions of a text, in order."""
     cursor, found = Cursor(text), []
     while not cursor.is_over:
+        first = cursor.tokens[cursor.at].start()
         it = _definition(cursor)
         if it:
+            it.first, it.last = first, cursor.tokens[cursor.at - 1].end()
             found.append(it)
     return found
 
