@@ -218,8 +218,10 @@ def test_since_a_revision(shop: Repository) -> None:
     assert (done.status, done.told) == (0, "0 documents accepted\n")
     shop.write({"src/a.graphql": "query A { product(id: 2) { ...P } }", "src/new.graphql": "query New { nope }"})
     assert places(shop, "--since", "HEAD") == ["src/new.graphql:1:13", "src/p.ts:1:29"]
+    shop.write({"src/p.ts": "gql`fragment Other on Product { name }`"})
+    assert places(shop, "--since", "HEAD") == ["src/a.graphql:1:28", "src/new.graphql:1:13", "src/p.ts:1:5"], "the fragment is no more"
     shop.write({"schema.graphql": SHOP + "\n"})
-    assert len(places(shop, "--since", "HEAD")) == 3
+    assert len(places(shop, "--since", "HEAD")) == 4
     assert shop.run("check", "--since", "nosuch").status == 2
 
 

@@ -72,6 +72,7 @@ def _chosen(given: argparse.Namespace, asked: words.Asked, documents: Documents)
     if changed & of_schema or (asked.path and os.path.realpath(asked.path) in changed):
         return named
     found = {number for number, it in enumerate(documents.sources) if os.path.realpath(it.file.path) in changed}
+    found |= documents.project.unmet()  # of a fragment that was renamed or removed
     return found if named is None else found & named
 
 

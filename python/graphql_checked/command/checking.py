@@ -66,10 +66,15 @@ def state() -> Any:
     return _states[-1]
 
 
-def side_by_side(work: Callable[[Any], Any], items: Sequence[Any], given: Any = None) -> List[Any]:
-    """What the work makes of each item, in order. Where there are many, processes do it side by side; they are forked, so that they
-    have the schema and all texts."""
-    count = min(len(os.sched_getaffinity(0)) if hasattr(os, "sched_getaffinity") else os.cpu_count() or 1, -(-len(items) // FEW))
+def processors() -> int:
+    """How many processors this process may use."""
+    return len(os.sched_getaffinity(0)) if hasattr(os, "sched_getaffinity") else os.cpu_count() or 1
+
+
+def side_by_side(work: Callable[[Any], Any], items: Sequence[Any], given: Any = None, most: int = 0) -> List[Any]:
+    """What the work makes of each item, in order. Where there are many, processes do it side by side, so many at most; they are
+    forked, so that they have the schema and all texts."""
+    count = min(most or processors(), -(-len(items) // FEW))
     _states.append(given)
     try:
         if count < 2 or "fork" not in multiprocessing.get_all_start_methods():
@@ -88,6 +93,8 @@ class Documents:
     project: Definitions
     held: Held
     unread: List[str] = field(default_factory=list)
+    most: int = 0
+    """How many processes check side by side at most; 0 for all processors."""
 
     @staticmethod
     def of(project: Project, held: Held) -> "Documents":
@@ -131,12 +138,9 @@ class Documents:
     def found(self, chosen: Optional[Set[int]] = None) -> Found:
         """What is found in the units that have a part of these sources, or else in all."""
         units = [it for it in self.project.units() if chosen is None or it.sources & chosen]
-        if chosen is None:
-            documents = set(range(len(self.sources)))
-        else:
-            documents = chosen.union(*(it.sources for it in units)) if units else chosen
-        lists = side_by_side(_checked, units, self)
-        found = [finding for it in lists for finding in it] + self.templates(documents)
+        documents = set(range(len(self.sources))) if chosen is None else chosen
+        lists = side_by_side(_checked, units, self, self.most)
+        found = [finding for it in lists for finding in it] + self.templates(documents.union(*(it.sources for it in units)))
         return Found(len(documents), once(found), self.unread)
 
 

@@ -1,5 +1,7 @@
 """How a call ends: the statuses of `graphql-report`, and the ways to stop before the end."""
 
+from typing import Tuple
+
 ACCEPTED = 0
 REFUSED = 1
 WRONG_WORDS = 2
@@ -14,6 +16,10 @@ class Stop(Exception):
     def __init__(self, status: int, words: str) -> None:
         super().__init__(words)
         self.status = status
+
+    def __reduce__(self) -> Tuple[type, Tuple[int, str]]:
+        """What another process makes it again from."""
+        return Stop, (self.status, str(self))
 
 
 def counted(number: int, what: str) -> str:

@@ -111,7 +111,7 @@ def found(root: str, patterns: Iterable[str], endings: Tuple[str, ...]) -> Tuple
             taken = expression(normal(given[1:]))
             paths = {it for it in paths if not taken.fullmatch(it)}
             continue
-        pattern = normal(given)
+        pattern = normal(os.path.relpath(given, root) if os.path.isabs(given) else given)
         if not SPECIAL.search(pattern) and os.path.isdir(os.path.join(root, pattern)):
             new = [it for it in _below(root, pattern) if it.endswith(endings)]
         elif os.path.isfile(os.path.join(root, pattern)):

@@ -4,8 +4,9 @@ import argparse
 import sys
 from typing import List, Optional
 
+from .. import build
 from . import check, globs, manifest, server
-from .failures import MEMORY, NOT_BUILT, UNREAD, Stop
+from .failures import ACCEPTED, MEMORY, NOT_BUILT, UNREAD, Stop
 
 DESCRIPTION = "Checks the schemas and documents of a repository, in the configuration of graphql-config."
 STATUSES = """statuses: 0 accepted, 1 refused, 2 wrong words or configuration, 3 a file cannot be read or is not UTF-8, 4 out of memory,
@@ -14,10 +15,8 @@ STATUSES = """statuses: 0 accepted, 1 refused, 2 wrong words or configuration, 3
 
 def reader() -> argparse.ArgumentParser:
     """What reads the words."""
-    from .. import __version__
-
     found = argparse.ArgumentParser(prog="graphql-check", description=DESCRIPTION, epilog=STATUSES)
-    found.add_argument("-V", "--version", action="version", version=f"graphql-check {__version__}")
+    found.add_argument("-V", "--version", action="store_true", help="tells the version, and whether the library is proved")
     commands = found.add_subparsers(dest="command", metavar="COMMAND")
     one = commands.add_parser("check", help="tells what is wrong (this is done without words, too)", description=check.__doc__, epilog=STATUSES)
     check.add(one)
@@ -36,9 +35,12 @@ def main(words: Optional[List[str]] = None) -> int:
     globs.forget()
     sys.setrecursionlimit(5000)  # documents nest deeper than Python's calls may
     given = reader().parse_args((sys.argv[1:] if words is None else words) or ["check"])
-    if not given.command:
+    if not given.command and not given.version:
         reader().error("name a command: check, manifest or lsp")
     try:
+        if given.version:
+            print(f"graphql-check {build()}")
+            return ACCEPTED
         return int(given.run(given))
     except Stop as stop:
         print(f"graphql-check: {stop}", file=sys.stderr)

@@ -114,7 +114,7 @@ def compared(trusted: Sequence[Trusted], path: str) -> int:
     for name in sorted(new[it] for it in set(new) - set(old)):
         print(f"{path}: has not `{name}` as it is now")
     for it in sorted(set(old) - set(new)):
-        print(f"{path}: has what is no more: {it} {' '.join(old[it].split())[:60]}")
+        print(f"{path}: has what is no more: {it[:12]} {' '.join(old[it].split())[:40]}")
     print(f"{path} is not the manifest of these documents: write it again", file=sys.stderr)
     return REFUSED
 

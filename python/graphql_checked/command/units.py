@@ -4,7 +4,7 @@ So a fragment may be in another file than its use, and each definition is judged
 A fragment that no operation of the project reaches is judged with its own text."""
 
 from dataclasses import dataclass
-from typing import Dict, Iterable, List, Sequence, Set, Tuple
+from typing import Dict, Iterable, List, Optional, Sequence, Set, Tuple
 
 from .findings import Part
 from .outline import Definition
@@ -38,6 +38,7 @@ class Project:
         self.sources = sources
         self.fragments: Dict[str, List[Node]] = {}
         self.operations: List[Node] = []
+        self._units: Optional[List[Unit]] = None
         for number, source in enumerate(sources):
             for index, it in enumerate(source.definitions or ()):
                 if it.is_fragment:
@@ -66,8 +67,18 @@ class Project:
                 left += new
         return found
 
+    def unmet(self) -> Set[int]:
+        """The sources that spread a fragment that no source has."""
+        spreads = ((number, name) for number, it in enumerate(self.sources) for of in it.definitions or () for name in of.spreads)
+        return {number for number, name in spreads if name not in self.fragments}
+
     def units(self) -> List[Unit]:
         """What is checked, in the order of sources; one of each source but where others have all of it."""
+        if self._units is None:
+            self._units = self._made_units()
+        return self._units
+
+    def _made_units(self) -> List[Unit]:
         everywhere = self.reached(self.operations)
         found = []
         for number, source in enumerate(self.sources):

@@ -35,11 +35,9 @@ class Asked:
 def chosen_paths(words: Sequence[str]) -> List[str]:
     """The paths of words, which may be patterns and folders."""
     found, unmet = globs.found(".", words, TEXTS + JAVASCRIPT + PYTHON)
-    absolute = [told_path(".", it) for it in unmet if os.path.isfile(it)]
-    missing = [it for it in unmet if not os.path.isfile(it)]
-    if missing:
-        raise Stop(WRONG_WORDS, f"there is no file `{missing[0]}`")
-    return [told_path(".", it) for it in found] + absolute
+    if unmet:
+        raise Stop(WRONG_WORDS, f"there is no file `{unmet[0]}`")
+    return [told_path(".", it) for it in found]
 
 
 def add(reader: argparse.ArgumentParser) -> None:

@@ -30,7 +30,7 @@ class Open:
     def documents(self) -> Documents:
         """All its documents."""
         if self._documents is None:
-            self._documents = Documents(self.project, Definitions([it for found in self.texts.values() for it in found]), self.held)
+            self._documents = Documents(self.project, Definitions([it for found in self.texts.values() for it in found]), self.held, most=1)
         return self._documents
 
     def has(self, path: str) -> bool:
