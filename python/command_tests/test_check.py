@@ -69,6 +69,13 @@ def test_a_fragment_that_no_operation_reaches(shop: Repository) -> None:
     assert shop.short() == ["src/a.graphql:2:1: error[UnusedFragment]", "src/b.graphql:1:1: error[UnusedFragment]"]
 
 
+def test_a_text_that_is_not_read_has_no_echoes(shop: Repository) -> None:
+    shop.write({f"src/{number}.graphql": "query Q%d { product(id: 1) { ...Price } }" % number for number in range(3)})
+    shop.write({"src/price.graphql": "fragment Price on Product {\n  price(\n}"})
+    # 2.8: arguments end in a bracket
+    assert shop.short() == ["src/price.graphql:3:1: error[Syntax]"]
+
+
 def test_two_fragments_of_one_name(shop: Repository) -> None:
     used = {f"src/{name}.graphql": f"query {name} {{ product(id: 1) {{ ...Price }} }} fragment Price on Product {{ price }}" for name in "ab"}
     assert shop.write(used).run().status == 0, "each is judged with its own"
@@ -161,6 +168,8 @@ def test_nothing_to_check_is_no_success(shop: Repository) -> None:
     assert done.status == 2 and "no document is named by `src/**/*.{graphql,ts,tsx,js,py}`" in done.told
     shop.write({"src/a.ts": "const a = 1;"})
     assert shop.run().status == 2
+    shop.write({"src/a.ts": f"gql`{OK}`", ".graphqlrc.yml": "schema: schema.graphql\ndocuments: [src/*.ts, src/*.grahpql]\n"})
+    assert shop.run().told == "graphql-check: no document is named by `src/*.grahpql` in .\n1 document accepted\n"
 
 
 def test_without_a_configuration(repository: Repository) -> None:

@@ -90,13 +90,13 @@ def act(client: Repository, given: Dict[str, str]) -> List[Tuple[int, str]]:
 def test_the_steps_of_the_action(client: Repository, packages: Installed) -> None:
     given = {"wheel": str(packages.wheel), "folder": "client", "manifest": "persisted-queries.json"}
     outer = Repository(client.folder.parent)
-    outer.environment = client.environment
+    outer.environment = {**client.environment, "GITHUB_WORKSPACE": str(outer.folder)}
     client.command(["bash", "-c", f"python3 -m pip install --quiet {packages.wheel} && graphql-check manifest --output persisted-queries.json"])
     assert [status for status, _ in act(outer, given)] == [0, 0, 0]
     client.write({"src/a.graphql": "query Nope {\n  nope\n}"})
     status, out = act(outer, given)[-1]
     message = "`Query` has no field `nope` (did you mean `node`?)"
-    assert (status, out) == (1, f"::error file=src/a.graphql,line=2,endLine=2,col=3,endColumn=7,title=UndefinedField::{message}\n")
+    assert (status, out) == (1, f"::error file=client/src/a.graphql,line=2,endLine=2,col=3,endColumn=7,title=UndefinedField::{message}\n")
     client.write({"src/a.graphql": "query More { __typename }"})
     assert [status for status, _ in act(outer, given)] == [0, 0, 1]
 

@@ -44,6 +44,7 @@ PROGRAMS = [
     ("a.ts", "`#graphql\n{ a }`; `{ b }`; '#graphql {c}'", ["#graphql\n{ a }"]),
     ("a.ts", "// gql`{ a }`\n/* gql`{ b }` */ 'gql`{ c }`'; mygql`{ d }`; gqlx`{ e }`", []),
     ("a.tsx", "<p>Don't</p>\ngql`{ a }`; <a href='/'>it's</a>; gql`{ b }`", ["{ a }", "{ b }"]),
+    ("a.vue", "<template><p>it's</p></template>\n<script>\nconst a = gql`{ a }`\n</script>", ["{ a }"]),
     ("a.js", "a = /`/; b = x / y; c = [/[/`]/]; gql`{ a }`", ["{ a }"]),
     ("a.js", "gql`{ a(b: \"\\\\n \\`\\u0041\\u{1F600}\\x42\") }`", ['{ a(b: "\\n `A😀B") }']),
     ("a.js", "x = `${gql`{ a }`} ${{ b: `}` }} gql`; gql`{ b }`", ["{ a }", "{ b }"]),

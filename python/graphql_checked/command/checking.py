@@ -2,6 +2,8 @@
 
 import multiprocessing
 import os
+import re
+import sys
 from concurrent.futures import ProcessPoolExecutor
 from dataclasses import dataclass, field
 from typing import Any, Callable, Dict, Iterable, List, Optional, Sequence, Set, Tuple
@@ -19,6 +21,7 @@ from .units import Unit
 FEW = 100
 """So many texts are checked by one process."""
 TEMPLATE = "Template"
+FRAGMENT = re.compile(rb"\bfragment\s+(\w+)\s+on\b")
 
 
 @dataclass
@@ -33,10 +36,14 @@ class Found:
 
 
 def document_paths(project: Project) -> List[str]:
-    """The files of a project's documents, from its root; without its schema's and those that it excludes."""
+    """The files of a project's documents, from its root; without its schema's and those that it excludes. A pattern that has no file
+    is told, and is a failure if none has one."""
     names, unmet = globs.found(project.root, project.documents, TEXTS + JAVASCRIPT + PYTHON)
-    if unmet:
-        raise Stop(WRONG_WORDS, f"no document is named by `{unmet[0]}` in {told_path(project.root, '.')}")
+    words = [f"no document is named by `{it}` in {told_path(project.root, '.')}" for it in unmet]
+    if words and not names:
+        raise Stop(WRONG_WORDS, words[0])
+    for it in words:
+        print(f"graphql-check: {it}", file=sys.stderr)
     left = set(paths(project))
     return [it for it in names if it not in left and not globs.matches(it, project.exclude)]
 
@@ -135,13 +142,20 @@ class Documents:
                 found.append(Finding(place_in(source.file, hole.start, hole.end), TEMPLATE, words, hint, (), {}, "error", shown))
         return found
 
+    def without_echoes(self, found: List[Finding]) -> List[Finding]:
+        """The findings without those that a fragment is missing which is in a text that is refused, since it can't be read."""
+        refused = {it.place.path for it in found}
+        unread = [it.text for it in self.sources if it.definitions is None and it.file.path in refused]
+        names = {name.decode() for text in unread for name in FRAGMENT.findall(text)}
+        return [it for it in found if it.rule != "UndefinedFragment" or it.fields.get("name") not in names]
+
     def found(self, chosen: Optional[Set[int]] = None) -> Found:
         """What is found in the units that have a part of these sources, or else in all."""
         units = [it for it in self.project.units() if chosen is None or it.sources & chosen]
         documents = set(range(len(self.sources))) if chosen is None else chosen
         lists = side_by_side(_checked, units, self, self.most)
         found = [finding for it in lists for finding in it] + self.templates(documents.union(*(it.sources for it in units)))
-        return Found(len(documents), once(found), self.unread)
+        return Found(len(documents), once(self.without_echoes(found)), self.unread)
 
 
 def _checked(unit: Unit) -> List[Finding]:

@@ -1,6 +1,7 @@
 """The forms in which findings are told: those of `graphql-report`, and SARIF."""
 
 import json
+import os
 import re
 import unicodedata
 from typing import Any, Dict, Iterator, List, Sequence, Tuple
@@ -64,10 +65,17 @@ def escaped(value: object, is_property: bool) -> str:
     return found.replace(":", "%3A").replace(",", "%2C") if is_property else found
 
 
+def in_checkout(path: str) -> str:
+    """A path from the folder of a workflow's checkout, where GitHub looks for it; outside of one as it is told."""
+    root = os.environ.get("GITHUB_WORKSPACE", "")
+    found = os.path.relpath(path, root) if root and not path.startswith("<") else path
+    return path if found.startswith("..") else found
+
+
 def github(it: Finding) -> str:
     """A finding as a workflow command of GitHub."""
     place = it.place
-    where = {"file": place.path}
+    where = {"file": in_checkout(place.path)}
     if place.line is not None:
         told = {"line": place.line, "endLine": place.end_line, "col": place.column, "endColumn": place.end_column}
         where.update({key: str(number) for key, number in told.items()})
@@ -78,7 +86,7 @@ def github(it: Finding) -> str:
 
 def sarif_place(place: Place) -> Dict[str, Any]:
     """A location of SARIF."""
-    found: Dict[str, Any] = {"artifactLocation": {"uri": place.path}}
+    found: Dict[str, Any] = {"artifactLocation": {"uri": in_checkout(place.path)}}
     if place.line is not None:
         found["region"] = {"startLine": place.line, "startColumn": place.column}
         if place.end_line is not None:

@@ -8,7 +8,7 @@ from typing import Dict, List, Optional, Tuple
 
 from .outline import Definition, definitions, is_type_system
 
-JAVASCRIPT = (".ts", ".tsx", ".js", ".jsx", ".mjs", ".cjs", ".mts", ".cts")
+JAVASCRIPT = (".ts", ".tsx", ".js", ".jsx", ".mjs", ".cjs", ".mts", ".cts", ".vue", ".svelte", ".astro")
 PYTHON = (".py", ".pyi")
 TEXTS = (".graphql", ".graphqls", ".gql")
 
