@@ -163,6 +163,23 @@ def test_statuses(shop: Repository) -> None:
     assert [line.split(":")[0] for line in done.lines[:1]] == ["src/b.graphql"], "the others are checked"
 
 
+def test_statuses_of_what_seldom_happens(shop: Repository, monkeypatch: pytest.MonkeyPatch) -> None:
+    shop.write({"src/a.graphql": OK, "s.graphql": "type Query { a: Query b: Int @deprecated }"})
+    shop.environment["GRAPHQL_CHECKED_LIBRARY"] = "/nowhere/libgraphql_checked.so"
+    done = shop.program()
+    assert done.status == 70 and "scripts/c_library makes libgraphql_checked.so" in done.told
+    shop.write({"deep.graphql": "{ a " * 9000 + "b" + "}" * 9000})
+    assert shop.short("--schema", "s.graphql", "deep.graphql") == [f"deep.graphql:1:{4 * 398 + 1}: error[Nesting]"]
+    assert shop.run("check", "--nesting", "900000000000").status == 2
+
+    def spent(*_: object, **__: object) -> None:
+        raise MemoryError
+
+    monkeypatch.setattr("graphql_checked.Schema.check", spent)
+    done = shop.run()
+    assert (done.status, done.told) == (4, "graphql-check: out of memory\n")
+
+
 def test_nothing_to_check_is_no_success(shop: Repository) -> None:
     done = shop.run()
     assert done.status == 2 and "no document is named by `src/**/*.{graphql,ts,tsx,js,py}`" in done.told

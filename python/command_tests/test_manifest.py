@@ -2,9 +2,9 @@
 
 import hashlib
 import json
-import sys
 
-from conftest import Repository
+import pytest
+from conftest import SHOP, Repository
 
 BODY = "query Page($id: ID!) { product(id: $id) { ...A ...B } } fragment A on Product { name ...C } fragment B on Product { name } fragment C on Product { tags }"
 
@@ -44,6 +44,18 @@ def test_the_same_bytes_on_each_run_and_however_files_are_cut(shop: Repository) 
     assert shop.run("manifest").out == first
 
 
+def test_the_same_bytes_on_another_machine(shop: Repository, tmp_path_factory: pytest.TempPathFactory) -> None:
+    """In another folder, locale and order of hashes, and with files in another order."""
+    filled(shop).write({"src/e.graphql": 'query E { search(text: "é😀") { __typename } }'})
+    other = Repository(tmp_path_factory.mktemp("other")).write({"schema.graphql": SHOP, ".graphqlrc.yml": (shop.folder / ".graphqlrc.yml").read_text()})
+    for path in sorted((shop.folder / "src").iterdir(), reverse=True):
+        other.write({f"src/{path.name}": path.read_bytes()})
+    other.environment.update(LC_ALL="C", LANG="C", PYTHONHASHSEED="7", PYTHONIOENCODING="latin-1:replace")
+    for form in "apollo", "relay":
+        assert other.program("manifest", "--form", form).out == shop.program("manifest", "--form", form).out
+        assert "é😀" in shop.run("manifest", "--form", form).out
+
+
 def test_compared_with_a_stored_one(shop: Repository) -> None:
     filled(shop)
     for form in "apollo", "relay":
@@ -73,4 +85,3 @@ def test_the_hash_is_that_of_sha256sum(shop: Repository) -> None:
     (first, _) = json.loads(filled(shop).run("manifest").out)["operations"]
     shop.write({"body": first["body"]})
     assert shop.command(["sha256sum", "body"]).out.split()[0] == first["id"]
-    assert sys.version_info >= (3, 8)

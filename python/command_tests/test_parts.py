@@ -4,13 +4,17 @@ import json
 from typing import List, Tuple
 
 import pytest
-from conftest import Repository
+from conftest import SHOP, Repository
+from test_introspection import FULL
 
 from graphql_checked.command.config import nearest, read
 from graphql_checked.command.failures import Stop
 from graphql_checked.command.globs import expression
 from graphql_checked.command.outline import definitions
 from graphql_checked.command.sources import File, Source, sources
+from graphql_checked.command.typesystem import Types
+from graphql_checked.command.typesystem import definitions as type_system
+from graphql_checked.command.uses import uses
 
 # what the documentation of minimatch and globby says of each form
 PATTERNS = [
@@ -94,6 +98,26 @@ TEXTS: List[Tuple[str, object]] = [
 def test_definitions(text: str, wanted: object) -> None:
     found = definitions(text.encode())
     assert (None if found is None else [(it.kind, it.name, it.spreads) for it in found]) == wanted
+
+
+def test_texts_that_are_cut_anywhere() -> None:
+    """Whatever is typed so far, the parts that read texts end."""
+    types = Types.of([FULL.encode(), SHOP.encode()])
+    document = 'query A($a: [In!] = {b: "c"} @d(e: 1)) { ...F f: g(h: [{i: J}, $a]) @k { l } ... on M @n { o } } fragment F on P { q }'
+    programs = {name: "\n".join(text for other, text, _ in PROGRAMS if other == name) for name, _, _ in PROGRAMS}
+    for cut in range(len(FULL)):
+        type_system(FULL[:cut].encode())
+        assert len(type_system(FULL[cut:].encode())) < 20
+    for cut in range(len(document)):
+        for text in document[:cut], document[cut:], document[:cut] + document[cut + 1 :]:
+            definitions(text.encode())
+            assert len(uses(text.encode(), types)) < 40
+    for name, program in programs.items():
+        data = program.encode()
+        for cut in range(len(data)):
+            for file in File(name, data[:cut]), File(name, data[cut:]):
+                for source in sources(file):
+                    assert 0 <= source.in_file(0) <= len(file.data) and 0 <= source.in_file(len(source.text)) <= len(file.data)
 
 
 def test_each_form_of_configuration(repository: Repository) -> None:

@@ -1,6 +1,7 @@
 """The words of `graphql-check`."""
 
 import argparse
+import io
 import sys
 from typing import List, Optional
 
@@ -30,10 +31,18 @@ def reader() -> argparse.ArgumentParser:
     return found
 
 
+def begin() -> None:
+    """Output is UTF-8 in each locale, with LF; documents nest deeper than Python's calls may; files are looked for again."""
+    for stream in (sys.stdout, sys.stderr):
+        if isinstance(stream, io.TextIOWrapper):
+            stream.reconfigure(encoding="utf-8", errors="backslashreplace", newline="\n")
+    sys.setrecursionlimit(5000)
+    globs.forget()
+
+
 def main(words: Optional[List[str]] = None) -> int:
     """Does what the words ask for, and gives the status."""
-    globs.forget()
-    sys.setrecursionlimit(5000)  # documents nest deeper than Python's calls may
+    begin()
     given = reader().parse_args((sys.argv[1:] if words is None else words) or ["check"])
     if not given.command and not given.version:
         reader().error("name a command: check, manifest or lsp")

@@ -213,7 +213,7 @@ def definitions(text: bytes) -> List[TypeSystemDefinition]:
         first = cursor.tokens[cursor.at].start()
         it = _definition(cursor)
         if it:
-            it.first, it.last = first, cursor.tokens[cursor.at - 1].end()
+            it.first, it.last = first, cursor.tokens[min(cursor.at, len(cursor.tokens)) - 1].end()
             found.append(it)
     return found
 
