@@ -6,6 +6,8 @@ import json
 import pytest
 from conftest import SHOP, Repository
 
+from graphql_checked.command.typenames import with_typenames
+
 BODY = "query Page($id: ID!) { product(id: $id) { ...A ...B } } fragment A on Product { name ...C } fragment B on Product { name } fragment C on Product { tags }"
 
 
@@ -26,6 +28,28 @@ def test_the_form_of_apollo(shop: Repository) -> None:
     assert [(it["name"], it["type"]) for it in told["operations"]] == [("Do", "mutation"), ("Page", "query")]
     assert told["operations"][1]["body"] == BODY
     assert told["operations"][1]["id"] == hashlib.sha256(BODY.encode()).hexdigest()
+
+
+# what the documentation and the code of Apollo Client's `addTypenameToDocument` say: last in each selection set but those of
+# operations, and those that have a field of introspection
+TYPENAMES = [
+    ("query A { a(b: {c: 1}) { d } }", "query A { a(b: {c: 1}) { d __typename } }"),
+    ("{ a { ... on T { b } ...F ... { c } } }", "{ a { ... on T { b __typename } ...F ... { c __typename } __typename } }"),
+    ("query A { a { __typename b { t: __typename } c { __typename: d } } }", "query A { a { __typename b { t: __typename } c { __typename: d __typename } } }"),
+    ("{ __schema { types { name } } }", "{ __schema { types { name __typename } __typename } }"),
+    ("fragment F on T { a { ... on __T { b } } } query Q($a: I = {b: 1}) @d(e: {f: 1}) { a }", "fragment F on T { a { ... on __T { b __typename } __typename } __typename } query Q($a: I = {b: 1}) @d(e: {f: 1}) { a }"),
+    ("query query { fragment { query } } fragment fragment on query { on { a } }", "query query { fragment { query __typename } } fragment fragment on query { on { a __typename } __typename }"),
+]
+
+
+@pytest.mark.parametrize("text,wanted", TYPENAMES)
+def test_typenames(text: str, wanted: str) -> None:
+    assert with_typenames(text.encode()).decode().split() == wanted.split()
+
+
+def test_a_manifest_with_typenames(shop: Repository) -> None:
+    body = json.loads(filled(shop).run("manifest", "--typename").out)["operations"][1]["body"]
+    assert body.startswith("query Page($id: ID!) { product(id: $id) { ...A ...B __typename } } fragment A on Product { name ...C __typename }")
 
 
 def test_the_form_of_relay(shop: Repository) -> None:

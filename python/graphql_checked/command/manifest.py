@@ -7,7 +7,7 @@ import hashlib
 import json
 import sys
 from dataclasses import dataclass
-from typing import Any, Dict, List, Sequence
+from typing import Any, Dict, List, Sequence, Tuple
 
 from .. import NESTING, NotUtf8Error, RefusedError, StackError
 from . import check, words
@@ -15,6 +15,7 @@ from .checking import Documents, side_by_side, state
 from .failures import ACCEPTED, MEMORY, REFUSED, UNREAD, WRONG_WORDS, Stop, counted
 from .findings import Finding, Noted, place_in
 from .schemas import hold, load
+from .typenames import with_typenames
 from .units import Node
 
 FORMS = ("apollo", "relay")
@@ -38,6 +39,7 @@ class Trusted:
 def add(reader: argparse.ArgumentParser) -> None:
     """Adds the words of the command."""
     reader.add_argument("--form", choices=FORMS, default="apollo", help="apollo: a list under `operations`; relay: texts under their ids (apollo)")
+    reader.add_argument("--typename", action="store_true", help="adds `__typename` where Apollo Client adds it to what it sends")
     reader.add_argument("--output", metavar="FILE", help="writes it there; else it is printed")
     reader.add_argument("--check", metavar="FILE", help="compares with a stored one, of either form")
     words.add(reader)
@@ -51,13 +53,14 @@ def own_text(documents: Documents, node: Node) -> bytes:
     return b"\n".join(text[it.start : it.end] for text, it in cut)
 
 
-def _trusted(node: Node) -> Trusted:
-    """The operation of a node."""
-    documents: Documents = state()
+def _trusted(asked: Tuple[Node, bool]) -> Trusted:
+    """The operation of a node, with `__typename` or without."""
+    (node, has_typenames), documents = asked, state()
+    text = own_text(documents, node)
     definition, schema = documents.project.definition(node), documents.held.schema
     assert schema
     try:
-        return Trusted(definition.name, definition.kind, schema.document_text(own_text(documents, node), None))
+        return Trusted(definition.name, definition.kind, schema.document_text(with_typenames(text) if has_typenames else text, None))
     except MemoryError:
         raise Stop(MEMORY, "out of memory") from None
     except (RefusedError, NotUtf8Error, StackError) as error:
@@ -146,7 +149,7 @@ def run(given: argparse.Namespace) -> int:
         faults = found.findings + unnamed(documents)
         if faults or found.unread:
             return check.tell([check.Outcome(project, faults, found.documents, found.unread)], "text")
-        trusted = side_by_side(_trusted, documents.project.operations, documents)
+        trusted = side_by_side(_trusted, [(it, given.typename) for it in documents.project.operations], documents)
     if not trusted:
         raise Stop(WRONG_WORDS, "there is no operation in these documents")
     return compared(trusted, given.check) if given.check else written(trusted, given)
