@@ -69,6 +69,17 @@ def test_a_fragment_that_no_operation_reaches(shop: Repository) -> None:
     assert shop.short() == ["src/a.graphql:2:1: error[UnusedFragment]", "src/b.graphql:1:1: error[UnusedFragment]"]
 
 
+def test_a_variable_is_told_once(shop: Repository) -> None:
+    shop.write({"src/a.graphql": "query Q($a: Int) { search(text: $a) { __typename } }"})
+    # 5.8.5: its usage is not allowed; that its value is of no string says no more
+    assert shop.short() == ["src/a.graphql:1:27: error[DisallowedVariableUsage]"]
+
+
+def test_the_folder_itself_as_pattern(repository: Repository) -> None:
+    repository.write({".graphqlrc.json": '{"schema": "s.graphql", "documents": "."}', "s.graphql": "type Query { a: Int }", "b/c.graphql": "{ a }", "README.md": ""})
+    assert repository.run().told == "1 document accepted\n"
+
+
 def test_a_text_that_is_not_read_has_no_echoes(shop: Repository) -> None:
     shop.write({f"src/{number}.graphql": "query Q%d { product(id: 1) { ...Price } }" % number for number in range(3)})
     shop.write({"src/price.graphql": "fragment Price on Product {\n  price(\n}"})

@@ -148,8 +148,16 @@ class PartsMap:
 
 
 def findings(report: Iterable[Fault], places: PartsMap) -> List[Finding]:
-    """The faults of a report at their places."""
-    return [places.finding(it) for it in report]
+    """The faults of a report at their places; without those of values at a variable whose usage is told already."""
+    found: List[Finding] = []
+    usage = None
+    for it in map(places.finding, report):
+        end = (it.place.path, it.place.end_line, it.place.end_column)
+        if it.rule == "DisallowedVariableUsage":
+            usage = end
+        if it.rule != "UnsupportedValueType" or end != usage:
+            found.append(it)
+    return found
 
 
 def once(found: Iterable[Finding]) -> List[Finding]:

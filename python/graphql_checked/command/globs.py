@@ -61,7 +61,7 @@ def normal(pattern: str) -> str:
     pattern = pattern.replace(os.sep, "/")
     while pattern.startswith("./"):
         pattern = pattern[2:]
-    return pattern
+    return "**" if pattern in ("", ".") else pattern
 
 
 def base(pattern: str) -> str:
@@ -112,8 +112,8 @@ def found(root: str, patterns: Iterable[str], endings: Tuple[str, ...]) -> Tuple
             paths = {it for it in paths if not taken.fullmatch(it)}
             continue
         pattern = normal(os.path.relpath(given, root) if os.path.isabs(given) else given)
-        if not SPECIAL.search(pattern) and os.path.isdir(os.path.join(root, pattern)):
-            new = [it for it in _below(root, pattern) if it.endswith(endings)]
+        if not SPECIAL.search(given) and os.path.isdir(os.path.join(root, given)):
+            new = [it for it in _below(root, "" if pattern == "**" else pattern) if it.endswith(endings)]
         elif os.path.isfile(os.path.join(root, pattern)):
             new = [pattern]
         else:
