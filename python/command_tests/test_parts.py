@@ -1,6 +1,7 @@
 """The parts of the command: patterns of paths, texts in programs, configurations."""
 
 import json
+import random
 from typing import List, Tuple
 
 import pytest
@@ -14,6 +15,7 @@ from graphql_checked.command.outline import definitions
 from graphql_checked.command.sources import File, Source, sources
 from graphql_checked.command.typesystem import Types
 from graphql_checked.command.typesystem import definitions as type_system
+from graphql_checked.command.units import Project
 from graphql_checked.command.uses import uses
 
 # what the documentation of minimatch and globby says of each form
@@ -98,6 +100,34 @@ TEXTS: List[Tuple[str, object]] = [
 def test_definitions(text: str, wanted: object) -> None:
     found = definitions(text.encode())
     assert (None if found is None else [(it.kind, it.name, it.spreads) for it in found]) == wanted
+
+
+def test_each_definition_is_judged() -> None:
+    """However fragments are spread over texts: each definition is in a unit, whole, with all fragments that it reaches."""
+    chance = random.Random(5)
+    for _ in range(200):
+        names = [f"F{number}" for number in range(chance.randrange(8))]
+        texts_of: List[List[str]] = [[] for _ in range(1 + chance.randrange(4))]
+        for name in names:
+            spreads = " ".join("..." + chance.choice([*names, "None"]) for _ in range(chance.randrange(3)))
+            chance.choice(texts_of).append(f"fragment {name} on T {{ a {spreads} }}")
+        for number in range(chance.randrange(4)):
+            spreads = " ".join("..." + chance.choice(names) for _ in range(chance.randrange(3)) if names)
+            chance.choice(texts_of).insert(0, f"query Q{number} {{ a {spreads} }}")
+        project = Project([Source(File("a", it), it) for it in ("\n".join(found).encode() for found in texts_of)])
+        judged = set()
+        for unit in project.units():
+            text, parts = project.text(unit)
+            found = definitions(text)
+            assert found is not None
+            has = {it.name for it in found}
+            for it in found:
+                assert {name for name in it.spreads if name in project.fragments} <= has
+                part = [part for part in parts if part.at <= it.start][-1]
+                start = it.start - part.at + part.start
+                assert part.source.text[start : start + it.end - it.start] == text[it.start : it.end]
+            judged |= {text[it.start : it.end] for it in found}
+        assert judged == {line.encode() for found in texts_of for line in found}
 
 
 def test_texts_that_are_cut_anywhere() -> None:
