@@ -164,7 +164,10 @@ def test_statuses(shop: Repository) -> None:
     shop.write({"src/a.graphql": OK})
     assert shop.run().status == 0
     assert shop.run("check", "--format", "xml").status == 2
-    assert shop.run("check", "nosuch.graphql").status == 2
+    assert shop.run("check", "nosuch.graphql").status == 3
+    assert shop.run("check", "--schema", "nosuch.graphql").status == 3
+    assert shop.run("check", "--config", "nosuch.yml").status == 3
+    assert shop.run("check", "no*.graphql").status == 2
     assert shop.run("check", "--project", "web").status == 2
     shop.write({"src/b.graphql": "{ nope }"})
     assert shop.run().status == 1

@@ -11,7 +11,7 @@ from typing import Any, Callable, Dict, Iterable, List, Optional, Sequence, Set,
 from .. import NotUtf8Error, StackError
 from . import globs
 from .config import Project
-from .failures import MEMORY, WRONG_WORDS, Stop
+from .failures import MEMORY, UNREAD, WRONG_WORDS, Stop
 from .findings import DOCUMENT, Finding, PartsMap, excerpt, findings, once, place_in
 from .schemas import Held, paths, told_path
 from .sources import JAVASCRIPT, PYTHON, TEXTS, File, Source, is_utf8, read, sources
@@ -39,10 +39,10 @@ def document_paths(project: Project) -> List[str]:
     """The files of a project's documents, from its root; without its schema's and those that it excludes. A pattern that has no file
     is told, and is a failure if none has one."""
     names, unmet = globs.found(project.root, project.documents, TEXTS + JAVASCRIPT + PYTHON)
-    words = [f"no document is named by `{it}` in {told_path(project.root, '.')}" for it in unmet]
-    if words and not names:
-        raise Stop(WRONG_WORDS, words[0])
-    for it in words:
+    words = [globs.unmet_words(it, "document", told_path(project.root, ".")) for it in unmet]
+    for status, it in words:
+        if not names or status == UNREAD:
+            raise Stop(status, it)
         print(f"graphql-check: {it}", file=sys.stderr)
     left = set(paths(project))
     return [it for it in names if it not in left and not globs.matches(it, project.exclude)]

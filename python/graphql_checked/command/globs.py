@@ -5,6 +5,8 @@ import os
 import re
 from typing import Iterable, Iterator, List, Pattern, Set, Tuple
 
+from .failures import UNREAD, WRONG_WORDS
+
 SPECIAL = re.compile(r"[*?\[{]|[@+!]\(")
 NEVER = {"node_modules", "__pycache__"}
 _PARTS: Tuple[Tuple[str, str], ...] = (
@@ -99,6 +101,13 @@ def chooses(path: str, patterns: Iterable[str]) -> bool:
         else:
             is_chosen = is_chosen or matches(path, [it])
     return is_chosen
+
+
+def unmet_words(pattern: str, what: str, folder: str) -> Tuple[int, str]:
+    """The status and the words for a pattern that has no file: a file that is not there cannot be read."""
+    if SPECIAL.search(pattern):
+        return WRONG_WORDS, f"no {what} is named by `{pattern}` in {folder}"
+    return UNREAD, f"{pattern}: cannot be read: there is no such file in {folder}"
 
 
 def found(root: str, patterns: Iterable[str], endings: Tuple[str, ...]) -> Tuple[List[str], List[str]]:

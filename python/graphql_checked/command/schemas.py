@@ -94,7 +94,7 @@ def paths(project: Project) -> List[str]:
     endings = TEXTS + (".json",) + JAVASCRIPT + PYTHON
     names, unmet = globs.found(project.root, project.schema, endings)
     if unmet:
-        raise Stop(WRONG_WORDS, f"no schema file is named by `{unmet[0]}` in {told_path(project.root, '.')}")
+        raise Stop(*globs.unmet_words(unmet[0], "schema file", told_path(project.root, ".")))
     return found + names
 
 

@@ -36,7 +36,7 @@ def chosen_paths(words: Sequence[str]) -> List[str]:
     """The paths of words, which may be patterns and folders."""
     found, unmet = globs.found(".", words, TEXTS + JAVASCRIPT + PYTHON)
     if unmet:
-        raise Stop(WRONG_WORDS, f"there is no file `{unmet[0]}`")
+        raise Stop(*globs.unmet_words(unmet[0], "file", "."))
     return [told_path(".", it) for it in found]
 
 
@@ -54,7 +54,7 @@ def add(reader: argparse.ArgumentParser) -> None:
 def _configured(given: argparse.Namespace) -> config.Config:
     """The configuration that is named, or the nearest."""
     if given.config and not os.path.isfile(given.config):
-        raise Stop(WRONG_WORDS, f"there is no file `{given.config}`")
+        raise Stop(*globs.unmet_words(given.config, "file", "."))
     found = config.read(given.config) if given.config else config.nearest(".")
     if not found:
         raise Stop(WRONG_WORDS, "there is no .graphqlrc.yml here or above: write one with `schema: schema.graphql` and `documents: src/**/*`, or name --schema")
