@@ -241,6 +241,15 @@ def test_a_schema_in_many_files(repository: Repository) -> None:
     assert repository.run().told == "1 document accepted\n"
 
 
+def test_one_pattern_for_schema_and_documents(repository: Repository) -> None:
+    config = "schema: src/**/*.{graphql,ts}\ndocuments: src/**/*.{graphql,ts}\n"
+    repository.write({".graphqlrc.yml": config, "src/types.graphql": "type Query { a: Int }", "src/a.graphql": "{ a nope }"})
+    repository.write({"src/b.ts": "gql`extend type Query { b: Int }`; gql`query B { b ...F }`", "src/f.graphql": "fragment F on Query { a }"})
+    assert places(repository) == ["src/a.graphql:1:5"]
+    repository.write({"src/a.graphql": "{ a }"})
+    assert repository.run().status == 0
+
+
 def test_several_projects(repository: Repository) -> None:
     config = "projects:\n  web:\n    schema: web.graphql\n    documents: web/*.graphql\n  api:\n    schema: [api.graphql]\n"
     repository.write({".graphqlrc": config, "web.graphql": "type Query { a: Int }", "api.graphql": "type Query { b: C }", "web/a.graphql": "{ a }"})

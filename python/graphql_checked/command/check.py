@@ -64,7 +64,7 @@ def add(reader: argparse.ArgumentParser) -> None:
 def _chosen(given: argparse.Namespace, asked: words.Asked, documents: Documents) -> Optional[Set[int]]:
     """The numbers of the texts to be checked; None for all."""
     project = documents.of_project
-    named = asked.named(project, documents.sources)
+    named = asked.named(documents.held.paths, documents.sources)
     if not given.since:
         return named
     changed = changes.changed(project.root, given.since)

@@ -13,8 +13,8 @@ from . import globs
 from .config import Project
 from .failures import MEMORY, UNREAD, WRONG_WORDS, Stop
 from .findings import DOCUMENT, Finding, PartsMap, excerpt, findings, once, place_in
-from .schemas import Held, paths, told_path
-from .sources import JAVASCRIPT, PYTHON, TEXTS, File, Source, is_utf8, read, sources
+from .schemas import Held, told_path
+from .sources import JAVASCRIPT, PYTHON, TEXTS, File, Source, is_program, is_utf8, read, sources
 from .units import Project as Definitions
 from .units import Unit
 
@@ -35,7 +35,7 @@ class Found:
     """What is told of files that cannot be read."""
 
 
-def document_paths(project: Project) -> List[str]:
+def document_paths(project: Project, held: Held) -> List[str]:
     """The files of a project's documents, from its root; without its schema's and those that it excludes. A pattern that has no file
     is told, and is a failure if none has one."""
     names, unmet = globs.found(project.root, project.documents, TEXTS + JAVASCRIPT + PYTHON)
@@ -44,8 +44,8 @@ def document_paths(project: Project) -> List[str]:
         if not names or status == UNREAD:
             raise Stop(status, it)
         print(f"graphql-check: {it}", file=sys.stderr)
-    left = set(paths(project))
-    return [it for it in names if it not in left and not globs.matches(it, project.exclude)]
+    left = {it for it in held.paths if not is_program(it)}
+    return [it for it in names if told_path(project.root, it) not in left and not globs.matches(it, project.exclude)]
 
 
 def scanned(pair: Tuple[str, str]) -> Tuple[Optional[str], List[Source]]:
@@ -106,7 +106,7 @@ class Documents:
     @staticmethod
     def of(project: Project, held: Held) -> "Documents":
         """The documents in a project's files."""
-        pairs = [(os.path.join(project.root, it), told_path(project.root, it)) for it in document_paths(project)]
+        pairs = [(os.path.join(project.root, it), told_path(project.root, it)) for it in document_paths(project, held)]
         read_files = side_by_side(scanned, pairs)
         unread = [words for words, _ in read_files if words]
         return Documents(project, Definitions([source for _, found in read_files for source in found]), held, unread)

@@ -2,13 +2,14 @@
 
 import os
 from dataclasses import dataclass, field
-from typing import Dict, List, Mapping, Optional, Sequence, Tuple
+from typing import Dict, List, Mapping, Optional, Sequence, Set, Tuple
 
 from .. import NESTING, NotUtf8Error, RefusedError, Schema, StackError
 from . import globs, introspection, preludes
 from .config import Project
 from .failures import MEMORY, UNREAD, WRONG_WORDS, Stop
 from .findings import Finding, PartsMap, findings
+from .outline import definitions
 from .sources import JAVASCRIPT, PYTHON, TEXTS, File, Source, is_utf8, read, sources
 from .typesystem import Types
 
@@ -35,6 +36,11 @@ class Held:
     """Why it is refused."""
     schema: Optional[Schema] = None
     _types: Optional[Types] = None
+
+    @property
+    def paths(self) -> Set[str]:
+        """The paths of the files, as they are told."""
+        return {it.path for it in self.texts if it.real}
 
     @property
     def types(self) -> Types:
@@ -99,10 +105,13 @@ def paths(project: Project) -> List[str]:
 
 
 def load(project: Project, overlays: Optional[Dict[str, bytes]] = None) -> List[SchemaText]:
-    """The texts of a project's schema, with its preludes last."""
+    """The texts of a project's schema, with its preludes last. What has operations and fragments alone is none of them, unless its
+    file is named, so that schema and documents may have one pattern."""
     found: List[SchemaText] = []
+    named = set(map(globs.normal, project.schema))
     for path in paths(project):
-        found += texts_of(*file_of(project.root, path, overlays or {}))
+        texts = texts_of(*file_of(project.root, path, overlays or {}))
+        found += texts if path in named else [it for it in texts if not definitions(it.text)]
     if not found:
         raise Stop(WRONG_WORDS, "no text of a schema is in these files")
     made = preludes.texts(project.preludes, [it.text for it in found])

@@ -2,7 +2,6 @@
 
 import bisect
 import functools
-import os
 from dataclasses import dataclass, field
 from typing import Dict, List, Optional, Tuple
 
@@ -100,6 +99,11 @@ def read(path: str, told: str) -> File:
         return File(told, file.read())
 
 
+def is_program(path: str) -> bool:
+    """Whether a file is a program, which may have texts of schemas and documents both."""
+    return path.endswith(JAVASCRIPT + PYTHON)
+
+
 def is_utf8(data: bytes) -> bool:
     """Whether bytes are UTF-8."""
     try:
@@ -111,12 +115,11 @@ def is_utf8(data: bytes) -> bool:
 
 def sources(file: File, *, schema: bool = False) -> List[Source]:
     """The texts of a file: documents, or those of a schema. A file that is no program is one text."""
-    ending = os.path.splitext(file.path)[1]
-    if ending not in JAVASCRIPT + PYTHON:
+    if not is_program(file.path):
         return [Source(file, file.data)]
     from .embedded import embedded
 
-    return [it for it in embedded(file, ending in PYTHON) if is_type_system(it.text) == schema]
+    return [it for it in embedded(file, file.path.endswith(PYTHON)) if is_type_system(it.text) == schema]
 
 
 Overlays = Dict[str, bytes]

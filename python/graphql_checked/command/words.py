@@ -8,7 +8,7 @@ from typing import List, Optional, Sequence, Set
 from . import config, globs
 from .config import Project
 from .failures import WRONG_WORDS, Stop
-from .schemas import paths, told_path
+from .schemas import told_path
 from .sources import JAVASCRIPT, PYTHON, TEXTS, Source
 
 
@@ -22,12 +22,12 @@ class Asked:
     documents: Sequence[str] = ()
     """Of a configuration's documents those that are named; all for none."""
 
-    def named(self, project: Project, sources: Sequence[Source]) -> Optional[Set[int]]:
+    def named(self, schema: Set[str], sources: Sequence[Source]) -> Optional[Set[int]]:
         """The numbers of the sources that are named; None for all, as where a file of the schema is named."""
         if not self.documents:
             return None
         wanted = set(chosen_paths(self.documents))
-        if wanted & {told_path(project.root, it) for it in paths(project)}:
+        if wanted & schema:
             return None
         return {number for number, it in enumerate(sources) if it.file.path in wanted}
 

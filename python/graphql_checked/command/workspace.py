@@ -9,8 +9,8 @@ from .checking import Documents, document_paths, texts_in
 from .config import Project
 from .failures import Stop
 from .findings import Finding
-from .schemas import Held, file_of, hold, load, paths
-from .sources import Overlays, Source
+from .schemas import Held, file_of, hold, load
+from .sources import Overlays, Source, is_program
 from .units import Project as Definitions
 
 
@@ -35,7 +35,7 @@ class Open:
 
     def has(self, path: str) -> bool:
         """Whether a real path is that of one of its documents, also before the file is there."""
-        if path in self.schema_paths:
+        if path in self.schema_paths and not is_program(path):
             return False
         relative = os.path.relpath(path, os.path.realpath(self.project.root)).replace(os.sep, "/")
         return globs.chooses(relative, self.project.documents) and not globs.matches(relative, self.project.exclude)
@@ -59,9 +59,8 @@ class Open:
 def opened(project: Project, overlays: Overlays) -> Open:
     """A project, read."""
     held = hold(load(project, overlays))
-    real = {os.path.realpath(os.path.join(project.root, it)) for it in paths(project)}
-    found = Open(project, held, real)
-    names = document_paths(project) if project.documents else []
+    found = Open(project, held, {it.real for it in held.texts if it.real})
+    names = document_paths(project, held) if project.documents else []
     written = [os.path.realpath(os.path.join(project.root, it)) for it in names]
     for path in written + [it for it in overlays if it not in written and found.has(it)]:
         try:
@@ -108,10 +107,9 @@ class Workspace:
             self.overlays[path] = text
         for number, it in enumerate(self.projects):
             if path in it.schema_paths:
-                texts = it.texts
                 it.held.close()
-                self.projects[number] = Open(it.project, self._held(it), it.schema_paths, texts)
-            elif it.has(path):
+                it = self.projects[number] = Open(it.project, self._held(it), it.schema_paths, it.texts)
+            if it.has(path):
                 try:
                     it.set(path, self.overlays)
                 except Stop:
