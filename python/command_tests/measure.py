@@ -13,6 +13,8 @@ sys.path.insert(0, str(Path(__file__).parent))
 from conftest import SHOP, TOP  # noqa: E402
 from test_introspection import introspected  # noqa: E402
 
+MOST = 5.0
+"""How many seconds 1,000 documents may take."""
 FORMS = (("graphql", "%s\n"), ("ts", 'import { gql } from "x";\nexport const QUERY = gql`\n%s\n`;\n'), ("py", 'from gql import gql\nQUERY = gql("""\n%s\n""")\n'))
 QUERY = """query Page%d($id: ID!, $status: OrderStatus = OPEN) {
   customer(id: $id) {
@@ -50,7 +52,7 @@ def filled(folder: Path, count: int) -> List[str]:
 
 
 def main() -> int:
-    """Tells the seconds for each number of documents; 1 where the faults are others."""
+    """Tells the seconds for each number of documents; 1 where the faults are others, or 1,000 take too long."""
     for count in 1000, 10000:
         with tempfile.TemporaryDirectory() as name:
             wanted, environment = filled(Path(name), count), {**os.environ, "PYTHONPATH": str(TOP / "python")}
@@ -61,6 +63,9 @@ def main() -> int:
             used = os.times().children_user + os.times().children_system - before
             told = [line.split(": error[UndefinedField]")[0] for line in done.stdout.splitlines()]
             print(f"{done.stderr.strip()}: {seconds:.2f} s on {os.cpu_count()} processors, {used:.2f} s of processor")
+            if count == 1000 and seconds > MOST:
+                print(f"more than {MOST} s")
+                return 1
             if sorted(told) != wanted or len(wanted) != count // 100:
                 print(f"other faults than {len(wanted)}: {told[:3]} {wanted[:3]}")
                 return 1

@@ -6,6 +6,7 @@ from typing import List
 
 import pytest
 from conftest import SHOP, TOP, Repository
+from measure import filled
 
 OK = "query A { product(id: 1) { name } }"
 
@@ -279,6 +280,13 @@ def test_many_documents_side_by_side(shop: Repository) -> None:
     done = shop.run("check", "--format", "short")
     assert [line.split(":")[0] for line in done.lines] == [f"src/{number:04}.graphql" for number in (7, 107, 207, 307, 407)]
     assert done.told == "5 faults in 5 files, 450 documents checked\n"
+
+
+def test_a_thousand_documents_over_an_introspection_result(repository: Repository) -> None:
+    wanted = filled(repository.folder, 1000)
+    done = repository.program()
+    assert (done.status, done.told) == (1, "10 faults in 10 files, 1000 documents checked\n")
+    assert len(wanted) == 10 and sorted(line.split(": error[UndefinedField]")[0] for line in done.lines if ": error" in line) == wanted
 
 
 def test_a_reader_that_stops(shop: Repository) -> None:

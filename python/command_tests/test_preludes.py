@@ -40,6 +40,14 @@ def test_a_wrong_use_of_a_directive_of_federation(repository: Repository) -> Non
     assert found == ["s.graphql:1:21: error[UnsupportedLocation]", "s.graphql:1:58: error[UndefinedArgument]"]
 
 
+def test_other_names_of_directives(repository: Repository) -> None:
+    """As the specification of `link` has them: with a prefix where nothing is imported, or under the name of `as`."""
+    link = 'extend schema @link(url: "https://specs.apollo.dev/federation/v2.3", import: [{ name: "@key", as: "@primaryKey" }])'
+    schema = f'{link} type Query {{ a: A }} type A @primaryKey(fields: "b") {{ b: ID! @federation__shareable @federation__tag(name: "x") }}'
+    repository.write({"s.graphql": schema, "e.graphql": "query E($r: [_Any!]!) { _entities(representations: $r) { ... on A { b } } }"})
+    assert repository.run("check", "--schema", "s.graphql", "--prelude", "federation", "e.graphql").told == "1 document accepted\n"
+
+
 def test_a_subgraph_that_defines_some_of_it(repository: Repository) -> None:
     own = "scalar _Any directive @key(fields: String!) repeatable on OBJECT type Query { a: A } type A @key(fields: \"b\") { b: ID }"
     repository.write({"s.graphql": own})
