@@ -1,0 +1,3 @@
+import { gql } from "../client";
+
+export const OLD = gql`query Old { gone }`;

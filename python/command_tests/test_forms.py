@@ -1,0 +1,53 @@
+"""The forms are those of `graphql-report`, whose runs are in examples/report/runs.txt: line for line, but for the last, how much was
+found; GitHub's form has the hint, too, and JSON the severity. Left out are runs that cut what is printed, or name a file twice or one
+that is not there."""
+
+import json
+import re
+import shlex
+from typing import List, Tuple
+
+import pytest
+from conftest import TOP, Repository
+
+
+LEFT_OUT = re.compile(r"[|<>]|--batch|--help|--version|--max-faults|none\.graphql|(\S+twice\S+) .*\1")
+
+
+def runs() -> List[Tuple[str, List[str]]]:
+    """The runs over files alone, each with what it prints but for the last line and the status."""
+    found: List[Tuple[str, List[str]]] = []
+    for line in (TOP / "examples/report/runs.txt").read_text().splitlines():
+        if line.startswith("$ "):
+            found.append((line[2:], []))
+        elif line and not line.startswith("# ") and found:
+            found[-1][1].append(line)
+    plain = [(command, wanted) for command, wanted in found if command.startswith("./graphql-report") and not LEFT_OUT.search(command.replace(" 2>/dev/null", ""))]
+    return [(command.replace(" 2>/dev/null", ""), [it for it in wanted if not re.match(r"\d+ (fault|document)s?\b|schema accepted|\[\d\]$", it)]) for command, wanted in plain]
+
+
+def as_told(line: str, form: str) -> str:
+    """A line of graphql-check as graphql-report has it."""
+    if form == "github":
+        return re.sub(r" \(did you mean [^()]*\)$", "", line)
+    if form == "json":
+        told = json.loads(line)
+        assert told.pop("severity") == "error"
+        return json.dumps(told, ensure_ascii=False, separators=(",", ":"))
+    return line
+
+
+@pytest.mark.parametrize("command,wanted", runs())
+def test_the_runs_of_graphql_report(command: str, wanted: List[str]) -> None:
+    words = shlex.split(command)[1:]
+    form = words[words.index("--format") + 1] if "--format" in words else "text"
+    options = [it for index, it in enumerate(words) if it.startswith("--") or words[index - 1].startswith("--")]
+    documents = [it for it in words if it not in options]
+    told = []
+    for document in [[it] for it in documents] or [[]]:
+        told += Repository(TOP).run("check", *options, *document).lines
+    assert [as_told(line, form) for line in told] == wanted
+
+
+def test_the_runs_are_there() -> None:
+    assert len(runs()) >= 14
