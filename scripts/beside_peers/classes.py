@@ -282,6 +282,10 @@ add(GO, "accepts", "document", "all lists and all objects are one argument", "^C
 add(CORE, "refuses", "schema", "a default of an input object of its own type", "^RecursionError: ", "slip, 3.10", "input I { a: I = [] } type Query { a: Int } schema { query: Query }")
 add(GO, "accepts", "document", "an undefined variable in a directive of a fragment's definition", "^UndefinedVariable: ", "slip, 5.8.3", "directive @d(x: [Int]) on FRAGMENT_DEFINITION type Query { a: Int }",
     "fragment F on Query @d(x: [$v]) { a } { ...F }", lambda told, _, document: re.search(r"fragment \w+ on \w+ ?@", document))
-add(CORE, "refuses", "schema", "what follows an interface's name is another", "Syntax Error.*Expected Name, found (=|\\[)", "slip, 3.6",
+add(CORE, "refuses", "schema", "what follows an interface's name is another", "Syntax Error.*Expected (Name, found (=|\\[)|:, found Name)", "slip, 3.6",
     "schema { query: Query } interface I { a: Int } type M implements I input J { b: [Int] = [] } extend type M { a: Int } type Query { a: Int }", "{ a }",
     lambda told, schema, _: re.search(r"implements [\w &]*\b(input|interface|type|enum|union|scalar|directive)\b", schema))
+add(CORE, "accepts", "schema", "of two arguments of one name the last counts", "^InvalidImplementationFieldArgumentType: ", ARGUMENT_NAMES,
+    "schema { query: Query } interface I { a(x: Boolean, x: Int): Int } type Query implements I { a(x: Int): Int }", "{ a }", tests.is_twice_defined)
+add(CORE, "accepts", "document", "an object inside another goes unjudged", "^UniqueInputValue: ", "slip, 5.6.3", "schema { query: Query } input I { a: [I] } type Query { a(x: I): Int }",
+    "{ a(x: {a: [{a: [] a: {}}]}) }", tests.is_twice_within_object)

@@ -85,9 +85,26 @@ def is_twice_in_object(told, schema, document):
     return re.search(rf"[:=\[}}] \{{ (?:[^{{}}]* )?{name} : (?:[^{{}}]|\{{[^{{}}]*\}})* {name} :", schema)
 
 
-def is_twice_defined(told, schema, document):
-    """Definitions of arguments have the name that is told twice."""
+def is_twice_within_object(told, schema, document):
+    """An object inside another has the field that is told twice."""
     name = re.search(r"`(\w+)`", told)[1]
+    for arguments in re.findall(r"\(([^()]*)\)", document):
+        opened, words = [], arguments.split(" ")
+        for word, after in zip(words, words[1:] + [""]):
+            if word == "{":
+                opened.append(0)
+            elif word == "}" and opened:
+                opened.pop()
+            elif word == name and after == ":" and opened:
+                opened[-1] += 1
+                if len(opened) > 1 and opened[-1] > 1:
+                    return True
+    return False
+
+
+def is_twice_defined(told, schema, document):
+    """Definitions of arguments have the name that is told, of an argument or a key, twice."""
+    name = (re.search(r"argument `(\w+)`", told) or re.search(r"`(\w+)`", told))[1]
     return re.search(rf"\( (?:(?:[^()]|\([^()]*\))* )?{name} : (?:[^()]|\([^()]*\))* {name} : [\[\w]", schema)
 
 
@@ -130,11 +147,22 @@ def has_infinite_float(told, schema, document):
     return any(abs(float(it)) == float("inf") for it in re.findall(r"(?<![\w.])-?\d+(?:\.\d+)?[eE][+-]?\d+", document))
 
 
+def fits(ty, place):
+    """Whether a value of the type may stand where the other is asked for (5.8.5, AreTypesCompatible)."""
+    if place.endswith("!"):
+        return ty.endswith("!") and fits(ty[:-1], place[:-1])
+    if ty.endswith("!"):
+        return fits(ty[:-1], place)
+    if ty.startswith("[") and place.startswith("["):
+        return fits(ty[1:-1], place[1:-1])
+    return ty == place
+
+
 def is_only_nullable(told, schema, document):
     """The variable that is told would fit if the place took null, and some place of that type has a default."""
     found = re.search(r'of type "(.*?)" used in position expecting type "(.*)!"', told)
     spaced = found and " ".join(re.findall(r"\w+|[\[\]!]", found[2]))
-    return found and found[1] == found[2] and f": {spaced} ! =" in schema
+    return found and fits(found[1], found[2]) and f": {spaced} ! =" in schema
 
 
 def has_variable_on_variable(told, schema, document):
