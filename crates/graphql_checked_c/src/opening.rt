@@ -45,11 +45,7 @@ pub(crate) fn kept_of_texts(
 }
 
 /// The schema of the texts, if they are accepted.
-fn schema_of(
-    alloc: Global,
-    texts: &[HeldText],
-    limits: Limits,
-) -> Result<CheckedSchema, Refusal>
+fn schema_of(alloc: Global, texts: &[HeldText], limits: Limits) -> Result<CheckedSchema, Refusal>
     ensures schema { IfOk result (λ s. IsCheckedSchemaOf (first_terms limits.nesting) (map text_of texts.now) (schema_value s)) }
     ensures refused { IfErr result (RefusalOfSchemas (first_terms limits.nesting) (map text_of texts.now)) }
     ensures complete { IfErr result (λ r. AreSchemasCertain (first_terms limits.nesting) (map text_of texts.now) → r ≡ refusal.Memory) }

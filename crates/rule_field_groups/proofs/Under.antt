@@ -296,10 +296,10 @@ joined_more first owns i x h e further old mid new are puts (added, (lies, so_fa
       (
         puts.is ∙ ap (λ l. l ++ puts.added) lies ∙ append_assoc old added puts.added,
         λ shared of begun begins.
-        let after : PutsTogether first further (begun ++ added) (begun ++ added ++ puts.added) = record { added = puts.added; is = refl; within = puts.within; both = puts.both } in
-        subst (λ ls. BelowSoFar shared first ls (begun ++ (added ++ puts.added))) (sym (front_with (λ (o : OwnFields). fields_of o.fields.items) owns i x h e))
-        (subst (BelowSoFar shared first (front ++ fields_of x.fields.items ∷ [])) (append_assoc begun added puts.added)
-        (own_below shared (fields_of x.fields.items) first further front (begun ++ added) (begun ++ added ++ puts.added) of are after (so_far shared of begun begins))),
+            let after : PutsTogether first further (begun ++ added) (begun ++ added ++ puts.added) = record { added = puts.added; is = refl; within = puts.within; both = puts.both } in
+            subst (λ ls. BelowSoFar shared first ls (begun ++ (added ++ puts.added))) (sym (front_with (λ (o : OwnFields). fields_of o.fields.items) owns i x h e))
+            (subst (BelowSoFar shared first (front ++ fields_of x.fields.items ∷ [])) (append_assoc begun added puts.added)
+            (own_below shared (fields_of x.fields.items) first further front (begun ++ added) (begun ++ added ++ puts.added) of are after (so_far shared of begun begins))),
       ),
     )
 

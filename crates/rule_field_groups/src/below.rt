@@ -129,11 +129,7 @@ fn further_sets(
 }
 
 /// Adds a list of the first nodes and then the further ones, unless there are no further ones.
-fn push_joined(
-    first: &[usize],
-    further: &[usize],
-    lists: &mut NumberRows,
-) -> Result<(), AllocError>
+fn push_joined(first: &[usize], further: &[usize], lists: &mut NumberRows) -> Result<(), AllocError>
     ensures { OnOk result (JoinsSets first.now further.now (rows_of lists.old) (rows_of lists.new)) }
 {
     if further.is_empty() {
@@ -143,11 +139,7 @@ fn push_joined(
 }
 
 /// Adds a list of two for each of the nodes: it and the last.
-fn push_each_with(
-    nodes: &[usize],
-    last: usize,
-    lists: &mut NumberRows,
-) -> Result<(), AllocError>
+fn push_each_with(nodes: &[usize], last: usize, lists: &mut NumberRows) -> Result<(), AllocError>
     ensures { OnOk result (rows_of lists.new ≡ rows_of lists.old ++ each_with nodes.now last) }
 {
     for node in nodes {
@@ -157,11 +149,7 @@ fn push_each_with(
 }
 
 /// Adds a list of the further nodes, unless there are none, and lists of two: each of the first nodes with each of these.
-fn push_apart(
-    first: &[usize],
-    further: &[usize],
-    lists: &mut NumberRows,
-) -> Result<(), AllocError>
+fn push_apart(first: &[usize], further: &[usize], lists: &mut NumberRows) -> Result<(), AllocError>
     ensures { OnOk result (JoinsTwos first.now further.now (rows_of lists.old) (rows_of lists.new)) }
 {
     push_joined(&[], further, lists)?;

@@ -49,11 +49,7 @@ fn write(numbers: &mut Vec<u32>, more: &[usize]) -> Result<(), AllocError>
 }
 
 /// Puts the first numbers last, and then the further ones. Where they are is given.
-fn write_both(
-    numbers: &mut Vec<u32>,
-    first: &[usize],
-    further: &[usize],
-) -> Result<Row, AllocError>
+fn write_both(numbers: &mut Vec<u32>, first: &[usize], further: &[usize]) -> Result<Row, AllocError>
     ensures written { IfOk result (λ row. Writes numbers.old.items (first.now ++ further.now) numbers.new.items row) }
     ensures grows { Grows numbers.old.items numbers.new.items }
 {
