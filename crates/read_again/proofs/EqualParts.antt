@@ -1,14 +1,15 @@
 -- Parts of trees, and each definition by itself, have one text only if they are equal, apart from places, and then they have.
-use Rattle.std.proofs.Common.{◌≡◌, ℕ, ◌≤◌, Bool, true, ◌&&◌, List, [], ◌∷◌, map, Option, unwrap_or, refl, sym, ap, ◌∙◌, le_refl}
+use Rattle.std.proofs.Common.{◌≡◌, ℕ, zero, suc, ◌≤◌, Bool, true, ◌&&◌, List, [], ◌∷◌, map, Option, unwrap_or, refl, sym, ap, ◌∙◌, le_refl, arith}
+use Rattle.std.specs.List.{list_all}
 use Rattle.read_again.specs.in_literals.Joined.{joined}
-use Rattle.read_again.specs.in_literals.LineLayout.{Prefix, start_text, texts_of}
+use Rattle.read_again.specs.in_literals.LineLayout.{Prefix, start_text, set_text, texts_of}
 use Rattle.read_operations.specs.in_directives.DirectiveLayout.{argument_text, arguments_text, directive_text, directives_text, directive_list_text}
 use Rattle.read_operations.specs.in_directives.InputLayout.{input_value_text, argument_definitions_text}
 use Rattle.read_operations.specs.in_operations.OperationLayout.{selection_text, variable_text, variables_text}
 use Rattle.read_operations.specs.in_type_members.TypeSystemLayout.{field_definition_text, enum_value_text, root_text}
 use Rattle.graphql_names.specs.Placed.{Place, Placed, unplaced_node}
 use Rattle.read_operations.specs.in_values.Writable.{value_writable, arguments_writable, directive_writable, directives_writable, selection_writable, variable_writable, variables_writable, input_value_writable, input_values_writable}
-use Rattle.read_operations.specs.in_type_members.PartsWritable.{field_definition_writable, enum_value_writable}
+use Rattle.read_operations.specs.in_type_members.PartsWritable.{field_definition_writable, field_definitions_writable, enum_value_writable, enum_values_writable}
 use Rattle.read_operations.specs.in_directives.DirectiveTree.{ArgumentTree, Arguments, DirectiveTree, Directives, InputValueTree, InputValues, unplaced_argument, unplaced_arguments, unplaced_directive, unplaced_directives, unplaced_input_value}
 use Rattle.read_operations.specs.in_operations.SelectionTree.{SelectionTree, SelectionTrees, no_selections, selection_then, unplaced_selection}
 use Rattle.read_operations.specs.in_operations.OperationTree.{VariableDefinitionTree, unplaced_variable_definition}
@@ -16,18 +17,19 @@ use Rattle.read_operations.specs.in_type_members.TypeSystemTree.{FieldDefinition
 use Rattle.read_operations.specs.in_definitions.DefinitionTree.{DefinitionTree, unplaced_definition}
 use Rattle.read_operations.specs.in_definitions.DocumentLayout.{definition_text}
 use Rattle.read_operations.specs.in_definitions.Writable.{definition_writable}
-use Rattle.read_operations.specs.in_grammar.Rules.{Rule, optional}
+use Rattle.read_operations.specs.in_grammar.Kinds.{is_open_brace}
+use Rattle.read_operations.specs.in_grammar.Rules.{Rule, optional, optional_unless}
 use Rattle.read_operations.specs.in_grammar.Grammar.{DerivesAs, definition}
 use Rattle.read_operations.specs.in_grammar.ValueGrammar.{Const, argument, arguments, directive, directives}
 use Rattle.read_operations.specs.in_grammar.OperationGrammar.{variable_definition, variable_definitions}
-use Rattle.read_operations.specs.in_grammar.TypeSystemGrammar.{root_operation_type_definition, input_value_definition, arguments_definition, field_definition, enum_value_definition}
+use Rattle.read_operations.specs.in_grammar.TypeSystemGrammar.{root_operation_type_definition, input_value_definition, arguments_definition, field_definition, enum_value_definition, fields_definition, enum_values_definition, input_fields_definition, roots}
 use Rattle.read_again.specs.ReadsAlone.{TextTells, NodeTextTells}
 use Rattle.read_again.specs.Printed.{Follow, ends_word, ends_definition, Printed}
-use Rattle.read_again.specs.WellFormed.{is_white_prefix, argument_well_formed, arguments_well_formed, directive_well_formed, directives_well_formed, selection_well_formed, variable_well_formed, variables_well_formed, input_value_well_formed, input_values_well_formed, field_definition_well_formed, enum_value_well_formed, root_well_formed, argument_depth, arguments_depth, directive_depth, directives_depth, variable_depth, variables_depth, input_value_depth, input_values_depth, field_definition_depth, enum_value_depth}
+use Rattle.read_again.specs.WellFormed.{bracketed, is_white_prefix, argument_well_formed, arguments_well_formed, directive_well_formed, directives_well_formed, selection_well_formed, variable_well_formed, variables_well_formed, input_value_well_formed, input_values_well_formed, field_definition_well_formed, enum_value_well_formed, root_well_formed, argument_depth, arguments_depth, directive_depth, directives_depth, variable_depth, variables_depth, input_value_depth, input_values_depth, field_definition_depth, enum_value_depth}
 use Rattle.read_again.specs.Definitions.{definition_well_formed, definition_depth}
 use Rattle.read_again.proofs.Whole.{OneTree, reads_alone}
 use Rattle.read_again.proofs.Alone.{literals_read}
-use Rattle.read_again.proofs.Unplaced.{argument_same, arguments_same, directive_same, directives_same, directive_list_same, selection_same, variable_same, variables_same, input_value_same, argument_definitions_same, field_definition_same, enum_value_same, definition_same}
+use Rattle.read_again.proofs.Unplaced.{argument_same, arguments_same, directive_same, directives_same, directive_list_same, selection_same, variable_same, variables_same, input_value_same, argument_definitions_same, field_definition_same, enum_value_same, definition_same, on_lines_same, fields_set_same, values_set_same, roots_set_same}
 use Rattle.read_again.proofs.EqualTexts.{one_text, meaning, equal_selections}
 use Rattle.read_again.proofs.Sequences.{as_text}
 use Rattle.read_again.proofs.Lists.{separated_is}
@@ -36,8 +38,10 @@ use Rattle.read_again.proofs.Directives.{argument_read, arguments_read, directiv
 use Rattle.read_again.proofs.Operations.{variable_read, variables_read}
 use Rattle.read_again.proofs.InputValues.{input_value_read, argument_definitions_read}
 use Rattle.read_again.proofs.TypeMembers.{field_definition_read, enum_value_read, root_read}
+use Rattle.read_again.proofs.TypeDefinitions.{fields_part, enum_part, input_part}
+use Rattle.read_again.proofs.Schemas.{roots_part}
 use Rattle.read_again.proofs.Definitions.{definition_read}
-use Rattle.read_again.proofs.EndedParts.{one_argument, one_arguments, one_directive, one_directives, one_variable, one_variables, one_input_value, one_argument_definitions, one_field_definition, one_enum_value, one_root, one_definition}
+use Rattle.read_again.proofs.EndedParts.{one_argument, one_arguments, one_directive, one_directives, one_variable, one_variables, one_input_value, one_argument_definitions, one_field_definition, one_enum_value, one_root, one_definition, one_fields, one_enum_values, one_input_fields, one_roots}
 
 -- ---- the general law: trees whose texts a symbol reads, and of which no text knows places
 
@@ -151,3 +155,32 @@ pub equal_root : (level : ℕ) → NodeTextTells (RootOperationTree Place) root_
 equal_root level =
     tells (λ n. root_operation_type_definition meaning) unplaced_root (λ r. 0) ends_word refl (one_root meaning)
     (λ r. root_text r level) (λ r. refl) (λ r n h w le. root_read meaning level r h)
+
+-- ---- what braces hold
+
+module _ (prefix : Prefix) (level : ℕ) (white : is_white_prefix prefix ≡ true) where
+  pub equal_fields : TextTells (List (Placed Place (FieldDefinitionTree Place))) (list_all field_definition_well_formed) field_definitions_writable (λ fs. set_text prefix level (texts_of (field_definition_text prefix) fs)) (map (unplaced_node unplaced_field_definition))
+  equal_fields =
+      tells (λ n. optional_unless is_open_brace (fields_definition meaning n)) (nodes_of unplaced_field_definition) (bracketed field_definition_depth) ends_definition refl (one_fields meaning)
+      (λ fs. set_text prefix level (texts_of (field_definition_text prefix) fs)) (λ fs. ap (set_text prefix level) (fields_set_same prefix fs)) (λ fs n h w le. fields_part meaning literals_read prefix white fs n level h w le)
+
+  pub equal_enum_values : TextTells (List (Placed Place (EnumValueTree Place))) (list_all enum_value_well_formed) enum_values_writable (λ vs. set_text prefix level (texts_of (enum_value_text prefix) vs)) (map (unplaced_node unplaced_enum_value))
+  equal_enum_values =
+      tells (λ n. optional_unless is_open_brace (enum_values_definition meaning n)) (nodes_of unplaced_enum_value) (bracketed enum_value_depth) ends_definition refl (one_enum_values meaning)
+      (λ vs. set_text prefix level (texts_of (enum_value_text prefix) vs)) (λ vs. ap (set_text prefix level) (values_set_same prefix vs)) (λ vs n h w le. enum_part meaning literals_read prefix white vs n level h w le)
+
+  pub equal_input_fields : TextTells (InputValues Place) input_values_well_formed input_values_writable (λ vs. set_text prefix level (texts_of (input_value_text prefix) vs)) (map (unplaced_node unplaced_input_value))
+  equal_input_fields =
+      tells (λ n. optional_unless is_open_brace (input_fields_definition meaning n)) (nodes_of unplaced_input_value) input_values_depth ends_definition refl (one_input_fields meaning)
+      (λ vs. set_text prefix level (texts_of (input_value_text prefix) vs)) (λ vs. ap (set_text prefix level) (on_lines_same prefix vs)) (λ vs n h w le. input_part meaning literals_read prefix white vs n level h w le)
+
+  -- one bracket is enough
+  some_roots_read : (rs : List (Placed Place (RootOperationTree Place))) (n : ℕ) → list_all root_well_formed rs ≡ true → 1 ≤ n
+      → Printed (optional_unless is_open_brace (roots meaning n)) (AreAny unplaced_root (map (unplaced_node unplaced_root) rs)) ends_definition (set_text prefix level (texts_of root_text rs))
+  some_roots_read rs zero h le = absurd (omega arith)
+  some_roots_read rs (suc n) h le = roots_part meaning prefix white rs n level h
+
+  pub equal_roots : TextTells (List (Placed Place (RootOperationTree Place))) (list_all root_well_formed) (λ rs. true) (λ rs. set_text prefix level (texts_of root_text rs)) (map (unplaced_node unplaced_root))
+  equal_roots =
+      tells (λ n. optional_unless is_open_brace (roots meaning n)) (nodes_of unplaced_root) (λ rs. 1) ends_definition refl (one_roots meaning)
+      (λ rs. set_text prefix level (texts_of root_text rs)) (λ rs. ap (set_text prefix level) (roots_set_same rs)) (λ rs n h w le. some_roots_read rs n h le)

@@ -156,7 +156,7 @@ module _ {P : Type 0} where
   in_line_same : (prefix : Prefix) (vs : InputValues P) (level : ℕ) → texts_of (λ v. input_value_text prefix v level) vs ≡ texts_of (λ v. input_value_text prefix v level) (map (unplaced_node unplaced_input_value) vs)
   in_line_same prefix vs level = texts_same (λ v. input_value_text prefix v level) (λ v. input_value_text prefix v level) unplaced_input_value (λ v. input_value_same prefix v level) vs
 
-  on_lines_same : (prefix : Prefix) (vs : InputValues P) → texts_of (input_value_text prefix) vs ≡ texts_of (input_value_text prefix) (map (unplaced_node unplaced_input_value) vs)
+  pub on_lines_same : (prefix : Prefix) (vs : InputValues P) → texts_of (input_value_text prefix) vs ≡ texts_of (input_value_text prefix) (map (unplaced_node unplaced_input_value) vs)
   on_lines_same prefix vs = texts_same (input_value_text prefix) (input_value_text prefix) unplaced_input_value (λ v. λ i level. input_value_same prefix v level i) vs
 
   pub argument_definitions_same : (prefix : Prefix) (vs : InputValues P) (level : ℕ) → argument_definitions_text prefix vs level ≡ argument_definitions_text prefix (map (unplaced_node unplaced_input_value) vs) level
@@ -185,13 +185,13 @@ module _ {P : Type 0} where
   head_same : (keyword : List ℕ) (name : Text P) (ns : List (Text P)) (ds : Directives P) → head_text keyword name ns ds ≡ head_text keyword (unplaced_text name) (map unplaced_text ns) (unplaced_directives ds)
   head_same keyword name ns ds = λ i. joined (keyword ∷ name.it ∷ names_same (codes " implements ") (codes " & ") ns i ∷ directives_same ds i ∷ [])
 
-  fields_set_same : (prefix : Prefix) (fs : List (Placed P (FieldDefinitionTree P))) → texts_of (field_definition_text prefix) fs ≡ texts_of (field_definition_text prefix) (map (unplaced_node unplaced_field_definition) fs)
+  pub fields_set_same : (prefix : Prefix) (fs : List (Placed P (FieldDefinitionTree P))) → texts_of (field_definition_text prefix) fs ≡ texts_of (field_definition_text prefix) (map (unplaced_node unplaced_field_definition) fs)
   fields_set_same prefix fs = texts_same (field_definition_text prefix) (field_definition_text prefix) unplaced_field_definition (λ f. λ i level. field_definition_same prefix f level i) fs
 
-  values_set_same : (prefix : Prefix) (vs : List (Placed P (EnumValueTree P))) → texts_of (enum_value_text prefix) vs ≡ texts_of (enum_value_text prefix) (map (unplaced_node unplaced_enum_value) vs)
+  pub values_set_same : (prefix : Prefix) (vs : List (Placed P (EnumValueTree P))) → texts_of (enum_value_text prefix) vs ≡ texts_of (enum_value_text prefix) (map (unplaced_node unplaced_enum_value) vs)
   values_set_same prefix vs = texts_same (enum_value_text prefix) (enum_value_text prefix) unplaced_enum_value (λ v. λ i level. enum_value_same prefix v level i) vs
 
-  roots_set_same : (rs : List (Placed P (RootOperationTree P))) → texts_of root_text rs ≡ texts_of root_text (map (unplaced_node unplaced_root) rs)
+  pub roots_set_same : (rs : List (Placed P (RootOperationTree P))) → texts_of root_text rs ≡ texts_of root_text (map (unplaced_node unplaced_root) rs)
   roots_set_same rs = texts_same root_text root_text unplaced_root (λ r. refl) rs
 
   -- ---- definitions, behind what stands before them

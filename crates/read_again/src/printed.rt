@@ -3,7 +3,7 @@
 ghost use Rattle.std.specs.Prelude.{◌≡◌, ◌↔◌, ℕ, Bool, true, List, ◌∷◌, map};
 ghost use Rattle.std.specs.List.{list_all};
 ghost use Rattle.graphql_names.specs.declared.span.FileId.{FileId};
-ghost use Rattle.read_again.specs.in_literals.LineLayout.{Prefix};
+ghost use Rattle.read_again.specs.in_literals.LineLayout.{Prefix, set_text, texts_of};
 ghost use Rattle.read_operations.specs.in_literals.ValueLayout.{type_text, value_text};
 ghost use Rattle.read_operations.specs.in_directives.DirectiveLayout.{argument_text, arguments_text, directive_text, directives_text, directive_list_text};
 ghost use Rattle.read_operations.specs.in_directives.InputLayout.{input_value_text, argument_definitions_text};
@@ -11,7 +11,7 @@ ghost use Rattle.read_operations.specs.in_type_members.TypeSystemLayout.{field_d
 ghost use Rattle.read_operations.specs.in_operations.OperationLayout.{operation_text, fragment_text, selection_text, variable_text, variables_text};
 ghost use Rattle.graphql_names.specs.Placed.{Place, Placed, unplaced_node};
 ghost use Rattle.read_operations.specs.in_values.Writable.{value_writable, has_selection, selections_writable, operation_writable, fragment_writable, arguments_writable, directive_writable, directives_writable, selection_writable, variable_writable, variables_writable, input_value_writable, input_values_writable};
-ghost use Rattle.read_operations.specs.in_type_members.PartsWritable.{field_definition_writable, enum_value_writable};
+ghost use Rattle.read_operations.specs.in_type_members.PartsWritable.{field_definition_writable, field_definitions_writable, enum_value_writable, enum_values_writable};
 ghost use Rattle.read_operations.specs.in_literals.TypeTree.{TypeTree, unplaced_type};
 ghost use Rattle.read_operations.specs.in_literals.ValueTree.{ValueTree, unplaced_value};
 ghost use Rattle.read_operations.specs.in_directives.DirectiveTree.{ArgumentTree, Arguments, DirectiveTree, Directives, InputValueTree, InputValues, unplaced_argument, unplaced_arguments, unplaced_directive, unplaced_directives, unplaced_input_value};
@@ -72,7 +72,8 @@ pub fn printed_document_reads()
 {}
 
 /// Two trees of one kind that are well-formed and writable have one text under a layout, on one line or on lines that white
-/// space begins, exactly when they are equal, apart from places.
+/// space begins, exactly when they are equal, apart from places. Lists are printed with their parentheses, their braces or the
+/// space before them, and empty ones are no text; `directive_list` is of directives alone.
 pub fn equal_texts_are_of_equal_trees()
     ensures types { (a : TypeTree Place) → (b : TypeTree Place) → type_well_formed a ≡ true → type_well_formed b ≡ true
         → (type_text a ≡ type_text b) ↔ (unplaced_type a ≡ unplaced_type b) }
@@ -109,6 +110,14 @@ pub fn equal_texts_are_of_equal_trees()
     ensures enum_value { (prefix : Prefix) → (level : ℕ) → is_white_prefix prefix ≡ true
         → NodeTextTells (EnumValueTree Place) enum_value_well_formed enum_value_writable (λ v. enum_value_text prefix v level) unplaced_enum_value }
     ensures root { (level : ℕ) → NodeTextTells (RootOperationTree Place) root_well_formed (λ r. true) (λ r. root_text r level) unplaced_root }
+    ensures fields { (prefix : Prefix) → (level : ℕ) → is_white_prefix prefix ≡ true
+        → TextTells (List (Placed Place (FieldDefinitionTree Place))) (list_all field_definition_well_formed) field_definitions_writable (λ fs. set_text prefix level (texts_of (field_definition_text prefix) fs)) (map (unplaced_node unplaced_field_definition)) }
+    ensures enum_values { (prefix : Prefix) → (level : ℕ) → is_white_prefix prefix ≡ true
+        → TextTells (List (Placed Place (EnumValueTree Place))) (list_all enum_value_well_formed) enum_values_writable (λ vs. set_text prefix level (texts_of (enum_value_text prefix) vs)) (map (unplaced_node unplaced_enum_value)) }
+    ensures input_fields { (prefix : Prefix) → (level : ℕ) → is_white_prefix prefix ≡ true
+        → TextTells (InputValues Place) input_values_well_formed input_values_writable (λ vs. set_text prefix level (texts_of (input_value_text prefix) vs)) (map (unplaced_node unplaced_input_value)) }
+    ensures roots { (prefix : Prefix) → (level : ℕ) → is_white_prefix prefix ≡ true
+        → TextTells (List (Placed Place (RootOperationTree Place))) (list_all root_well_formed) (λ rs. true) (λ rs. set_text prefix level (texts_of root_text rs)) (map (unplaced_node unplaced_root)) }
     ensures definition { (prefix : Prefix) → (level : ℕ) → is_white_prefix prefix ≡ true → (at_start : Bool)
         → TextTells (DefinitionTree Place) definition_well_formed definition_writable (λ d. definition_text at_start prefix d level) unplaced_definition }
 {}

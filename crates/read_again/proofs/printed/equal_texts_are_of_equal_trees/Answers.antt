@@ -1,5 +1,5 @@
 use Rattle.read_again.proofs.EqualTexts.{equal_types, equal_values, equal_operations, equal_fragments, equal_selections, equal_documents}
-use Rattle.read_again.proofs.EqualParts.{equal_argument, equal_arguments, equal_directive, equal_directives, equal_directive_list, equal_variable, equal_variables, equal_selection, equal_input_value, equal_argument_definitions, equal_field_definition, equal_enum_value, equal_root, equal_definition}
+use Rattle.read_again.proofs.EqualParts.{equal_argument, equal_arguments, equal_directive, equal_directives, equal_directive_list, equal_variable, equal_variables, equal_selection, equal_input_value, equal_argument_definitions, equal_field_definition, equal_enum_value, equal_root, equal_fields, equal_enum_values, equal_input_fields, equal_roots, equal_definition}
 use Rattle.read_again.proofs.printed.equal_texts_are_of_equal_trees.Goals as goal
 
 pub returns : goal.returns
@@ -23,5 +23,9 @@ returns c = record {
   field_definition = equal_field_definition;
   enum_value = equal_enum_value;
   root = equal_root;
+  fields = equal_fields;
+  enum_values = equal_enum_values;
+  input_fields = equal_input_fields;
+  roots = equal_roots;
   definition = equal_definition;
 }
