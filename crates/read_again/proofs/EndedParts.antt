@@ -2,13 +2,13 @@
 use Rattle.std.specs.Prelude.{ℕ, ◌≤◌}
 use Rattle.std.proofs.Common.{true, refl}
 use Rattle.read_operations.specs.in_grammar.Meaning.{Meaning}
-use Rattle.read_operations.specs.in_grammar.Kinds.{next_is, is_string, is_colon, is_at, is_equals, is_dollar, is_open_paren, is_open_brace}
+use Rattle.read_operations.specs.in_grammar.Kinds.{next_is, is_string, is_colon, is_at, is_equals, is_dollar, is_implements, is_open_paren, is_open_brace}
 use Rattle.read_operations.specs.in_grammar.Begins.{begins_described_name}
 use Rattle.read_operations.specs.in_grammar.Rules.{optional, optional_unless}
 use Rattle.read_operations.specs.in_grammar.Grammar.{DerivesAs, definition}
-use Rattle.read_operations.specs.in_grammar.ValueGrammar.{Const, argument, arguments, directive, directives}
+use Rattle.read_operations.specs.in_grammar.ValueGrammar.{Const, default_value, argument, arguments, directive, directives}
 use Rattle.read_operations.specs.in_grammar.OperationGrammar.{variable_definition_of, variable_definition, variable_definitions}
-use Rattle.read_operations.specs.in_grammar.TypeSystemGrammar.{input_value_of, field_definition_of, enum_value_definition_of, root_operation_type_definition, input_value_definition, arguments_definition, field_definition, enum_value_definition, fields_definition, enum_values_definition, input_fields_definition, roots}
+use Rattle.read_operations.specs.in_grammar.TypeSystemGrammar.{input_value_of, field_definition_of, enum_value_definition_of, root_operation_type_definition, input_value_definition, arguments_definition, field_definition, enum_value_definition, fields_definition, enum_values_definition, input_fields_definition, roots, implements_interfaces, union_member_types}
 use Rattle.read_operations.specs.in_grammar.Reading.{try}
 use Rattle.read_operations.specs.in_grammar.ValueReading as v
 use Rattle.read_operations.specs.in_grammar.OperationReading as o
@@ -18,7 +18,7 @@ use Rattle.read_operations.proofs.in_grammar.Tests.{at_end}
 use Rattle.read_operations.proofs.in_grammar.Parses.{Parses, any_count, mapped, mark, weaker, seq, opt, maybe, maybe_unless, located}
 use Rattle.read_operations.proofs.in_grammar.Values.{name_parses, variable_parses, enum_value_parses, type_parses, default_value_parses, argument_parses, arguments_parses, directive_parses, directives_parses}
 use Rattle.read_operations.proofs.in_grammar.Operations.{variable_definitions_parses}
-use Rattle.read_operations.proofs.in_grammar.TypeSystem.{description_parses, root_parses, roots_parses, arguments_definition_parses, fields_definition_parses, enum_values_definition_parses, input_fields_definition_parses}
+use Rattle.read_operations.proofs.in_grammar.TypeSystem.{description_parses, root_parses, roots_parses, arguments_definition_parses, fields_definition_parses, enum_values_definition_parses, input_fields_definition_parses, implements_interfaces_parses, union_member_types_parses}
 use Rattle.read_operations.proofs.in_grammar.Documents.{definition_parses}
 use Rattle.read_operations.proofs.in_grammar.Theorems.{one_tree}
 use Rattle.read_again.proofs.Whole.{OneTree}
@@ -118,3 +118,14 @@ module _ {P : Type 0} (m : Meaning P) where
 
   pub one_roots : OneTree (DerivesAs (λ n. optional_unless is_open_brace (roots m n)))
   one_roots = one_tree {p = λ n. try is_open_brace (y.roots m n)} (λ n h le. maybe_unless is_open_brace at_end refl refl (roots_parses m n h le)) refl
+
+  -- names behind a word or a sign, or none
+  pub one_interfaces : OneTree (DerivesAs (λ n. optional (implements_interfaces m)))
+  one_interfaces = one_tree {p = λ n. try is_implements (y.implements_interfaces m)} (λ n h le. maybe is_implements at_end refl refl refl (implements_interfaces_parses m)) refl
+
+  pub one_members : OneTree (DerivesAs (λ n. optional (union_member_types m)))
+  one_members = one_tree {p = λ n. try is_equals (y.union_member_types m)} (λ n h le. maybe is_equals at_end refl refl refl (union_member_types_parses m)) refl
+
+  -- a default value, or none
+  pub one_default_value : OneTree (DerivesAs (λ n. optional (default_value m n)))
+  one_default_value = one_tree {p = λ n. try is_equals (v.default_value m n)} (λ n h le. maybe is_equals at_end refl refl refl (default_value_parses m n h le)) refl

@@ -1,15 +1,17 @@
 -- Parts of trees, and each definition by itself, have one text only if they are equal, apart from places, and then they have.
-use Rattle.std.proofs.Common.{◌≡◌, ℕ, zero, suc, ◌≤◌, Bool, true, ◌&&◌, List, [], ◌∷◌, map, Option, unwrap_or, refl, sym, ap, ◌∙◌, le_refl, arith}
+use Rattle.std.proofs.Common.{◌≡◌, ℕ, zero, suc, ◌≤◌, Bool, true, ◌&&◌, List, [], ◌∷◌, map, codes, Option, option_map, unwrap_or, refl, sym, ap, ◌∙◌, le_refl, arith}
 use Rattle.std.specs.List.{list_all}
 use Rattle.read_again.specs.in_literals.Joined.{joined}
 use Rattle.read_again.specs.in_literals.LineLayout.{Prefix, start_text, set_text, texts_of}
+use Rattle.read_operations.specs.in_literals.ValueLayout.{default_text}
 use Rattle.read_operations.specs.in_directives.DirectiveLayout.{argument_text, arguments_text, directive_text, directives_text, directive_list_text}
 use Rattle.read_operations.specs.in_directives.InputLayout.{input_value_text, argument_definitions_text}
 use Rattle.read_operations.specs.in_operations.OperationLayout.{selection_text, variable_text, variables_text}
-use Rattle.read_operations.specs.in_type_members.TypeSystemLayout.{field_definition_text, enum_value_text, root_text}
-use Rattle.graphql_names.specs.Placed.{Place, Placed, unplaced_node}
-use Rattle.read_operations.specs.in_values.Writable.{value_writable, arguments_writable, directive_writable, directives_writable, selection_writable, variable_writable, variables_writable, input_value_writable, input_values_writable}
+use Rattle.read_operations.specs.in_type_members.TypeSystemLayout.{names_text, field_definition_text, enum_value_text, root_text}
+use Rattle.graphql_names.specs.Placed.{Place, Placed, Text, unplaced_text, unplaced_node}
+use Rattle.read_operations.specs.in_values.Writable.{value_writable, default_writable, arguments_writable, directive_writable, directives_writable, selection_writable, variable_writable, variables_writable, input_value_writable, input_values_writable}
 use Rattle.read_operations.specs.in_type_members.PartsWritable.{field_definition_writable, field_definitions_writable, enum_value_writable, enum_values_writable}
+use Rattle.read_operations.specs.in_literals.ValueTree.{ValueTree, unplaced_value}
 use Rattle.read_operations.specs.in_directives.DirectiveTree.{ArgumentTree, Arguments, DirectiveTree, Directives, InputValueTree, InputValues, unplaced_argument, unplaced_arguments, unplaced_directive, unplaced_directives, unplaced_input_value}
 use Rattle.read_operations.specs.in_operations.SelectionTree.{SelectionTree, SelectionTrees, no_selections, selection_then, unplaced_selection}
 use Rattle.read_operations.specs.in_operations.OperationTree.{VariableDefinitionTree, unplaced_variable_definition}
@@ -20,28 +22,29 @@ use Rattle.read_operations.specs.in_definitions.Writable.{definition_writable}
 use Rattle.read_operations.specs.in_grammar.Kinds.{is_open_brace}
 use Rattle.read_operations.specs.in_grammar.Rules.{Rule, optional, optional_unless}
 use Rattle.read_operations.specs.in_grammar.Grammar.{DerivesAs, definition}
-use Rattle.read_operations.specs.in_grammar.ValueGrammar.{Const, argument, arguments, directive, directives}
+use Rattle.read_operations.specs.in_grammar.ValueGrammar.{Const, default_value, argument, arguments, directive, directives}
 use Rattle.read_operations.specs.in_grammar.OperationGrammar.{variable_definition, variable_definitions}
-use Rattle.read_operations.specs.in_grammar.TypeSystemGrammar.{root_operation_type_definition, input_value_definition, arguments_definition, field_definition, enum_value_definition, fields_definition, enum_values_definition, input_fields_definition, roots}
+use Rattle.read_operations.specs.in_grammar.TypeSystemGrammar.{root_operation_type_definition, input_value_definition, arguments_definition, field_definition, enum_value_definition, fields_definition, enum_values_definition, input_fields_definition, roots, implements_interfaces, union_member_types}
 use Rattle.read_again.specs.ReadsAlone.{TextTells, NodeTextTells}
 use Rattle.read_again.specs.Printed.{Follow, ends_word, ends_definition, Printed}
-use Rattle.read_again.specs.WellFormed.{bracketed, is_white_prefix, argument_well_formed, arguments_well_formed, directive_well_formed, directives_well_formed, selection_well_formed, variable_well_formed, variables_well_formed, input_value_well_formed, input_values_well_formed, field_definition_well_formed, enum_value_well_formed, root_well_formed, argument_depth, arguments_depth, directive_depth, directives_depth, variable_depth, variables_depth, input_value_depth, input_values_depth, field_definition_depth, enum_value_depth}
+use Rattle.read_again.specs.WellFormed.{bracketed, is_white_prefix, default_well_formed, names_well_formed, default_depth, argument_well_formed, arguments_well_formed, directive_well_formed, directives_well_formed, selection_well_formed, variable_well_formed, variables_well_formed, input_value_well_formed, input_values_well_formed, field_definition_well_formed, enum_value_well_formed, root_well_formed, argument_depth, arguments_depth, directive_depth, directives_depth, variable_depth, variables_depth, input_value_depth, input_values_depth, field_definition_depth, enum_value_depth}
 use Rattle.read_again.specs.Definitions.{definition_well_formed, definition_depth}
 use Rattle.read_again.proofs.Whole.{OneTree, reads_alone}
 use Rattle.read_again.proofs.Alone.{literals_read}
-use Rattle.read_again.proofs.Unplaced.{argument_same, arguments_same, directive_same, directives_same, directive_list_same, selection_same, variable_same, variables_same, input_value_same, argument_definitions_same, field_definition_same, enum_value_same, definition_same, on_lines_same, fields_set_same, values_set_same, roots_set_same}
+use Rattle.read_again.proofs.Unplaced.{argument_same, arguments_same, directive_same, directives_same, directive_list_same, selection_same, variable_same, variables_same, input_value_same, argument_definitions_same, field_definition_same, enum_value_same, definition_same, on_lines_same, fields_set_same, values_set_same, roots_set_same, names_same, default_same}
 use Rattle.read_again.proofs.EqualTexts.{one_text, meaning, equal_selections}
 use Rattle.read_again.proofs.Sequences.{as_text}
 use Rattle.read_again.proofs.Lists.{separated_is}
 use Rattle.read_again.proofs.Nodes.{each_read, nodes, AreAny, none_there, some_there}
-use Rattle.read_again.proofs.Directives.{argument_read, arguments_read, directive_read, directives_read}
+use Rattle.read_again.proofs.Directives.{default_read, argument_read, arguments_read, directive_read, directives_read}
 use Rattle.read_again.proofs.Operations.{variable_read, variables_read}
 use Rattle.read_again.proofs.InputValues.{input_value_read, argument_definitions_read}
 use Rattle.read_again.proofs.TypeMembers.{field_definition_read, enum_value_read, root_read}
+use Rattle.read_again.proofs.Names.{implements_read, union_members_read}
 use Rattle.read_again.proofs.TypeDefinitions.{fields_part, enum_part, input_part}
 use Rattle.read_again.proofs.Schemas.{roots_part}
 use Rattle.read_again.proofs.Definitions.{definition_read}
-use Rattle.read_again.proofs.EndedParts.{one_argument, one_arguments, one_directive, one_directives, one_variable, one_variables, one_input_value, one_argument_definitions, one_field_definition, one_enum_value, one_root, one_definition, one_fields, one_enum_values, one_input_fields, one_roots}
+use Rattle.read_again.proofs.EndedParts.{one_argument, one_arguments, one_directive, one_directives, one_variable, one_variables, one_input_value, one_argument_definitions, one_field_definition, one_enum_value, one_root, one_definition, one_fields, one_enum_values, one_input_fields, one_roots, one_interfaces, one_members, one_default_value}
 
 -- ---- the general law: trees whose texts a symbol reads, and of which no text knows places
 
@@ -184,3 +187,24 @@ module _ (prefix : Prefix) (level : ℕ) (white : is_white_prefix prefix ≡ tru
   equal_roots =
       tells (λ n. optional_unless is_open_brace (roots meaning n)) (nodes_of unplaced_root) (λ rs. 1) ends_definition refl (one_roots meaning)
       (λ rs. set_text prefix level (texts_of root_text rs)) (λ rs. ap (set_text prefix level) (roots_set_same rs)) (λ rs n h w le. some_roots_read rs n h le)
+
+-- ---- default values, and names behind a word or a sign
+
+pub equal_default_value : TextTells (Option (Placed Place (ValueTree Place))) default_well_formed default_writable default_text (option_map (unplaced_node unplaced_value))
+equal_default_value =
+    tells (λ n. optional (default_value meaning n)) (λ o. option_map (unplaced_node unplaced_value) o) default_depth ends_word refl (one_default_value meaning)
+    default_text default_same (λ v n h w le. default_read meaning literals_read v n h w le)
+
+-- what optional names are read as, apart from places
+abbrev names_of : Option (List (Text Place)) → List (Text (Unit {0}))
+names_of o = map unplaced_text (unwrap_or o [])
+
+pub equal_interfaces : TextTells (List (Text Place)) names_well_formed (λ ns. true) (names_text (codes " implements ") (codes " & ")) (map unplaced_text)
+equal_interfaces =
+    tells (λ n. optional (implements_interfaces meaning)) names_of (λ ns. 0) ends_word refl (one_interfaces meaning)
+    (names_text (codes " implements ") (codes " & ")) (names_same (codes " implements ") (codes " & ")) (λ ns n h w le. implements_read meaning ns h)
+
+pub equal_members : TextTells (List (Text Place)) names_well_formed (λ ns. true) (names_text (codes " = ") (codes " | ")) (map unplaced_text)
+equal_members =
+    tells (λ n. optional (union_member_types meaning)) names_of (λ ns. 0) ends_word refl (one_members meaning)
+    (names_text (codes " = ") (codes " | ")) (names_same (codes " = ") (codes " | ")) (λ ns n h w le. union_members_read meaning ns h)

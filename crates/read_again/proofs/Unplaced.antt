@@ -55,7 +55,7 @@ module _ {P : Type 0} where
     entries_same no_entries = refl
     entries_same (entry_then n p t ts) = λ i. named_value_text n.it (value_same t i) ∷ entries_same ts i
 
-  default_same : (v : Option (Placed P (ValueTree P))) → default_text v ≡ default_text (option_map (unplaced_node unplaced_value) v)
+  pub default_same : (v : Option (Placed P (ValueTree P))) → default_text v ≡ default_text (option_map (unplaced_node unplaced_value) v)
   default_same None = refl
   default_same (Some v) = λ i. joined (codes " = " ∷ value_same v.it i ∷ [])
 
@@ -178,7 +178,7 @@ module _ {P : Type 0} where
   all_names_same [] = refl
   all_names_same (n ∷ ns) = λ i. n.it ∷ all_names_same ns i
 
-  names_same : (keyword sign : List ℕ) (ns : List (Text P)) → names_text keyword sign ns ≡ names_text keyword sign (map unplaced_text ns)
+  pub names_same : (keyword sign : List ℕ) (ns : List (Text P)) → names_text keyword sign ns ≡ names_text keyword sign (map unplaced_text ns)
   names_same keyword sign [] = refl
   names_same keyword sign (n ∷ ns) = λ i. joined (keyword ∷ n.it ∷ further_text sign (all_names_same ns i) ∷ [])
 

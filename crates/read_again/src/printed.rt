@@ -1,16 +1,17 @@
 //! What is printed is read as the tree that was printed.
 
-ghost use Rattle.std.specs.Prelude.{◌≡◌, ◌↔◌, ℕ, Bool, true, List, ◌∷◌, map};
+ghost use Rattle.std.specs.Prelude.{◌≡◌, ◌↔◌, ℕ, Bool, true, List, ◌∷◌, map, codes, Option};
 ghost use Rattle.std.specs.List.{list_all};
+ghost use Rattle.std.specs.Option.{option_map};
 ghost use Rattle.graphql_names.specs.declared.span.FileId.{FileId};
 ghost use Rattle.read_again.specs.in_literals.LineLayout.{Prefix, set_text, texts_of};
-ghost use Rattle.read_operations.specs.in_literals.ValueLayout.{type_text, value_text};
+ghost use Rattle.read_operations.specs.in_literals.ValueLayout.{type_text, value_text, default_text};
 ghost use Rattle.read_operations.specs.in_directives.DirectiveLayout.{argument_text, arguments_text, directive_text, directives_text, directive_list_text};
 ghost use Rattle.read_operations.specs.in_directives.InputLayout.{input_value_text, argument_definitions_text};
-ghost use Rattle.read_operations.specs.in_type_members.TypeSystemLayout.{field_definition_text, enum_value_text, root_text};
+ghost use Rattle.read_operations.specs.in_type_members.TypeSystemLayout.{names_text, field_definition_text, enum_value_text, root_text};
 ghost use Rattle.read_operations.specs.in_operations.OperationLayout.{operation_text, fragment_text, selection_text, variable_text, variables_text};
-ghost use Rattle.graphql_names.specs.Placed.{Place, Placed, unplaced_node};
-ghost use Rattle.read_operations.specs.in_values.Writable.{value_writable, has_selection, selections_writable, operation_writable, fragment_writable, arguments_writable, directive_writable, directives_writable, selection_writable, variable_writable, variables_writable, input_value_writable, input_values_writable};
+ghost use Rattle.graphql_names.specs.Placed.{Place, Placed, Text, unplaced_text, unplaced_node};
+ghost use Rattle.read_operations.specs.in_values.Writable.{value_writable, has_selection, selections_writable, operation_writable, fragment_writable, default_writable, arguments_writable, directive_writable, directives_writable, selection_writable, variable_writable, variables_writable, input_value_writable, input_values_writable};
 ghost use Rattle.read_operations.specs.in_type_members.PartsWritable.{field_definition_writable, field_definitions_writable, enum_value_writable, enum_values_writable};
 ghost use Rattle.read_operations.specs.in_literals.TypeTree.{TypeTree, unplaced_type};
 ghost use Rattle.read_operations.specs.in_literals.ValueTree.{ValueTree, unplaced_value};
@@ -26,7 +27,7 @@ ghost use Rattle.read_operations.specs.in_grammar.Grammar.{DerivesAs, Derives, D
 ghost use Rattle.read_operations.specs.in_grammar.ValueGrammar.{Const, value};
 ghost use Rattle.read_operations.specs.in_grammar.OperationGrammar.{operation_definition, fragment_definition};
 ghost use Rattle.read_operations.specs.Meanings.{in_file};
-ghost use Rattle.read_again.specs.WellFormed.{is_white_prefix, type_well_formed, value_well_formed, selections_well_formed, operation_well_formed, fragment_well_formed, argument_well_formed, arguments_well_formed, directive_well_formed, directives_well_formed, selection_well_formed, variable_well_formed, variables_well_formed, input_value_well_formed, input_values_well_formed, field_definition_well_formed, enum_value_well_formed, root_well_formed};
+ghost use Rattle.read_again.specs.WellFormed.{is_white_prefix, type_well_formed, value_well_formed, selections_well_formed, operation_well_formed, fragment_well_formed, default_well_formed, names_well_formed, argument_well_formed, arguments_well_formed, directive_well_formed, directives_well_formed, selection_well_formed, variable_well_formed, variables_well_formed, input_value_well_formed, input_values_well_formed, field_definition_well_formed, enum_value_well_formed, root_well_formed};
 ghost use Rattle.read_again.specs.Definitions.{definition_well_formed};
 ghost use Rattle.read_again.specs.SelectionsLayout.{selections_text};
 ghost use Rattle.read_again.specs.ReadsAlone.{ReadsAlone, TextTells, NodeTextTells};
@@ -97,6 +98,7 @@ pub fn equal_texts_are_of_equal_trees()
     ensures directive { (const : Const) → NodeTextTells (DirectiveTree Place) directive_well_formed (directive_writable const) directive_text unplaced_directive }
     ensures directives { (const : Const) → TextTells (Directives Place) directives_well_formed (directives_writable const) directives_text unplaced_directives }
     ensures directive_list { (const : Const) → TextTells (Directives Place) directives_well_formed (directives_writable const) directive_list_text unplaced_directives }
+    ensures default_value { TextTells (Option (Placed Place (ValueTree Place))) default_well_formed default_writable default_text (option_map (unplaced_node unplaced_value)) }
     ensures variable { NodeTextTells (VariableDefinitionTree Place) variable_well_formed variable_writable variable_text unplaced_variable_definition }
     ensures variables { TextTells (List (Placed Place (VariableDefinitionTree Place))) variables_well_formed variables_writable variables_text (map (unplaced_node unplaced_variable_definition)) }
     ensures selection { (prefix : Prefix) → (level : ℕ) → is_white_prefix prefix ≡ true
@@ -118,6 +120,8 @@ pub fn equal_texts_are_of_equal_trees()
         → TextTells (InputValues Place) input_values_well_formed input_values_writable (λ vs. set_text prefix level (texts_of (input_value_text prefix) vs)) (map (unplaced_node unplaced_input_value)) }
     ensures roots { (prefix : Prefix) → (level : ℕ) → is_white_prefix prefix ≡ true
         → TextTells (List (Placed Place (RootOperationTree Place))) (list_all root_well_formed) (λ rs. true) (λ rs. set_text prefix level (texts_of root_text rs)) (map (unplaced_node unplaced_root)) }
+    ensures interfaces { TextTells (List (Text Place)) names_well_formed (λ ns. true) (names_text (codes " implements ") (codes " & ")) (map unplaced_text) }
+    ensures members { TextTells (List (Text Place)) names_well_formed (λ ns. true) (names_text (codes " = ") (codes " | ")) (map unplaced_text) }
     ensures definition { (prefix : Prefix) → (level : ℕ) → is_white_prefix prefix ≡ true → (at_start : Bool)
         → TextTells (DefinitionTree Place) definition_well_formed definition_writable (λ d. definition_text at_start prefix d level) unplaced_definition }
 {}

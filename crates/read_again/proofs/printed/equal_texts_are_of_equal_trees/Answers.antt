@@ -1,5 +1,5 @@
 use Rattle.read_again.proofs.EqualTexts.{equal_types, equal_values, equal_operations, equal_fragments, equal_selections, equal_documents}
-use Rattle.read_again.proofs.EqualParts.{equal_argument, equal_arguments, equal_directive, equal_directives, equal_directive_list, equal_variable, equal_variables, equal_selection, equal_input_value, equal_argument_definitions, equal_field_definition, equal_enum_value, equal_root, equal_fields, equal_enum_values, equal_input_fields, equal_roots, equal_definition}
+use Rattle.read_again.proofs.EqualParts.{equal_argument, equal_arguments, equal_directive, equal_directives, equal_directive_list, equal_variable, equal_variables, equal_selection, equal_input_value, equal_argument_definitions, equal_field_definition, equal_enum_value, equal_root, equal_fields, equal_enum_values, equal_input_fields, equal_roots, equal_default_value, equal_interfaces, equal_members, equal_definition}
 use Rattle.read_again.proofs.printed.equal_texts_are_of_equal_trees.Goals as goal
 
 pub returns : goal.returns
@@ -15,6 +15,7 @@ returns c = record {
   directive = equal_directive;
   directives = equal_directives;
   directive_list = equal_directive_list;
+  default_value = equal_default_value;
   variable = equal_variable;
   variables = equal_variables;
   selection = equal_selection;
@@ -27,5 +28,7 @@ returns c = record {
   enum_values = equal_enum_values;
   input_fields = equal_input_fields;
   roots = equal_roots;
+  interfaces = equal_interfaces;
+  members = equal_members;
   definition = equal_definition;
 }
