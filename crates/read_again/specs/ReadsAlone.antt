@@ -19,6 +19,6 @@ abbrev pub TextTells : {B : Type 0} → (A : Type 0) → (A → Bool) → (A →
 TextTells A formed writable text unplaced =
     (a : A) → (b : A) → formed a ≡ true → formed b ≡ true → writable a ≡ true → writable b ≡ true → (text a ≡ text b) ↔ (unplaced a ≡ unplaced b)
 
--- So it is with trees that are somewhere in a text, wherever that is.
+-- The same of nodes, which are trees with their places.
 abbrev pub NodeTextTells : {B : Type 0} → (A : Type 0) → (Placed Place A → Bool) → (A → Bool) → (A → List ℕ) → (A → B) → Type 0
 NodeTextTells A formed writable text unplaced = TextTells (Placed Place A) formed (λ n. writable n.it) (λ n. text n.it) (λ n. unplaced n.it)

@@ -73,8 +73,8 @@ pub fn printed_document_reads()
 {}
 
 /// Two trees of one kind that are well-formed and writable have one text under a layout, on one line or on lines that white
-/// space begins, exactly when they are equal, apart from places. Lists are printed with their parentheses, their braces or the
-/// space before them, and empty ones are no text; `directive_list` is of directives alone.
+/// space begins, exactly when they are equal, apart from places. Lists are printed with what is around
+/// them in a text (parentheses, braces, a space, a word or a sign), and empty ones are no text; those of `directive_list` are alone.
 pub fn equal_texts_are_of_equal_trees()
     ensures types { (a : TypeTree Place) → (b : TypeTree Place) → type_well_formed a ≡ true → type_well_formed b ≡ true
         → (type_text a ≡ type_text b) ↔ (unplaced_type a ≡ unplaced_type b) }
