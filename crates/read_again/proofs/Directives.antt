@@ -51,7 +51,7 @@ module _ {P Q : Type 0} (m : Meaning P) (lits : LiteralsRead m.string) where
       (mapped (λ x. x.1) (λ x. unplaced_value x.it ≡ unplaced_value v.it) (λ x said. said.1)
       (seq {f = any} (λ behind fine. refl) equals (ignored (32 ∷ []) refl (nothing_more (placed m (value_read m lits constant v.it n h w le))))))))
 
-  argument_read : (const : Const) (n : ℕ) (a : Placed Q (ArgumentTree Q)) → argument_well_formed a ≡ true → argument_writable const a ≡ true → argument_depth a ≤ n → Printed (argument m const n) (λ x. unplaced_argument x ≡ unplaced_argument a.it) ends_word (argument_text a.it)
+  pub argument_read : (const : Const) (n : ℕ) (a : Placed Q (ArgumentTree Q)) → argument_well_formed a ≡ true → argument_writable const a ≡ true → argument_depth a ≤ n → Printed (argument m const n) (λ x. unplaced_argument x ≡ unplaced_argument a.it) ends_word (argument_text a.it)
   unfolding argument
   argument_read const n a h w le =
       let (h1, h2) = and_parts _ _ h in
@@ -71,7 +71,7 @@ module _ {P Q : Type 0} (m : Meaning P) (lits : LiteralsRead m.string) where
       (parenthesized m (argument m const n) unplaced_argument unplaced_argument argument_text a as'
       (each_read m (argument m const n) unplaced_argument unplaced_argument argument_text argument_well_formed (argument_writable const) argument_depth n (argument_read const n) (a ∷ as') h w (omega arith))))
 
-  directive_read : (const : Const) (n : ℕ) (d : Placed Q (DirectiveTree Q)) → directive_well_formed d ≡ true → directive_writable const d.it ≡ true → directive_depth d ≤ n → Printed (directive m const n) (λ x. unplaced_directive x ≡ unplaced_directive d.it) ends_word (directive_text d.it)
+  pub directive_read : (const : Const) (n : ℕ) (d : Placed Q (DirectiveTree Q)) → directive_well_formed d ≡ true → directive_writable const d.it ≡ true → directive_depth d ≤ n → Printed (directive m const n) (λ x. unplaced_directive x ≡ unplaced_directive d.it) ends_word (directive_text d.it)
   unfolding joined directive
   directive_read const n d h w le =
       let (h1, h2) = and_parts _ _ h in

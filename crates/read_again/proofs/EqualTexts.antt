@@ -28,7 +28,7 @@ use Rattle.read_again.proofs.Alone.{literals_read, type_alone, value_alone, sele
 use Rattle.read_again.proofs.Unplaced.{type_same, value_same, selections_same, operation_same, fragment_same, document_same}
 
 -- a text that reads alone as one tree and as another reads as one
-one_text : {A B : Type 0} (symbol : Symbol A) (unplaced : A → B) (a b : List ℕ) (x y : B) → ReadsAlone symbol unplaced a x → ReadsAlone symbol unplaced b y → a ≡ b → x ≡ y
+pub one_text : {A B : Type 0} (symbol : Symbol A) (unplaced : A → B) (a b : List ℕ) (x y : B) → ReadsAlone symbol unplaced a x → ReadsAlone symbol unplaced b y → a ≡ b → x ≡ y
 one_text symbol unplaced a b x y p q e =
     let same : q.tree ≡ p.tree = p.alone q.tokens q.tree (subst (λ (l : List ℕ). Lex l q.tokens) (sym e) q.lexed) q.derived in
     sym p.same ∙ ap unplaced (sym same) ∙ q.same
@@ -39,7 +39,7 @@ alike : {A B : Type 0} (symbol : Symbol A) (unplaced : A → B) (text : A → Li
 alike symbol unplaced text plain same a b p q = (λ e. one_text symbol unplaced (text a) (text b) (unplaced a) (unplaced b) p q e, λ e. same a ∙ ap plain e ∙ sym (same b))
 
 -- any meaning of tokens, in which strings stand for themselves
-abbrev meaning : Meaning Place
+abbrev pub meaning : Meaning Place
 meaning = meaning_in string_of 0
 
 pub equal_types : (a b : TypeTree Place) → type_well_formed a ≡ true → type_well_formed b ≡ true → (type_text a ≡ type_text b) ↔ (unplaced_type a ≡ unplaced_type b)

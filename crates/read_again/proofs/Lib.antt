@@ -38,6 +38,8 @@ pub mod Definitions
 pub mod Documents
 pub mod Unplaced
 pub mod EqualTexts
+pub mod EndedParts
+pub mod EqualParts
 pub mod Rows
 pub mod Nests
 pub mod ValuesNest

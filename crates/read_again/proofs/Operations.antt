@@ -100,7 +100,7 @@ module _ {P : Type 0} (m : Meaning P) where
       (mapped (λ x. x.1) (λ x. x.it ≡ c) (λ x said. said.1) (seq_word refl (keyword kind.is_on (codes "on") refl refl) (ignored (32 ∷ []) refl (any_name m c h))))
 
 module _ {P Q : Type 0} (m : Meaning P) (lits : LiteralsRead m.string) where
-  variable_read : (n : ℕ) (v : Placed Q (VariableDefinitionTree Q)) → variable_well_formed v ≡ true → variable_writable v.it ≡ true → variable_depth v ≤ n → Printed (variable_definition m n) (λ x. unplaced_variable_definition x ≡ unplaced_variable_definition v.it) ends_word (variable_text v.it)
+  pub variable_read : (n : ℕ) (v : Placed Q (VariableDefinitionTree Q)) → variable_well_formed v ≡ true → variable_writable v.it ≡ true → variable_depth v ≤ n → Printed (variable_definition m n) (λ x. unplaced_variable_definition x ≡ unplaced_variable_definition v.it) ends_word (variable_text v.it)
   unfolding joined variable_definition
   variable_read n v h w le =
       let (h123, h4) = and_parts _ _ h in
@@ -117,7 +117,7 @@ module _ {P Q : Type 0} (m : Meaning P) (lits : LiteralsRead m.string) where
       (seq_word end1 (default_read m lits v.it.default_value n h3 w1 (omega arith))
       (nothing_more (directives_read m lits constant v.it.directives n h4 w2 (omega arith))))))))
 
-  variables_read : (vs : List (Placed Q (VariableDefinitionTree Q))) (n : ℕ) → variables_well_formed vs ≡ true → variables_writable vs ≡ true → variables_depth vs ≤ n
+  pub variables_read : (vs : List (Placed Q (VariableDefinitionTree Q))) (n : ℕ) → variables_well_formed vs ≡ true → variables_writable vs ≡ true → variables_depth vs ≤ n
       → Printed (optional (variable_definitions m n)) (AreAny unplaced_variable_definition (map (unplaced_node unplaced_variable_definition) vs)) ends_word (variables_text vs)
   unfolding joined variable_definitions
   variables_read [] n h w le = none_there unplaced_variable_definition (variable_definitions m n)

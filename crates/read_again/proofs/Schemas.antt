@@ -51,7 +51,7 @@ module _ {P Q : Type 0} (m : Meaning P) where
     full_roots_read [] n level h some = absurd cc
     full_roots_read (r ∷ rs) n level h some = before_any (roots_read r rs n level h)
 
-    roots_part : (rs : List (Placed Q (RootOperationTree Q))) (n level : ℕ) → list_all root_well_formed rs ≡ true
+    pub roots_part : (rs : List (Placed Q (RootOperationTree Q))) (n level : ℕ) → list_all root_well_formed rs ≡ true
         → Printed (optional_unless is_open_brace (roots m (suc n))) (AreAny unplaced_root (map (unplaced_node unplaced_root) rs)) ends_definition (set_text prefix level (texts_of root_text rs))
     unfolding joined
     roots_part [] n level h = part_left_out unplaced_root (roots m (suc n))

@@ -108,7 +108,7 @@ module _ {P Q : Type 0} (m : Meaning P) (lits : LiteralsRead m.string) where
       (seq_word end1 (directives_read m lits constant t.directives n h2 w le) (union_members_read m t.members h3))))))
 
   module _ (prefix : Prefix) (white : is_white_prefix prefix ≡ true) where
-    fields_part : (fs : List (Placed Q (FieldDefinitionTree Q))) (n level : ℕ) → list_all field_definition_well_formed fs ≡ true → field_definitions_writable fs ≡ true → bracketed field_definition_depth fs ≤ n
+    pub fields_part : (fs : List (Placed Q (FieldDefinitionTree Q))) (n level : ℕ) → list_all field_definition_well_formed fs ≡ true → field_definitions_writable fs ≡ true → bracketed field_definition_depth fs ≤ n
         → Printed (optional_unless is_open_brace (fields_definition m n)) (AreAny unplaced_field_definition (map (unplaced_node unplaced_field_definition) fs)) ends_definition (set_text prefix level (texts_of (field_definition_text prefix) fs))
     unfolding joined fields_definition
     fields_part [] n level h w le = part_left_out unplaced_field_definition (fields_definition m n)
@@ -152,7 +152,7 @@ module _ {P Q : Type 0} (m : Meaning P) (lits : LiteralsRead m.string) where
         as_text _ (joined_head (codes "interface ") t.name.it (names_text (codes " implements ") (codes " & ") t.interfaces) (directives_text t.directives) (set_text prefix level (texts_of (field_definition_text prefix) t.fields)))
         (fields_read is_interface (codes "interface") (keyword is_interface (codes "interface") refl refl) t n level h w le)
 
-    enum_part : (vs : List (Placed Q (EnumValueTree Q))) (n level : ℕ) → list_all enum_value_well_formed vs ≡ true → enum_values_writable vs ≡ true → bracketed enum_value_depth vs ≤ n
+    pub enum_part : (vs : List (Placed Q (EnumValueTree Q))) (n level : ℕ) → list_all enum_value_well_formed vs ≡ true → enum_values_writable vs ≡ true → bracketed enum_value_depth vs ≤ n
         → Printed (optional_unless is_open_brace (enum_values_definition m n)) (AreAny unplaced_enum_value (map (unplaced_node unplaced_enum_value) vs)) ends_definition (set_text prefix level (texts_of (enum_value_text prefix) vs))
     unfolding joined enum_values_definition
     enum_part [] n level h w le = part_left_out unplaced_enum_value (enum_values_definition m n)
@@ -179,7 +179,7 @@ module _ {P Q : Type 0} (m : Meaning P) (lits : LiteralsRead m.string) where
         (before_part end2 (any_name m t.name.it h1)
         (before_part end1 (directives_read m lits constant t.directives n h2 w1 (omega arith)) (enum_part t.values n level h3 w2 (omega arith)))))))
 
-    input_part : (vs : InputValues Q) (n level : ℕ) → input_values_well_formed vs ≡ true → input_values_writable vs ≡ true → input_values_depth vs ≤ n
+    pub input_part : (vs : InputValues Q) (n level : ℕ) → input_values_well_formed vs ≡ true → input_values_writable vs ≡ true → input_values_depth vs ≤ n
         → Printed (optional_unless is_open_brace (input_fields_definition m n)) (AreAny unplaced_input_value (map (unplaced_node unplaced_input_value) vs)) ends_definition (set_text prefix level (texts_of (input_value_text prefix) vs))
     unfolding joined input_fields_definition
     input_part [] n level h w le = part_left_out unplaced_input_value (input_fields_definition m n)

@@ -1,14 +1,14 @@
 -- The layout knows no places: the text of a tree is that of the tree without them.
 use Rattle.std.specs.Prelude.{if◌then◌else◌, is_some}
 use Rattle.std.proofs.Common.{◌≡◌, ℕ, ◌+◌, Bool, false, ◌&&◌, ◌||◌, List, [], ◌∷◌, map, codes, Option, Some, None, option_map, refl}
-use Rattle.read_again.specs.in_literals.Joined.{joined, further_text}
+use Rattle.read_again.specs.in_literals.Joined.{joined, further_text, separated}
 use Rattle.read_again.specs.in_literals.LineLayout.{Prefix, start_text, break_text, members_text, braced_text, set_text, parenthesized_text, texts_of}
 use Rattle.read_again.specs.in_literals.StringLayout.{description_text}
 use Rattle.read_operations.specs.in_literals.ValueLayout.{type_text, list_text, object_text, named_value_text, value_text, item_texts, entry_texts, default_text}
-use Rattle.read_operations.specs.in_directives.DirectiveLayout.{argument_text, arguments_text, directive_text, directives_text}
+use Rattle.read_operations.specs.in_directives.DirectiveLayout.{argument_text, arguments_text, directive_text, directives_text, directive_list_text}
 use Rattle.read_operations.specs.in_directives.InputLayout.{input_value_text, stand_on_lines, argument_definitions_text, repeatable_text, locations_text, directive_definition_text}
 use Rattle.read_operations.specs.in_operations.OperationQueries.{operation_keyword}
-use Rattle.read_operations.specs.in_operations.OperationLayout.{alias_text, condition_text, selection_text, selection_texts, is_query, variable_text, is_none, is_empty, is_bare_query, operation_name_text, full_operation_text, operation_text, begins_output, fragment_text}
+use Rattle.read_operations.specs.in_operations.OperationLayout.{alias_text, condition_text, selection_text, selection_texts, is_query, variable_text, variables_text, is_none, is_empty, is_bare_query, operation_name_text, full_operation_text, operation_text, begins_output, fragment_text}
 use Rattle.read_operations.specs.in_type_members.TypeSystemLayout.{name_text, names_text, head_text, field_definition_text, enum_value_text, root_text, extend, schema_text, scalar_text, fields_text, union_text, enum_text, input_object_text}
 use Rattle.graphql_names.specs.Placed.{Placed, Text, unplaced_text, unplaced_node}
 use Rattle.read_operations.specs.in_literals.TypeTree.{TypeTree, NamedTree, NonNullNamedTree, ListTree as ListTypeTree, NonNullListTree, unplaced_type}
@@ -55,21 +55,24 @@ module _ {P : Type 0} where
     entries_same no_entries = refl
     entries_same (entry_then n p t ts) = λ i. named_value_text n.it (value_same t i) ∷ entries_same ts i
 
-  default_same : (v : Option (Placed P (ValueTree P))) → default_text v ≡ default_text (option_map (unplaced_node unplaced_value) v)
+  pub default_same : (v : Option (Placed P (ValueTree P))) → default_text v ≡ default_text (option_map (unplaced_node unplaced_value) v)
   default_same None = refl
   default_same (Some v) = λ i. joined (codes " = " ∷ value_same v.it i ∷ [])
 
-  argument_same : (a : ArgumentTree P) → argument_text a ≡ argument_text (unplaced_argument a)
+  pub argument_same : (a : ArgumentTree P) → argument_text a ≡ argument_text (unplaced_argument a)
   argument_same a = λ i. named_value_text a.name.it (value_same a.value.it i)
 
-  arguments_same : (as' : Arguments P) → arguments_text as' ≡ arguments_text (unplaced_arguments as')
+  pub arguments_same : (as' : Arguments P) → arguments_text as' ≡ arguments_text (unplaced_arguments as')
   arguments_same as' = λ i. parenthesized_text (texts_same argument_text argument_text unplaced_argument argument_same as' i)
 
-  directive_same : (d : DirectiveTree P) → directive_text d ≡ directive_text (unplaced_directive d)
+  pub directive_same : (d : DirectiveTree P) → directive_text d ≡ directive_text (unplaced_directive d)
   directive_same d = λ i. joined (codes "@" ∷ d.name.it ∷ arguments_same d.arguments i ∷ [])
 
-  directives_same : (ds : Directives P) → directives_text ds ≡ directives_text (unplaced_directives ds)
+  pub directives_same : (ds : Directives P) → directives_text ds ≡ directives_text (unplaced_directives ds)
   directives_same ds = λ i. further_text (codes " ") (texts_same directive_text directive_text unplaced_directive directive_same ds i)
+
+  pub directive_list_same : (ds : Directives P) → directive_list_text ds ≡ directive_list_text (unplaced_directives ds)
+  directive_list_same ds = λ i. separated (codes " ") (texts_same directive_text directive_text unplaced_directive directive_same ds i)
 
   -- ---- selections
 
@@ -82,7 +85,7 @@ module _ {P : Type 0} where
   condition_same (Some n) = refl
 
   mutual
-    selection_same : (prefix : Prefix) (t : SelectionTree P) → selection_text prefix t ≡ selection_text prefix (unplaced_selection t)
+    pub selection_same : (prefix : Prefix) (t : SelectionTree P) → selection_text prefix t ≡ selection_text prefix (unplaced_selection t)
     selection_same prefix (FieldTree p f ts) =
         λ i level. joined (alias_same f.alias i ∷ f.name.it ∷ arguments_same f.arguments i ∷ directives_same f.directives i ∷ set_text prefix level (set_same prefix ts i) ∷ [])
     selection_same prefix (SpreadTree p n ds) = λ i level. joined (codes "..." ∷ n.it ∷ directives_same ds i ∷ [])
@@ -98,8 +101,11 @@ module _ {P : Type 0} where
 
   -- ---- operations and fragments
 
-  variable_same : (v : VariableDefinitionTree P) → variable_text v ≡ variable_text (unplaced_variable_definition v)
+  pub variable_same : (v : VariableDefinitionTree P) → variable_text v ≡ variable_text (unplaced_variable_definition v)
   variable_same v = λ i. joined (codes "$" ∷ v.name.it ∷ codes ": " ∷ type_same v.ty.it i ∷ default_same v.default_value i ∷ directives_same v.directives i ∷ [])
+
+  pub variables_same : (vs : List (Placed P (VariableDefinitionTree P))) → variables_text vs ≡ variables_text (map (unplaced_node unplaced_variable_definition) vs)
+  variables_same vs = λ i. parenthesized_text (texts_same variable_text variable_text unplaced_variable_definition variable_same vs i)
 
   none_same : (n : Option (Text P)) → is_none n ≡ is_none (option_map unplaced_text n)
   none_same None = refl
@@ -118,7 +124,7 @@ module _ {P : Type 0} where
 
   full_operation_same : (prefix : Prefix) (o : OperationTree P) (level : ℕ) → full_operation_text prefix o level ≡ full_operation_text prefix (unplaced_operation o) level
   full_operation_same prefix o level =
-      λ i. joined (operation_keyword o.operation_type ∷ operation_name_same o.name i ∷ parenthesized_text (texts_same variable_text variable_text unplaced_variable_definition variable_same o.variables i)
+      λ i. joined (operation_keyword o.operation_type ∷ operation_name_same o.name i ∷ variables_same o.variables i
       ∷ directives_same o.directives i ∷ set_text prefix level (set_same prefix o.selections i) ∷ [])
 
   pub operation_same : (at_start : Bool) (prefix : Prefix) (level : ℕ) (o : OperationTree P) → operation_text at_start prefix o level ≡ operation_text at_start prefix (unplaced_operation o) level
@@ -135,7 +141,7 @@ module _ {P : Type 0} where
   description_same prefix level None = refl
   description_same prefix level (Some d) = refl
 
-  input_value_same : (prefix : Prefix) (v : InputValueTree P) (level : ℕ) → input_value_text prefix v level ≡ input_value_text prefix (unplaced_input_value v) level
+  pub input_value_same : (prefix : Prefix) (v : InputValueTree P) (level : ℕ) → input_value_text prefix v level ≡ input_value_text prefix (unplaced_input_value v) level
   input_value_same prefix v level =
       λ i. joined (description_same prefix level v.description i ∷ v.name.it ∷ codes ": " ∷ type_same v.ty.it i ∷ default_same v.default_value i ∷ directives_same v.directives i ∷ [])
 
@@ -150,42 +156,42 @@ module _ {P : Type 0} where
   in_line_same : (prefix : Prefix) (vs : InputValues P) (level : ℕ) → texts_of (λ v. input_value_text prefix v level) vs ≡ texts_of (λ v. input_value_text prefix v level) (map (unplaced_node unplaced_input_value) vs)
   in_line_same prefix vs level = texts_same (λ v. input_value_text prefix v level) (λ v. input_value_text prefix v level) unplaced_input_value (λ v. input_value_same prefix v level) vs
 
-  on_lines_same : (prefix : Prefix) (vs : InputValues P) → texts_of (input_value_text prefix) vs ≡ texts_of (input_value_text prefix) (map (unplaced_node unplaced_input_value) vs)
+  pub on_lines_same : (prefix : Prefix) (vs : InputValues P) → texts_of (input_value_text prefix) vs ≡ texts_of (input_value_text prefix) (map (unplaced_node unplaced_input_value) vs)
   on_lines_same prefix vs = texts_same (input_value_text prefix) (input_value_text prefix) unplaced_input_value (λ v. λ i level. input_value_same prefix v level i) vs
 
-  argument_definitions_same : (prefix : Prefix) (vs : InputValues P) (level : ℕ) → argument_definitions_text prefix vs level ≡ argument_definitions_text prefix (map (unplaced_node unplaced_input_value) vs) level
+  pub argument_definitions_same : (prefix : Prefix) (vs : InputValues P) (level : ℕ) → argument_definitions_text prefix vs level ≡ argument_definitions_text prefix (map (unplaced_node unplaced_input_value) vs) level
   argument_definitions_same None vs level = λ i. parenthesized_text (in_line_same None vs level i)
   argument_definitions_same (Some lines) vs level =
       λ i. if lines_same vs i then joined (codes "(" ∷ members_text (Some lines) (level + 1) (on_lines_same (Some lines) vs i) ∷ break_text (Some lines) level ∷ codes ")" ∷ []) else parenthesized_text (in_line_same (Some lines) vs level i)
 
   -- ---- members of types
 
-  field_definition_same : (prefix : Prefix) (f : FieldDefinitionTree P) (level : ℕ) → field_definition_text prefix f level ≡ field_definition_text prefix (unplaced_field_definition f) level
+  pub field_definition_same : (prefix : Prefix) (f : FieldDefinitionTree P) (level : ℕ) → field_definition_text prefix f level ≡ field_definition_text prefix (unplaced_field_definition f) level
   field_definition_same prefix f level =
       λ i. joined (description_same prefix level f.description i
       ∷ joined (f.name.it ∷ argument_definitions_same prefix f.arguments level i ∷ codes ": " ∷ type_same f.ty i ∷ directives_same f.directives i ∷ []) ∷ [])
 
-  enum_value_same : (prefix : Prefix) (v : EnumValueTree P) (level : ℕ) → enum_value_text prefix v level ≡ enum_value_text prefix (unplaced_enum_value v) level
+  pub enum_value_same : (prefix : Prefix) (v : EnumValueTree P) (level : ℕ) → enum_value_text prefix v level ≡ enum_value_text prefix (unplaced_enum_value v) level
   enum_value_same prefix v level = λ i. joined (description_same prefix level v.description i ∷ v.value.it ∷ directives_same v.directives i ∷ [])
 
   all_names_same : (ns : List (Text P)) → map name_text ns ≡ map name_text (map unplaced_text ns)
   all_names_same [] = refl
   all_names_same (n ∷ ns) = λ i. n.it ∷ all_names_same ns i
 
-  names_same : (keyword sign : List ℕ) (ns : List (Text P)) → names_text keyword sign ns ≡ names_text keyword sign (map unplaced_text ns)
+  pub names_same : (keyword sign : List ℕ) (ns : List (Text P)) → names_text keyword sign ns ≡ names_text keyword sign (map unplaced_text ns)
   names_same keyword sign [] = refl
   names_same keyword sign (n ∷ ns) = λ i. joined (keyword ∷ n.it ∷ further_text sign (all_names_same ns i) ∷ [])
 
   head_same : (keyword : List ℕ) (name : Text P) (ns : List (Text P)) (ds : Directives P) → head_text keyword name ns ds ≡ head_text keyword (unplaced_text name) (map unplaced_text ns) (unplaced_directives ds)
   head_same keyword name ns ds = λ i. joined (keyword ∷ name.it ∷ names_same (codes " implements ") (codes " & ") ns i ∷ directives_same ds i ∷ [])
 
-  fields_set_same : (prefix : Prefix) (fs : List (Placed P (FieldDefinitionTree P))) → texts_of (field_definition_text prefix) fs ≡ texts_of (field_definition_text prefix) (map (unplaced_node unplaced_field_definition) fs)
+  pub fields_set_same : (prefix : Prefix) (fs : List (Placed P (FieldDefinitionTree P))) → texts_of (field_definition_text prefix) fs ≡ texts_of (field_definition_text prefix) (map (unplaced_node unplaced_field_definition) fs)
   fields_set_same prefix fs = texts_same (field_definition_text prefix) (field_definition_text prefix) unplaced_field_definition (λ f. λ i level. field_definition_same prefix f level i) fs
 
-  values_set_same : (prefix : Prefix) (vs : List (Placed P (EnumValueTree P))) → texts_of (enum_value_text prefix) vs ≡ texts_of (enum_value_text prefix) (map (unplaced_node unplaced_enum_value) vs)
+  pub values_set_same : (prefix : Prefix) (vs : List (Placed P (EnumValueTree P))) → texts_of (enum_value_text prefix) vs ≡ texts_of (enum_value_text prefix) (map (unplaced_node unplaced_enum_value) vs)
   values_set_same prefix vs = texts_same (enum_value_text prefix) (enum_value_text prefix) unplaced_enum_value (λ v. λ i level. enum_value_same prefix v level i) vs
 
-  roots_set_same : (rs : List (Placed P (RootOperationTree P))) → texts_of root_text rs ≡ texts_of root_text (map (unplaced_node unplaced_root) rs)
+  pub roots_set_same : (rs : List (Placed P (RootOperationTree P))) → texts_of root_text rs ≡ texts_of root_text (map (unplaced_node unplaced_root) rs)
   roots_set_same rs = texts_same root_text root_text unplaced_root (λ r. refl) rs
 
   -- ---- definitions, behind what stands before them
@@ -213,7 +219,7 @@ module _ {P : Type 0} where
       λ i. joined (description_same prefix level d.description i
       ∷ joined (codes "directive @" ∷ d.name.it ∷ argument_definitions_same prefix d.arguments level i ∷ directives_same d.directives i ∷ repeatable_text d.repeatable ∷ locations_text d.locations ∷ []) ∷ [])
 
-  definition_same : (at_start : Bool) (prefix : Prefix) (d : DefinitionTree P) (level : ℕ) → definition_text at_start prefix d level ≡ definition_text at_start prefix (unplaced_definition d) level
+  pub definition_same : (at_start : Bool) (prefix : Prefix) (d : DefinitionTree P) (level : ℕ) → definition_text at_start prefix d level ≡ definition_text at_start prefix (unplaced_definition d) level
   definition_same at_start prefix (Operation p o) level = operation_same at_start prefix level o
   definition_same at_start prefix (Fragment p f) level = fragment_same prefix level f
   definition_same at_start prefix (DirectiveDefinition p d) level = directive_definition_same prefix d level
