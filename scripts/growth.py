@@ -56,9 +56,7 @@ class Known(NamedTuple):
 
 # The families that are known to be worse than wanted.
 KNOWN = {
-    "sets_in_halves": Known(factor=8.03),
-    "told_names": Known(factor=3.25),
-    "told_variables": Known(factor=3.78),
+    "sets_in_halves": Known(factor=4.37),
 }
 
 

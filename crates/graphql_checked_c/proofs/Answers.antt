@@ -97,7 +97,7 @@ module _ (json : Bool) (nesting : ℕ) (names name_ends texts ends : List ℕ) (
     where
       neither : OneHasNotUtf8 names name_ends texts ends → AreCertainTexts nesting names name_ends texts ends → ⊥
       neither (inl (pieces, (cut, not))) certain = not (subst (All IsUtf8) (one_cut names name_ends certain.1.0.0 pieces certain.1.0.1.0 cut) certain.1.0.1.1)
-      neither (inr (pieces, (cut, not))) certain = not (subst (All IsUtf8) (one_cut texts ends certain.1.1.0 pieces certain.1.1.1.0 cut) certain.1.1.1.1.0)
+      neither (inr (pieces, (cut, not))) certain = not (subst (All IsUtf8) (one_cut texts ends certain.1.1.0 pieces certain.1.1.1.0 cut) certain.1.1.1.1)
 
   pub texts_refused : (held : List HeldText) → AreHeld names name_ends texts ends held → (refusal : Refusal) → RefusalOfSchemas (first_terms nesting) (map text_of held) refusal
       → (AreSchemasCertain (first_terms nesting) (map text_of held) → refusal ≡ Memory) → TellsRefusal json false held (codes "schema") (codes "") refusal status bytes
@@ -110,7 +110,7 @@ module _ (json : Bool) (nesting : ℕ) (names name_ends texts ends : List ℕ) (
     undone = other is (λ e. omega (arith, e));
     measured = other is (λ e. omega (arith, e));
     certain = λ certain.
-        let e : Faults list ≡ Memory = complete (subst (AreSchemasCertain (first_terms nesting)) (one_cut texts ends certain.1.1.0 (map text_of held) certain.1.1.1.0 are.1) certain.1.1.1.1.1) in absurd cc;
+        let e : Faults list ≡ Memory = complete (subst (AreSchemasCertain (first_terms nesting)) (one_cut texts ends certain.1.1.0 (map text_of held) certain.1.1.1.0 are.1) certain.1.1.1.2) in absurd cc;
     untold = λ not. absurd (not is);
   }
   texts_refused held are (Faults list) refuses complete (inr (is, none)) = texts_memory is none
@@ -155,7 +155,7 @@ module _ (json : Bool) (told : List ℕ → Type 0) (kept : Kept) (path : List �
     where
       neither : OneIsNotUtf8 path document → IsCertainOver kept.schema path document → ⊥
       neither (inl not) certain = not certain.0
-      neither (inr not) certain = not certain.1.0
+      neither (inr not) certain = not certain.1
 
   pub over_refused : (refusal : Refusal) → RefusalOfDocument (schema_value kept.schema) document refusal
       → (IsDocumentCertain (schema_value kept.schema).schema kept.schema.nesting kept.schema.number document → refusal ≡ Memory)
@@ -167,7 +167,7 @@ module _ (json : Bool) (told : List ℕ → Type 0) (kept : Kept) (path : List �
     known = inr (inl is);
     prefixed = other is (λ e. omega (arith, e));
     certain = λ h.
-        let c = h.1.1 in
+        let c = h.2 in
         let e : Faults list ≡ Memory = complete (certain_document c.0 c.1.0 document (schema_value kept.schema) c.1.1.0 c.1.1.1) in absurd cc;
     untold = λ _ not. absurd (not is);
   }

@@ -9,8 +9,8 @@ returns-in-Err-NotUtf8-clause-answer c =
     (subst (IsHeldFault c.args.names.now c.args.name_ends.now c.args.texts.now c.args.ends.now) c.in-Err-NotUtf8.field-0-is c.in-Err-NotUtf8.ensures.fault)
     c.bare-in-Err-NotUtf8.ensures.status c.bare-in-Err-NotUtf8.ensures.bytes
 
-pub returns-clause-answer : goal.returns-clause-answer
-returns-clause-answer c =
+pub returns-in-Err-clause-answer : goal.returns-in-Err-clause-answer
+returns-in-Err-clause-answer c =
     texts_refused c.args.json c.args.nesting c.args.names.now c.args.name_ends.now c.args.texts.now c.args.ends.now c.refusal_answer.result.status c.refusal_answer.result.bytes.items
     c.deref.result.now
     (subst (AreHeld c.args.names.now c.args.name_ends.now c.args.texts.now c.args.ends.now) (sym c.deref.ensures.value) c.in-Ok.ensures.texts)
